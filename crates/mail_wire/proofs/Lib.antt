@@ -1,0 +1,9 @@
+pub mod FirstLine
+pub mod LineLemmas
+pub mod SpanLemmas
+pub mod Pieces
+pub mod Unfolded
+pub mod Folded
+pub mod MessageLemmas
+pub mod Moving
+pub mod LawfulLemmas

@@ -1,0 +1,10 @@
+pub mod Octets
+pub mod Spans
+pub mod Lines
+pub mod Folds
+pub mod Message
+pub mod Causes
+pub mod Transcript
+pub mod Telling
+pub mod Moves
+pub mod MemState

@@ -1,0 +1,26 @@
+-- The lines of octets (RFC 5322, 2.1). A line ends with CRLF; the last one may lack it.
+use Rattle.std.specs.Prelude.{ℕ, ◌+◌, List, [], ◌∷◌, Bool, ◌&&◌, ◌==◌, if◌then◌else◌, length}
+use Rattle.mail_wire.specs.declared.values.Span.{Span}
+
+-- CR and LF
+abbrev pub crlf : List ℕ
+crlf = 13 ∷ 10 ∷ []
+
+abbrev pub is_crlf : ℕ → ℕ → Bool
+is_crlf x y = x == 13 && y == 10
+
+-- an octet before the first of these lines
+abbrev pub put_before : ℕ → List (List ℕ) → List (List ℕ)
+put_before x [] = (x ∷ []) ∷ []
+put_before x (line ∷ lines) = (x ∷ line) ∷ lines
+
+-- the lines, each with its CRLF
+unfoldable pub lines_of : List ℕ → List (List ℕ)
+lines_of [] = []
+lines_of (x ∷ []) = (x ∷ []) ∷ []
+lines_of (x ∷ y ∷ rest) = if is_crlf x y then crlf ∷ lines_of rest else put_before x (lines_of (y ∷ rest))
+
+-- where the lines stand, the first one at this place
+abbrev pub spans_from : ℕ → List (List ℕ) → List Span
+spans_from at [] = []
+spans_from at (line ∷ lines) = record { at = at; len = length line } ∷ spans_from (at + length line) lines

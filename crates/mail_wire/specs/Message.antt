@@ -1,0 +1,46 @@
+-- Messages (RFC 5322, 2.1 and 2.3): lines that end with CRLF, without NUL, and with CR and LF only as CRLF.
+use Rattle.std.specs.Prelude.{◌≡◌, ℕ, ◌+◌, ◌<◌, ◌⊎◌, List, [], ◌++◌, slice_get, Some}
+use Rattle.mail_wire.specs.Lines.{crlf}
+
+-- this octet stands at this place
+abbrev pub Stands : List ℕ → ℕ → ℕ → Type 0
+Stands octets at x = slice_get octets at ≡ Some x
+
+abbrev pub IsNul : List ℕ → ℕ → Type 0
+IsNul octets at = Stands octets at 0
+
+-- a CR that LF doesn't follow
+abbrev pub IsBareCr : List ℕ → ℕ → Type 0
+IsBareCr octets at = Stands octets at 13 × ¬ Stands octets (at + 1) 10
+
+-- an LF that CR doesn't precede
+abbrev pub IsBareLf : List ℕ → ℕ → Type 0
+IsBareLf octets at = Stands octets at 10 × ((before : ℕ) → at ≡ before + 1 → ¬ Stands octets before 13)
+
+abbrev pub IsFaulty : List ℕ → ℕ → Type 0
+IsFaulty octets at = IsNul octets at ⊎ IsBareCr octets at ⊎ IsBareLf octets at
+
+-- none of the octets before this place is faulty
+abbrev pub IsSoundBelow : List ℕ → ℕ → Type 0
+IsSoundBelow octets end = (at : ℕ) → at < end → ¬ IsFaulty octets at
+
+-- no octet is faulty
+abbrev pub IsSound : List ℕ → Type 0
+IsSound octets = (at : ℕ) → ¬ IsFaulty octets at
+
+-- this octet is faulty, and none before it
+abbrev pub IsFirstFaulty : List ℕ → ℕ → Type 0
+IsFirstFaulty octets at = IsFaulty octets at × IsSoundBelow octets at
+
+-- CRLF comes first
+abbrev pub BeginsCrlf : List ℕ → Type 0
+BeginsCrlf octets = Stands octets 0 13 × Stands octets 1 10
+
+-- there are no octets, or CRLF stands at their end
+abbrev pub IsEnded : List ℕ → Type 0
+IsEnded octets = (octets ≡ []) ⊎ ((front : List ℕ) × (octets ≡ front ++ crlf))
+
+-- no octet is faulty, and the last line is ended
+pub record IsMessage (octets : List ℕ) : Type 0 where
+  pub sound : IsSound octets
+  pub ended : IsEnded octets

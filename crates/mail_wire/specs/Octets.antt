@@ -1,0 +1,28 @@
+-- Kinds of octets, and names that are the same whatever the ASCII case.
+use Rattle.std.specs.Prelude.{ℕ, Bool, ◌||◌, ◌==◌, not, nat_lt, List}
+use Rattle.std.specs.Str.{bytes_eq, str_to_ascii_lowercase}
+use Rattle.std.specs.List.{list_all}
+
+-- space or horizontal tab (RFC 5234, WSP)
+abbrev pub is_white : ℕ → Bool
+is_white x = x == 32 || x == 9
+
+-- CR or LF
+abbrev pub is_line_end : ℕ → Bool
+is_line_end x = x == 13 || x == 10
+
+-- no white
+abbrev pub is_black : ℕ → Bool
+is_black x = not (is_white x)
+
+-- an octet below 128
+abbrev pub is_ascii : ℕ → Bool
+is_ascii x = nat_lt x 128
+
+-- an octet above 127 is among them
+abbrev pub is_high : List ℕ → Bool
+is_high octets = not (list_all is_ascii octets)
+
+-- the same, whatever the case of ASCII letters
+unfoldable pub same_name : List ℕ → List ℕ → Bool
+same_name name other = bytes_eq (str_to_ascii_lowercase name) (str_to_ascii_lowercase other)

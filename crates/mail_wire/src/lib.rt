@@ -1,0 +1,13 @@
+//! The outside of the mail server, and what every crate shares: small values, lines, folds and messages.
+#![tactic(auto)]
+
+pub mod edge;
+pub mod in_memory;
+pub mod message;
+pub mod outside;
+#[cfg(test)]
+mod tests;
+pub mod text;
+pub mod traffic;
+pub mod values;
+pub mod words;

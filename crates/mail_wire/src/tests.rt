@@ -1,0 +1,79 @@
+//! Texts, words and wires, each public call once with ample memory.
+use crate::in_memory::{Failure, MemWire};
+use crate::message::{first_faulty, is_message};
+use crate::outside::{Entry, Fault};
+use crate::text::{lines, unfold};
+use crate::traffic::{give_all, take_piece};
+use crate::values::Octets;
+use crate::words::Words;
+use std::test::Fail;
+
+#[test]
+fn unfolding_takes_the_crlf_of_folds(rt: HostRuntime) -> Result<(), Fail> {
+    let unfolded = unfold(rt.alloc(), b" a\r\n b\r\n\tc\r\n\r\n")?;
+    assert!(rt; unfolded.as_slice() == b" a b\tc\r\n\r\n".as_slice());
+    let mut spans = lines(b"a\r\n\r\nb");
+    assert!(rt;
+        spans
+            .next()
+            .is_some_and(|line| line.at == 0 && line.len == 3)
+    );
+    assert!(rt;
+        spans
+            .next()
+            .is_some_and(|line| line.at == 3 && line.len == 2)
+    );
+    assert!(rt;
+        spans
+            .next()
+            .is_some_and(|line| line.at == 5 && line.len == 1)
+    );
+    assert!(rt; spans.next().is_none());
+    Ok(())
+}
+
+#[test]
+fn faulty_octets_are_found(rt: HostRuntime) -> Result<(), Fail> {
+    assert!(rt; is_message(b"") && is_message(b"a\r\n\r\n"));
+    assert!(rt; !is_message(b"a"));
+    assert_eq!(rt; first_faulty(b"a\r\nb\0\r"), Some(4));
+    assert_eq!(rt; first_faulty(b"a\r\r\n"), Some(1));
+    assert_eq!(rt; first_faulty(b"\r\n\n"), Some(2));
+    Ok(())
+}
+
+#[test]
+fn words_are_kept_in_order(rt: HostRuntime) -> Result<(), Fail> {
+    let mut words = Words::none(rt.alloc());
+    words.push("pop")?;
+    words.push("é")?;
+    assert!(rt; words.get(0) == Some("pop") && words.get(1) == Some("é") && words.get(2).is_none());
+    Ok(())
+}
+
+#[test]
+fn a_wire_in_memory_hands_out_pieces_and_fails(rt: HostRuntime) -> Result<(), Fail> {
+    let alloc = rt.alloc();
+    let failure = Failure { call: 2, kept: 1 };
+    let mut wire = MemWire::new(
+        alloc,
+        Octets::from_slice(alloc, b"abc")?,
+        Vec::from_slice(alloc, &[2])?,
+        Vec::from_slice(alloc, &[failure])?,
+    );
+    let mut buffer = [0; 8];
+    assert_eq!(rt; take_piece(&mut wire, &mut buffer), Ok(2));
+    assert_eq!(rt; give_all(&mut wire, b"x"), Ok(()));
+    assert_eq!(rt; give_all(&mut wire, b"yz"), Err(Fault::Wire));
+    assert_eq!(rt; take_piece(&mut wire, &mut buffer), Ok(1));
+    assert_eq!(rt; take_piece(&mut wire, &mut buffer), Ok(0));
+    let mut given = Octets::new(alloc);
+    for entry in wire.entries() {
+        if let Entry::Given(octets) = entry {
+            given.push_slice(octets.as_slice())?;
+        }
+    }
+    given.push(b'.')?;
+    assert!(rt; given.as_slice() == b"xy.".as_slice());
+    Ok(())
+}

@@ -1,0 +1,151 @@
+//! Octets, lines, folds and UTF-8.
+ghost use Rattle.std.specs.Prelude.{◌≡◌, ◌↔◌, ◌+◌, ◌^◌, ◌<◌, ◌≤◌, List, ◌∷◌, ◌++◌, length, take, drop, not, position, IsTrue, IsUtf8, IfOk, OnOk};
+ghost use Rattle.std.specs.List.{list_all};
+ghost use Rattle.std.specs.Iterator.{YieldsFirst, item_count};
+ghost use Rattle.mail_wire.specs.Folds.{begins_fold, unfolded};
+ghost use Rattle.mail_wire.specs.Octets.{is_white, is_ascii, same_name};
+ghost use Rattle.mail_wire.specs.Spans.{IsSpan};
+ghost use Rattle.mail_wire.specs.Lines.{lines_of, spans_from};
+
+use crate::values::{Memory, Octets, Span};
+use memchr::memmem;
+use std::alloc::Global;
+use std::marker::Model;
+
+/// Whether the octets are well-formed UTF-8.
+pub fn is_utf8(octets: &[u8]) -> bool
+    ensures { IsTrue result ↔ IsUtf8 octets.now }
+{
+    simdutf8::basic::from_utf8(octets).is_ok()
+}
+
+/// Space or horizontal tab.
+pub fn is_white(octet: u8) -> bool
+    ensures { result ≡ is_white octet }
+{
+    octet == b' ' || octet == b'\t'
+}
+
+/// Whether each octet is below 128.
+pub fn is_ascii(octets: &[u8]) -> bool
+    ensures { result ≡ list_all is_ascii octets.now }
+{
+    octets.iter().all(|octet| *octet < 128)
+}
+
+/// Whether two names are the same, whatever the case of ASCII letters.
+#[tactic(auto, unfolding(crate::specs::Octets::same_name))]
+pub fn is_same_name(name: &[u8], other: &[u8]) -> bool
+    ensures { result ≡ same_name name.now other.now }
+{
+    name.eq_ignore_ascii_case(other)
+}
+
+fn find_black(octets: &[u8]) -> Option<usize>
+    ensures { result ≡ position (λ x. not (is_white x)) octets.now }
+{
+    octets.iter().position(|octet| !is_white(*octet))
+}
+
+/// The longest front of white, and what follows it.
+pub fn split_white(octets: &[u8]) -> (&[u8], &[u8])
+    ensures { IsSpan is_white octets.now result.0.now result.1.now }
+{
+    match find_black(octets) {
+        Some(at) => octets.split_at(at),
+        None => octets.split_at(octets.len()),
+    }
+}
+
+/// How long the first line is, with its CRLF.
+pub fn line_len(octets: &[u8]) -> usize
+    ensures bound { result ≤ length octets.now }
+    ensures some { 0 < length octets.now → 0 < result }
+    ensures line { 0 < length octets.now → lines_of octets.now ≡ take result octets.now ∷ lines_of (drop result octets.now) }
+{
+    match memmem::find(octets, b"\r\n") {
+        Some(at) => at + 2,
+        None => octets.len(),
+    }
+}
+
+/// The spans of lines, each with its CRLF.
+pub fn lines(octets: &[u8]) -> LineSpans<'_>
+    ensures { result ≡ spans_from 0 (lines_of octets.now) }
+{
+    LineSpans {
+        at: 0,
+        rest: octets,
+    }
+}
+
+/// The spans of the lines that are left.
+#[derive(Drop)]
+pub struct LineSpans<'a> {
+    at: usize,
+    rest: &'a [u8],
+}
+
+impl<'a> Model for LineSpans<'a> {
+    ghost use Rattle.std.specs.Prelude.{List, ◌+◌, ◌<◌, ◌^◌, length};
+    ghost use Rattle.mail_wire.specs.declared.values.Span.{Span};
+    ghost use Rattle.mail_wire.specs.Lines.{lines_of, spans_from};
+
+    ghost Value = { List Span };
+
+    ghost view = { λ a. spans_from a.at (lines_of a.rest.now) };
+
+    ghost invariant = { λ a. a.at + length a.rest.now < 2 ^ 64 };
+}
+
+#[tactic(auto, unfolding(crate::specs::Lines::lines_of))]
+impl Iterator for LineSpans<'_> {
+    type Item = Span;
+
+    ghost next_gives = { YieldsFirst (λ spans. spans) };
+
+    ghost remaining = { item_count (λ spans. spans) };
+
+    fn next(&mut self) -> Option<Span> {
+        if self.rest.is_empty() {
+            return None;
+        }
+        let at = self.at;
+        let len = line_len(self.rest);
+        self.rest = &self.rest[len..];
+        self.at = at + len;
+        Some(Span { at, len })
+    }
+}
+
+/// Whether CRLF and white come first.
+pub fn begins_fold(octets: &[u8]) -> bool
+    ensures { result ≡ begins_fold octets.now }
+{
+    matches!(octets, [b'\r', b'\n', next, ..] if is_white(*next))
+}
+
+/// Puts the octets last, without each CRLF that white follows.
+pub fn push_unfolded(made: &mut Octets, raw: &[u8]) -> Result<(), Memory>
+    ensures { OnOk result (made.new ≡ made.old ++ unfolded raw.now) }
+{
+    let mut rest = raw;
+    while let Some((first, others)) = rest.split_first() {
+        if begins_fold(rest) {
+            rest = &rest[2..];
+        } else {
+            made.push(*first)?;
+            rest = others;
+        }
+    }
+    Ok(())
+}
+
+/// The octets without each CRLF that white follows.
+pub fn unfold(alloc: Global, raw: &[u8]) -> Result<Octets, Memory>
+    ensures { IfOk result (λ made. made ≡ unfolded raw.now) }
+{
+    let mut made = Octets::new(alloc);
+    push_unfolded(&mut made, raw)?;
+    Ok(made)
+}
