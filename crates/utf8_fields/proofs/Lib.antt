@@ -1,0 +1,14 @@
+pub mod Names
+pub mod Heads
+pub mod Further
+pub mod Fields
+pub mod FirstField
+pub mod Raws
+pub mod OneBlock
+pub mod NoFault
+pub mod OneField
+pub mod OneFault
+pub mod OneValue
+pub mod LineShapes
+pub mod Bodies
+pub mod HaveParts

@@ -1,0 +1,7 @@
+pub mod Lines
+pub mod Parts
+pub mod Block
+pub mod Named
+pub mod Faults
+pub mod Steps
+pub mod Views
