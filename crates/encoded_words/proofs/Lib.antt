@@ -1,0 +1,16 @@
+pub mod Chunks
+pub mod Octets
+pub mod BWords
+pub mod WithText
+pub mod Cuts
+pub mod QText
+pub mod Charsets
+pub mod Reading
+pub mod Once
+pub mod PhraseLemmas
+pub mod CommentLemmas
+pub mod EncodedOctets
+pub mod WrittenUnits
+pub mod Deciding
+pub mod AllUnits
+pub mod Utf8Units

@@ -1,0 +1,25 @@
+-- The folded lines of a made field (RFC 5322, 2.2.3).
+use Rattle.std.specs.Prelude.{◌≡◌, ℕ, List, [], ◌∷◌, ◌++◌, map}
+use Rattle.std.specs.List.{flat_map}
+use Rattle.mail_wire.specs.Lines.{crlf}
+use Rattle.encoded_words.specs.Pieces.{AreBWords}
+
+-- a piece of a made field, and the white octet before it
+pub record Piece : Type 0 where
+  pub white : ℕ
+  pub octets : List ℕ
+
+-- each piece stands on a line of its own
+abbrev pub made_body : List Piece → List ℕ
+made_body pieces = flat_map (λ p. crlf ++ p.white ∷ p.octets) pieces
+
+-- words are a piece each: this white octet stands before the first, and a space before each other
+abbrev pub word_pieces : ℕ → List (List ℕ) → List Piece
+word_pieces white [] = []
+word_pieces white (word ∷ words) = record { white = white; octets = word } ∷ map (λ w. record { white = 32; octets = w }) words
+
+-- new is old and the lines of the B words of a text
+pub record AddsWordLines (text : List ℕ) (white : ℕ) (old new : List ℕ) : Type 0 where
+  pub words : List (List ℕ)
+  pub are_words : AreBWords text words
+  pub added : new ≡ old ++ made_body (word_pieces white words)

@@ -1,0 +1,10 @@
+pub mod Words
+pub mod Units
+pub mod CommentUnits
+pub mod PhraseUnits
+pub mod Pieces
+pub mod Folding
+pub mod Written
+pub mod Parts
+pub mod Values
+pub mod Merging

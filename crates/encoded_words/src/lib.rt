@@ -1,0 +1,23 @@
+//! Encoded words (RFC 2047), and the units of a text: what the text says once its encoded words are decoded.
+#![tactic(auto)]
+
+pub mod b_words;
+pub mod laws;
+pub mod units;
+pub mod word;
+
+pub use b_words::{push_words, write_words};
+use mail_wire::values::Octets;
+pub use units::read_unstructured;
+pub use word::read_word;
+
+/// A piece of what a text says: text, or octets of a charset that is not read, with the encoded word that they come from.
+#[derive(Drop)]
+pub enum Unit {
+    Text(Octets),
+    Opaque {
+        charset: Octets,
+        octets: Octets,
+        source: Octets,
+    },
+}

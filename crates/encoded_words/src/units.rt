@@ -1,0 +1,183 @@
+//! The reader of the units of a text.
+ghost use Rattle.std.specs.Prelude.{◌≡◌, [], ◌∷◌, ◌++◌, map, if◌then◌else◌, position, IfOk, OnOk};
+ghost use Rattle.encoded_words.specs.Values.{value_of, HasSource, HaveSources};
+ghost use Rattle.encoded_words.specs.Units.{with_text, HasUnits};
+ghost use Rattle.mail_wire.specs.Octets.{is_white as is_white_of, is_black};
+ghost use Rattle.mail_wire.specs.Spans.{IsSpan};
+ghost use Rattle.encoded_words.specs.Merging.{IsMerging, done_values, Adds, TakesWord};
+
+use crate::Unit;
+use crate::word::read_word;
+use mail_wire::text::{is_white, split_white};
+use mail_wire::values::{Memory, Octets};
+use std::alloc::Global;
+use std::mem;
+
+/// The place of the first white octet.
+fn find_white(octets: &[u8]) -> Option<usize>
+    ensures { result ≡ position is_white_of octets.now }
+{
+    octets.iter().position(|b| is_white(*b))
+}
+
+/// The longest front without white, and what follows it.
+fn split_word(octets: &[u8]) -> (&[u8], &[u8])
+    ensures { IsSpan is_black octets.now result.0.now result.1.now }
+{
+    match find_white(octets) {
+        Some(at) => octets.split_at(at),
+        None => octets.split_at(octets.len()),
+    }
+}
+
+/// Units that are made one after another: those that are done, and text that may go on.
+#[derive(Drop)]
+struct Merging {
+    done: Vec<Unit>,
+    text: Vec<u8>,
+}
+
+impl Merging {
+    fn new(alloc: Global) -> Self
+        ensures { IsMerging result [] [] }
+    {
+        Merging {
+            done: Vec::new(alloc),
+            text: Vec::new(alloc),
+        }
+    }
+
+    /// Goes on with text.
+    fn push_text(&mut self, text: &[u8]) -> Result<(), Memory>
+        ensures units { OnOk result (IsMerging self.new (done_values self.old) (self.old.text.items ++ text.now)) }
+        ensures done { self.new.done.items ≡ self.old.done.items }
+    {
+        self.text.extend_from_slice(text)?;
+        Ok(())
+    }
+
+    /// Ends the text, if there is any.
+    fn end_text(&mut self, alloc: Global) -> Result<(), Memory>
+        ensures units { OnOk result (IsMerging self.new (done_values self.old ++ with_text self.old.text.items []) []) }
+        ensures sources { OnOk result (HaveSources self.old.done.items → HaveSources self.new.done.items) }
+    {
+        if !self.text.is_empty() {
+            let text = mem::replace(&mut self.text, Vec::new(alloc));
+            self.done.push(Unit::Text(Octets::from_vec(text)))?;
+        }
+        Ok(())
+    }
+
+    /// Adds what an encoded word says.
+    fn push_unit(&mut self, alloc: Global, unit: Unit) -> Result<(), Memory>
+        ensures units { OnOk result (Adds self.old self.new (value_of unit)) }
+        ensures sources { OnOk result (HasSource unit → HaveSources self.old.done.items → HaveSources self.new.done.items) }
+    {
+        match unit {
+            Unit::Text(octets) => self.push_text(octets.as_slice()),
+            Unit::Opaque {
+                charset,
+                octets,
+                source,
+            } => {
+                self.end_text(alloc)?;
+                self.done.push(Unit::Opaque {
+                    charset,
+                    octets,
+                    source,
+                })?;
+                Ok(())
+            }
+        }
+    }
+
+    /// Takes the next word, and the run of white before it. Answers whether it is an encoded word.
+    fn push_word(
+        &mut self,
+        alloc: Global,
+        run: &[u8],
+        after_encoded: bool,
+        word: &[u8],
+    ) -> Result<bool, Memory>
+        ensures units { IfOk result (TakesWord self.old self.new run.now after_encoded word.now) }
+        ensures sources { OnOk result (HaveSources self.old.done.items → HaveSources self.new.done.items) }
+    {
+        match read_word(alloc, word)? {
+            Some(unit) => {
+                self.push_text(kept_run(run, after_encoded))?;
+                self.push_unit(alloc, unit)?;
+                Ok(true)
+            }
+            None => {
+                self.push_text(run)?;
+                self.push_text(word)?;
+                Ok(false)
+            }
+        }
+    }
+
+    /// The units that are done.
+    fn into_done(self) -> Vec<Unit>
+        ensures { result.items ≡ self.done.items }
+    {
+        self.done
+    }
+}
+
+/// A run of white, or nothing of it.
+fn kept_run(run: &[u8], is_dropped: bool) -> &[u8]
+    ensures { result.now ≡ (if is_dropped then [] else run.now) }
+{
+    if is_dropped { &[] } else { run }
+}
+
+/// The units of an unstructured text.
+pub fn read_unstructured(alloc: Global, text: &[u8]) -> Result<Vec<Unit>, Memory>
+    ensures units { IfOk result (λ units. HasUnits text.now (map value_of units.items)) }
+    ensures sources { IfOk result (λ units. HaveSources units.items) }
+{
+    let (mut run, mut rest) = split_white(text);
+    let mut units = Merging::new(alloc);
+    let mut after_encoded = false;
+    while !rest.is_empty() {
+        let (word, after) = split_word(rest);
+        let (next_run, next_rest) = split_white(after);
+        after_encoded = units.push_word(alloc, run, after_encoded, word)?;
+        run = next_run;
+        rest = next_rest;
+    }
+    units.push_text(run)?;
+    units.end_text(alloc)?;
+    Ok(units.into_done())
+}
+
+#[cfg(test)]
+mod tests {
+    use super::*;
+    use std::test::Fail;
+
+    #[test]
+    fn other_charsets_stay_apart(rt: HostRuntime) -> Result<(), Fail> {
+        let units = read_unstructured(rt.alloc(), "é =?ISO-8859-1?Q?x?= z".as_bytes()).map_err(
+            |_| "memory",
+        )?;
+        let [
+            Unit::Text(before),
+            Unit::Opaque {
+                charset,
+                octets,
+                source,
+            },
+            Unit::Text(behind),
+        ] = units.as_slice()
+        else {
+            return Err(Fail::from("other units"));
+        };
+        assert_eq!(rt; before.as_slice(), "é ".as_bytes());
+        assert_eq!(rt; charset.as_slice(), b"iso-8859-1".as_slice());
+        assert_eq!(rt; octets.as_slice(), b"x".as_slice());
+        assert_eq!(rt; source.as_slice(), b"=?ISO-8859-1?Q?x?=".as_slice());
+        assert_eq!(rt; behind.as_slice(), b" z".as_slice());
+        Ok(())
+    }
+}
