@@ -1,0 +1,15 @@
+pub mod Units
+pub mod Places
+pub mod Pieces
+pub mod ReadBack
+pub mod Made
+pub mod WordLemmas
+pub mod LineLemmas
+pub mod SegmentLemmas
+pub mod Writing
+pub mod OneMeaning
+pub mod BlockFields
+pub mod UnbuiltLemmas
+pub mod MessageLemmas
+pub mod Rewriting
+pub mod OneLayout

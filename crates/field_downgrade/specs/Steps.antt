@@ -1,0 +1,78 @@
+-- What the steps of the code do.
+use Rattle.std.specs.Prelude.{◌≡◌, ℕ, ◌<◌, true, false, not, List, [], ◌∷◌, ◌++◌, length}
+use Rattle.std.specs.List.{list_all}
+use Rattle.field_downgrade.specs.declared.segments.Side.{Side}
+use Rattle.field_downgrade.specs.declared.segments.Side.TheVariants.{Edge, Encoded, Plain}
+use Rattle.field_downgrade.specs.Words.{Word, AreWords, AreUtf8, HasWords, is_high, last_run}
+use Rattle.field_downgrade.specs.Layout.{IsCopied, begins_high, ends_high, last_side, Gives, HavePieces, made_of}
+use Rattle.encoded_words.specs.Folding.{Piece, made_body}
+use Rattle.utf8_fields.specs.Parts.{FieldParts, field_octets}
+
+-- beside a word there is white
+abbrev pub NeedsRun : Side → List ℕ → Type 0
+NeedsRun Edge run = Unit {0}
+NeedsRun Encoded run = Unit {0}
+NeedsRun Plain run = 0 < length run
+
+-- the words are none, or begin with a word that is high and no encoded word
+abbrev pub BeginsCore : List Word → Type 0
+BeginsCore [] = Unit {0}
+BeginsCore (w ∷ ws) = (is_high w ≡ true) × (w.is_encoded ≡ false)
+
+abbrev pub BeginsHigh : List Word → Type 0
+BeginsHigh [] = Unit {0}
+BeginsHigh (w ∷ ws) = is_high w ≡ true
+
+abbrev pub BeginsEncoded : List Word → Type 0
+BeginsEncoded [] = Unit {0}
+BeginsEncoded (w ∷ ws) = w.is_encoded ≡ true
+
+-- copied are the words before the first high one
+pub record SplitsCopied (words copied rest : List Word) : Type 0 where
+  pub whole : words ≡ copied ++ rest
+  pub is_copied : IsCopied copied
+  pub begins : BeginsHigh rest
+
+-- A core comes first. Behind it no word is high up to an encoded word or the end.
+pub record SplitsCore (words core rest : List Word) : Type 0 where
+  pub low : List Word
+  pub after : List Word
+  pub whole : words ≡ core ++ rest
+  pub begins : begins_high core ≡ true
+  pub ends : ends_high core ≡ true
+  pub plain : list_all (λ (w : Word). not w.is_encoded) core ≡ true
+  pub rest_is : rest ≡ low ++ after
+  pub is_low : IsCopied low
+  pub stops : BeginsEncoded after
+
+pub record CanWrite (before core copied : List Word) : Type 0 where
+  pub are_words : AreWords (before ++ (core ++ copied))
+  pub are_utf8 : AreUtf8 core
+  pub begins : begins_high core ≡ true
+
+-- the lines of a segment's pieces were added
+pub record WritesSegment (before core copied : List Word) (old new : List ℕ) : Type 0 where
+  pub pieces : List Piece
+  pub gives : Gives (last_side before) (last_run before) (record { core = core; copied = copied }) pieces
+  pub added : new ≡ old ++ made_body pieces
+
+-- the lines of the words' pieces were added
+pub record WritesWords (words : List Word) (old new : List ℕ) : Type 0 where
+  pub pieces : List Piece
+  pub have : HavePieces words pieces
+  pub added : new ≡ old ++ made_body pieces
+
+-- Octets were put behind the old ones, and this holds of them.
+pub record Adds (P : List ℕ → Type 0) (old new : List ℕ) : Type 0 where
+  pub more : List ℕ
+  pub added : new ≡ old ++ more
+  pub holds : P more
+
+-- the octets are the unstructured field f, made anew
+pub record MakesUnstructured (f : FieldParts) (made : List ℕ) : Type 0 where
+  pub words : List Word
+  pub pieces : List Piece
+  pub has_words : HasWords f.body words
+  pub are_utf8 : AreUtf8 words
+  pub have_pieces : HavePieces words pieces
+  pub made_is : made ≡ field_octets (made_of f pieces)
