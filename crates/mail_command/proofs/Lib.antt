@@ -1,0 +1,4 @@
+pub mod TakingLemmas
+pub mod WordsLemmas
+pub mod OutcomeLemmas
+pub mod RunLemmas

@@ -1,0 +1,13 @@
+use Rattle.std.proofs.Common.{◌+◌, ◌-◌, length}
+use Rattle.mail_wire.specs.Moves.{GoesOn}
+use Rattle.mail_command.specs.Taking.{Takes}
+use Rattle.mail_command.proofs.taking.take_up_to.Given as goal
+
+abbrev pub invariant-loop-piece : goal.invariant-loop-piece
+invariant-loop-piece g l = record {
+  takes : Takes (g.W.Wire.tells l.initial.wire) (g.W.Wire.tells l.wire) l.taken;
+  goes_on : GoesOn (g.W.Wire.tells l.initial.wire) (g.W.Wire.tells l.wire);
+}
+
+abbrev pub decreases-loop-piece : goal.decreases-loop-piece
+decreases-loop-piece g l = l.max + 1 - length l.taken

@@ -1,0 +1,31 @@
+//! Takes a whole input.
+ghost use Rattle.std.specs.Prelude.{◌≡◌, Err, IfOk, OnErr};
+ghost use Rattle.mail_wire.specs.Moves.{HasWireCause};
+ghost use Rattle.mail_command.specs.Taking.{TakesUpTo, TakesSome};
+
+use mail_wire::outside::{Fault, Wire};
+use mail_wire::traffic::take_piece;
+use mail_wire::values::Octets;
+use std::alloc::Global;
+
+/// The greatest piece that is taken at a time.
+const PIECE: usize = 4096;
+
+/// Takes what is left, or the first octets of it, once they are more than `max`.
+pub fn take_up_to<W: Wire>(alloc: Global, wire: &mut W, max: usize) -> Result<Octets, Fault>
+    ensures taken { IfOk result (TakesUpTo max (W.tells wire.old) (W.tells wire.new)) }
+    ensures some { OnErr result (TakesSome (W.tells wire.old) (W.tells wire.new)) }
+    ensures cause { HasWireCause (W.tells wire.old) (W.tells wire.new) result Fault.Wire }
+    ensures keeper { ¬ (result ≡ Err Fault.Keeper) }
+{
+    let mut taken = Octets::new(alloc);
+    let mut piece = [0; PIECE];
+    while taken.len() <= max {
+        let count = take_piece(wire, &mut piece)?;
+        if count == 0 {
+            return Ok(taken);
+        }
+        taken.push_slice(&piece[..count])?;
+    }
+    Ok(taken)
+}

@@ -1,0 +1,98 @@
+//! The rows of the command, over wires in memory.
+use crate::command::run;
+use mail_wire::in_memory::{Failure, MemWire};
+use mail_wire::outside::Entry;
+use mail_wire::values::Octets;
+use mail_wire::words::Words;
+use std::alloc::Global;
+use std::test::Fail;
+
+const CAFE: &str = "Subject: café bar\r\n\r\nx\r\n";
+
+const CAFE_SURROGATE: &str = "Subject:\r\n =?UTF-8?B?Y2Fmw6k=?=\r\n bar\r\n\r\nx\r\n";
+
+// The status of a command of one word, and what was given.
+fn answer(
+    alloc: Global,
+    word: &str,
+    input: &str,
+    sizes: &[usize],
+    failures: &[Failure],
+) -> Result<(u8, Octets), Fail> {
+    let mut words = Words::none(alloc);
+    words.push(word)?;
+    let mut wire = MemWire::new(
+        alloc,
+        Octets::from_slice(alloc, input.as_bytes())?,
+        Vec::from_slice(alloc, sizes)?,
+        Vec::from_slice(alloc, failures)?,
+    );
+    let status = run(alloc, &words, &mut wire);
+    let mut given = Octets::new(alloc);
+    for entry in wire.entries() {
+        if let Entry::Given(octets) = entry {
+            given.push_slice(octets.as_slice())?;
+        }
+    }
+    Ok((status, given))
+}
+
+#[test]
+fn rows_of_downgrade(rt: HostRuntime) -> Result<(), Fail> {
+    for (input, status, given) in [
+        (CAFE, 0, CAFE_SURROGATE),
+        ("", 0, ""),
+        ("\r\nx\r\n", 0, "\r\nx\r\n"),
+        ("Subject:é\r\n", 0, "Subject:\r\n =?UTF-8?B?w6k=?=\r\n"),
+        (
+            "A: b\r\nSubject: abc  é  def\r\n",
+            0,
+            "A: b\r\nSubject:\r\n abc\r\n =?UTF-8?B?IMOpIA==?=\r\n def\r\n",
+        ),
+        ("Subject: =?é\r\n\r\n", 10, "not built at 0\r\n"),
+        ("A: b\r\nTo: é\r\n\r\n", 10, "not built at 6\r\n"),
+        ("Subject", 7, "refused\r\n"),
+        ("A: b\n", 7, "refused\r\n"),
+    ] {
+        let (found, octets) = answer(rt.alloc(), "downgrade", input, &[], &[])?;
+        assert_eq!(rt; found, status, "at {input:?}");
+        assert!(rt; octets.as_slice() == given.as_bytes(), "at {input:?}");
+    }
+    Ok(())
+}
+
+#[test]
+fn words_of_no_command_are_refused(rt: HostRuntime) -> Result<(), Fail> {
+    let (status, given) = answer(rt.alloc(), "down", CAFE, &[], &[])?;
+    assert_eq!(rt; status, 4);
+    assert!(rt; given.as_slice() == b"words refused\r\n".as_slice());
+    Ok(())
+}
+
+#[test]
+fn the_answer_is_the_same_octet_by_octet(rt: HostRuntime) -> Result<(), Fail> {
+    let (status, given) = answer(rt.alloc(), "downgrade", CAFE, &[1; 25], &[])?;
+    assert_eq!(rt; status, 0);
+    assert!(rt; given.as_slice() == CAFE_SURROGATE.as_bytes());
+    Ok(())
+}
+
+#[test]
+fn a_failing_give_leaves_a_prefix(rt: HostRuntime) -> Result<(), Fail> {
+    // The input is taken by one call, and its end is seen by another one.
+    for kept in 0..CAFE_SURROGATE.len() {
+        let (status, given) = answer(
+            rt.alloc(),
+            "downgrade",
+            CAFE,
+            &[],
+            &[Failure { call: 2, kept }],
+        )?;
+        assert_eq!(rt; status, 1, "at {kept}");
+        assert!(rt;
+            given.as_slice() == &CAFE_SURROGATE.as_bytes()[..kept],
+            "at {kept}"
+        );
+    }
+    Ok(())
+}
