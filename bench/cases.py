@@ -1,0 +1,75 @@
+"""The messages that are measured, each at n and at 2n. They are written in pieces, so that the caller stays small."""
+
+MESSAGE_MAX = 33_554_432
+LINE = b"The quick brown fox jumps over the lazy dog, and the mail goes on its way now.\r\n"
+WORD = "あ".encode()
+
+
+def ascii_body(size):
+    """A short header and an ASCII body, so many octets together."""
+    head = b"Subject: plain\r\nFrom: a@example.org\r\n\r\n"
+    yield head
+    lines, last = divmod(size - len(head), len(LINE))
+    for at in range(0, lines - 1, 1000):
+        yield LINE * min(1000, lines - 1 - at)
+    yield b"y" * (len(LINE) + last - 2) + b"\r\n"
+
+
+def ascii_fields(count):
+    """Short fields of 40 octets."""
+    for at in range(0, count, 1000):
+        yield b"".join(b"X-Field-%06d: a value of three words\r\n" % number for number in range(at, min(at + 1000, count)))
+    yield b"\r\nx\r\n"
+
+
+def high_fields(count):
+    """Fields of 79 octets, each with one core between ASCII words."""
+    field = "X-Field-{:06}: deux cafés au lait et une crème brûlée, for the two of us\r\n"
+    for at in range(0, count, 1000):
+        yield "".join(field.format(number) for number in range(at, min(at + 1000, count))).encode()
+    yield b"\r\nx\r\n"
+
+
+def long_subject(size):
+    """A subject of so many octets, without white."""
+    yield b"Subject: " + WORD * (size // len(WORD)) + b"\r\n\r\nx\r\n"
+
+
+def long_line(size):
+    """One line of the body."""
+    yield b"Subject: plain\r\n\r\n"
+    for _ in range(size >> 20):
+        yield b"y" * (1 << 20)
+    yield b"\r\n"
+
+
+def long_field(size):
+    """One ASCII line of the header."""
+    yield b"Subject: "
+    for _ in range(size >> 20):
+        yield b"y" * (1 << 20)
+    yield b"\r\n\r\nx\r\n"
+
+
+MIB = 1 << 20
+
+# name, what writes the message, n; each is measured at n and at 2n
+CASES = [
+    ("ASCII body of 16 and 32 MiB", ascii_body, MESSAGE_MAX // 2),
+    ("50,000 and 100,000 short ASCII fields", ascii_fields, 50_000),
+    ("10,000 and 20,000 non-ASCII fields", high_fields, 10_000),
+    ("one subject of 512 KiB and 1 MiB of あ", long_subject, MIB // 2),
+    ("one line of 8 and 16 MiB in the body", long_line, 8 * MIB),
+    ("one line of 8 and 16 MiB in the header", long_field, 8 * MIB),
+]
+
+
+def write(path, make, n):
+    """Writes the message to the file, and returns how many octets it has."""
+    size = 0
+    with open(path, "wb") as file:
+        for piece in make(n):
+            size += file.write(piece)
+    if size > MESSAGE_MAX:
+        raise ValueError(f"{make.__name__}({n}) has {size} octets")
+    return size

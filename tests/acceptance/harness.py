@@ -1,0 +1,74 @@
+"""Runs the program on files, and counts what passed."""
+
+import concurrent.futures
+import os
+import subprocess
+import sys
+import tempfile
+
+SECONDS = 120
+
+
+def show(octets):
+    """Octets for a message to a reader, not too many."""
+    text = repr(bytes(octets))[2:-1]
+    return text if len(text) <= 400 else f"{text[:200]} .. {text[-180:]} ({len(octets)} octets)"
+
+
+class Tally:
+    """What passed and what failed, by name."""
+
+    def __init__(self):
+        self.passed = 0
+        self.failed = 0
+
+    def note(self, name, faults):
+        """Counts one check: it passed where there is no fault."""
+        if not faults:
+            self.passed += 1
+            return
+        self.failed += 1
+        print(f"FAILED: {name}")
+        for fault in faults[:6]:
+            print(f"    {fault}")
+
+
+class Program:
+    """The built program. Its standard input is a file, as in daily use."""
+
+    def __init__(self, path):
+        self.path = os.path.abspath(path)
+        self.folder = tempfile.TemporaryDirectory(prefix="dervlask-acceptance-")
+
+    def run(self, words, octets, stdout=subprocess.PIPE, preexec=None):
+        """Exit status and what was written, for these words and this standard input."""
+        with tempfile.NamedTemporaryFile(dir=self.folder.name) as file:
+            file.write(octets)
+            file.flush()
+            with open(file.name, "rb") as stdin:
+                return self.run_on(words, stdin, stdout, preexec)
+
+    def run_on(self, words, stdin, stdout=subprocess.PIPE, preexec=None):
+        how = {"stdin": stdin, "stdout": stdout, "stderr": subprocess.PIPE, "cwd": self.folder.name}
+        ran = subprocess.run([self.path, *words], timeout=SECONDS, preexec_fn=preexec, **how)
+        if ran.stderr:
+            print(f"note: the program wrote to standard error: {show(ran.stderr)}", file=sys.stderr)
+        return ran.returncode, ran.stdout or b""
+
+    def downgrade(self, octets):
+        return self.run([b"downgrade"], octets)
+
+
+def differs(what, found, wanted):
+    """The fault that two values differ, or none."""
+    if found == wanted:
+        return []
+    if isinstance(found, bytes) and isinstance(wanted, bytes):
+        return [f"{what}: found  {show(found)}", f"{what}: wanted {show(wanted)}"]
+    return [f"{what}: found {found!r}, wanted {wanted!r}"]
+
+
+def in_lanes(check, cases):
+    """Answers of the check for each case, in order; several cases run at a time."""
+    with concurrent.futures.ThreadPoolExecutor(os.cpu_count() or 1) as pool:
+        return list(pool.map(check, cases))

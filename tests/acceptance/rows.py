@@ -1,0 +1,165 @@
+"""Rows that are written out: words and octets in, status and octets out."""
+
+import os
+import resource
+import subprocess
+
+from harness import differs
+from oracle import MESSAGE_MAX, outcome
+
+REFUSED = (7, b"refused\r\n")
+WORDS_REFUSED = (4, b"words refused\r\n")
+
+CAFE = "Subject: café bar\r\n\r\nx\r\n".encode()
+CAFE_SURROGATE = b"Subject:\r\n =?UTF-8?B?Y2Fmw6k=?=\r\n bar\r\n\r\nx\r\n"
+
+
+def of_messages():
+    """Name, octets, and the status and octets that are wanted."""
+    row = lambda name, text, status, wanted: (name, text if isinstance(text, bytes) else text.encode(), status, wanted)
+    return [
+        row("café bar", CAFE, 0, CAFE_SURROGATE),
+        row("no white behind the colon", "Subject:é\r\n", 0, b"Subject:\r\n =?UTF-8?B?w6k=?=\r\n"),
+        row(
+            "sixteen characters of three octets fill a word and begin another",
+            "Subject: " + "あ" * 16 + "\r\n\r\n",
+            0,
+            b"Subject:\r\n =?UTF-8?B?" + b"44GC" * 15 + b"?=\r\n =?UTF-8?B?44GC?=\r\n\r\n",
+        ),
+        row("white around the core is kept", "Subject: abc  é  def\r\n\r\n", 0, b"Subject:\r\n abc\r\n =?UTF-8?B?IMOpIA==?=\r\n def\r\n\r\n"),
+        row("a tab before the core is chosen", "Subject:a\té\r\n", 0, b"Subject:\r\n a\r\n\t=?UTF-8?B?w6k=?=\r\n"),
+        row("a tab behind the core is chosen", "Subject: é\tb\r\n", 0, b"Subject:\r\n =?UTF-8?B?w6k=?=\r\n\tb\r\n"),
+        row("one core from the first such word to the last", "X: a é b  ü c\r\n", 0, b"X:\r\n a\r\n =?UTF-8?B?w6kgYiAgw7w=?=\r\n c\r\n"),
+        row("white before the colon is dropped", "X-Note \t: é\r\n", 0, b"X-Note:\r\n =?UTF-8?B?w6k=?=\r\n"),
+        row("white at the ends of a value is dropped", "X: \t é \t \r\n", 0, b"X:\r\n =?UTF-8?B?w6k=?=\r\n"),
+        row("a no-break space is no white", "X: a\u00a0b\r\n", 0, b"X:\r\n =?UTF-8?B?YcKgYg==?=\r\n"),
+        row("a value of a NEL and a zero-width space", "X: \u0085\u200b\r\n", 0, b"X:\r\n =?UTF-8?B?woXigIs=?=\r\n"),
+        row("ASCII fields are copied, with folds and encoded words", "Subject: =?UTF-8?B?w6k=?=\r\n\tx\r\nTo: a@b\r\n\r\né\r\n", 0,
+            "Subject: =?UTF-8?B?w6k=?=\r\n\tx\r\nTo: a@b\r\n\r\né\r\n".encode()),
+        row("an ASCII field with white before its colon is copied", b"A \t: b\r\n\r\n", 0, b"A \t: b\r\n\r\n"),
+        row("a body with any octets is copied", b"A: b\r\n\r\n\xff\xfe =?\r\n", 0, b"A: b\r\n\r\n\xff\xfe =?\r\n"),
+        row("no octets", b"", 0, b""),
+        row("an empty line", b"\r\n", 0, b"\r\n"),
+        row("an empty line and a body", b"\r\nx: \xe9\r\n", 0, b"\r\nx: \xe9\r\n"),
+        row("fields alone, without an empty line", b"A: b\r\nC: d\r\n", 0, b"A: b\r\nC: d\r\n"),
+        row("an encoded word begun", "Subject: =?é\r\n\r\n", 10, b"not built at 0\r\n"),
+        row("an address field", "A: b\r\nTo: é\r\n\r\n", 10, b"not built at 6\r\n"),
+        row("the first one of two is named", "Cc: a\r\ncC: é\r\nTo: é\r\n\r\n", 10, b"not built at 7\r\n"),
+        row("a fold", "Subject: a\r\n é\r\n\r\n", 10, b"not built at 0\r\n"),
+        row("a hyphen first", "-x: é\r\n\r\n", 10, b"not built at 0\r\n"),
+        row("an ASCII name with a hyphen first", b"-x: e\r\n\r\n", 0, b"-x: e\r\n\r\n"),
+        row("a content type", b"A: b\r\ncontent-TYPE: text/plain\r\n\r\n", 10, b"not built at 6\r\n"),
+        row("a content type in the body", b"A: b\r\n\r\nContent-Type: text/plain\r\n", 0, b"A: b\r\n\r\nContent-Type: text/plain\r\n"),
+        row("no colon", b"Subject", *REFUSED),
+        row("no colon, but CRLF", b"Subject\r\n", *REFUSED),
+        row("a fault comes before an unbuilt field", b"Content-Type: x\r\nSubject\r\n", *REFUSED),
+        row("no name", b": x\r\n", *REFUSED),
+        row("a fold before any field", b" x: y\r\n", *REFUSED),
+        row("NUL in the header", b"A: b\0\r\n\r\n", *REFUSED),
+        row("NUL in the body", b"A: b\r\n\r\nx\0\r\n", *REFUSED),
+        row("a bare CR", b"A: b\r\n\r\nx\ry\r\n", *REFUSED),
+        row("a bare LF", b"A: b\r\n\r\nx\ny\r\n", *REFUSED),
+        row("LF line ends", b"A: b\n\nx\n", *REFUSED),
+        row("no last CRLF", b"A: b\r\n\r\nx", *REFUSED),
+        row("CR last", b"A: b\r\n\r\nx\r", *REFUSED),
+        row("Latin-1", b"Subject: caf\xe9\r\n\r\n", *REFUSED),
+        row("a character cut off", b"Subject: \xe3\x81\r\n\r\n", *REFUSED),
+        row("an overlong form", b"Subject: \xc0\xaf\r\n\r\n", *REFUSED),
+        row("a surrogate", b"Subject: \xed\xa0\x80\r\n\r\n", *REFUSED),
+        row("beyond U+10FFFF", b"Subject: \xf4\x90\x80\x80\r\n\r\n", *REFUSED),
+        row("a message of 33,554,433 octets", of_size(MESSAGE_MAX + 1), *REFUSED),
+        row("a message of 33,554,432 octets", of_size(MESSAGE_MAX), 0, of_size(MESSAGE_MAX)),
+    ]
+
+
+def of_size(size):
+    """An ASCII message of so many octets."""
+    head = b"A: b\r\n\r\n"
+    lines, last = divmod(size - len(head), 80)
+    return head + (b"x" * 78 + b"\r\n") * (lines - 1) + b"y" * (last + 78) + b"\r\n"
+
+
+def of_names():
+    """Each octet alone as a name, and behind another octet of a name."""
+    for octet in range(256):
+        for before in (b"", b"A"):
+            name = before + bytes([octet])
+            # white behind a name belongs to no name
+            is_name = 33 <= octet <= 126 and octet != 58 or (before and octet in (9, 32, 58))
+            text = name + b": b\r\n\r\n"
+            yield f"the octet {octet} {'behind a name' if before else 'as a name'}", text, *((0, text) if is_name else REFUSED)
+
+
+STRUCTURED = """
+    From Sender Reply-To To Cc Bcc Resent-From Resent-Sender Resent-Reply-To Resent-To Resent-Cc Resent-Bcc Keywords
+    Content-Disposition Message-ID Resent-Message-ID In-Reply-To References Content-ID Return-Path Original-Recipient
+    Final-Recipient Received Date Resent-Date MIME-Version Content-Transfer-Encoding
+    """.split()
+UNSTRUCTURED = "Subject Comments Resent-Subject Content-Description Content-Types Too X-From Delivered-To Reply-To-x".split()
+
+
+def of_kinds():
+    """Fields of each structured kind aren't built, whatever the case of their names; others are."""
+    for name in STRUCTURED:
+        for spelled in (name, name.lower(), name.upper()):
+            text = f"A: b\r\n{spelled}: é\r\n\r\n".encode()
+            yield f"the structured field {spelled}", text, 10, b"not built at 6\r\n"
+    for name in UNSTRUCTURED:
+        made = f"{name}:\r\n =?UTF-8?B?w6k=?=\r\n\r\n".encode()
+        yield f"the unstructured field {name}", f"{name}: é\r\n\r\n".encode(), 0, made
+
+
+def of_words():
+    return [
+        ("the word down", [b"down"]),
+        ("no word", []),
+        ("two words", [b"downgrade", b"downgrade"]),
+        ("an empty word", [b""]),
+        ("capitals", [b"Downgrade"]),
+        ("a space behind", [b"downgrade "]),
+        ("a word that is no UTF-8", [b"\xff"]),
+        ("a word that is no UTF-8, behind the right one", [b"downgrade", b"\xff"]),
+    ]
+
+
+def little_memory():
+    resource.setrlimit(resource.RLIMIT_AS, (24 << 20, 24 << 20))
+
+
+def of_the_outside(program, tally):
+    """Rows where the outside fails."""
+    with open("/dev/full", "wb") as full:
+        tally.note("standard output is full", differs("status", program.run([b"downgrade"], CAFE, stdout=full)[0], 1))
+        tally.note("standard output is full, and the words are wrong", differs("status", program.run([b"x"], CAFE, stdout=full)[0], 1))
+    # a folder can be opened, and can't be read
+    folder = os.open(program.folder.name, os.O_RDONLY)
+    try:
+        tally.note("standard input can't be read", differs("answer", program.run_on([b"downgrade"], folder), (1, b"")))
+    finally:
+        os.close(folder)
+    found = program.run([b"downgrade"], of_size(MESSAGE_MAX), preexec=little_memory)
+    tally.note("want of memory", differs("answer", found, (3, b"")))
+
+
+def in_a_pipe(program, tally):
+    """The same octets, handed out one by one."""
+    how = {"stdin": subprocess.PIPE, "stdout": subprocess.PIPE, "bufsize": 0}
+    with subprocess.Popen([program.path, b"downgrade"], **how) as running:
+        for octet in CAFE:
+            running.stdin.write(bytes([octet]))
+        running.stdin.close()
+        given = running.stdout.read()
+    tally.note("café bar, octet by octet", differs("octets", given, CAFE_SURROGATE) + differs("status", running.returncode, 0))
+
+
+def check(program, tally):
+    for name, octets, status, wanted in [*of_messages(), *of_names(), *of_kinds()]:
+        tally.note(f"{name}, as the oracle has it", differs("oracle", outcome([b"downgrade"], octets), (status, wanted)))
+        found, given = program.downgrade(octets)
+        tally.note(name, differs("status", found, status) + differs("octets", given, wanted))
+    for name, words in of_words():
+        found = program.run(words, CAFE)
+        tally.note(name, differs("answer", found, WORDS_REFUSED))
+    tally.note("café bar has 44 octets", differs("octets", len(CAFE_SURROGATE), 44))
+    in_a_pipe(program, tally)
+    of_the_outside(program, tally)
