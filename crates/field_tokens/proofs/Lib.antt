@@ -1,0 +1,12 @@
+pub mod Levels
+pub mod GroupLemmas
+pub mod TokenLemmas
+pub mod TokenLists
+pub mod Joined
+pub mod Texts
+pub mod BodyLemmas
+pub mod Runs
+pub mod TreeLemmas
+pub mod CommentReading
+pub mod CommentTokens
+pub mod SqueezedLemmas

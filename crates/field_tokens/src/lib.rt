@@ -1,0 +1,62 @@
+//! The tokens of a structured field's text (RFC 5322, 3.2; RFC 2045, 5.1), and its comments as trees.
+#![tactic(auto)]
+
+mod groups;
+pub mod laws;
+mod places;
+pub mod reading;
+pub mod squeezing;
+#[cfg(test)]
+mod tests;
+pub mod trees;
+
+use mail_wire::values::Span;
+pub use reading::tokens;
+pub use squeezing::squeezed;
+pub use trees::comment_tree;
+
+/// How a text is cut into tokens: as addresses are (RFC 5322), or as parameters are (RFC 2045).
+#[derive(Clone, Copy, Debug, PartialEq, Eq)]
+pub enum Style {
+    Mail,
+    Mime,
+}
+
+#[derive(Clone, Copy, Debug, PartialEq, Eq)]
+pub enum TokenKind {
+    Atom,
+    Quoted,
+    Literal,
+    Special,
+    Gap,
+    Comment,
+}
+
+/// A token of a text: what it is, and where its octets stand.
+#[derive(Clone, Copy, Debug, PartialEq, Eq)]
+pub struct Token {
+    pub kind: TokenKind,
+    pub span: Span,
+}
+
+/// Why a text was not cut into tokens.
+#[derive(Clone, Copy, Debug, PartialEq, Eq)]
+pub enum TokenFault {
+    Malformed,
+    Memory,
+}
+
+/// What stands in a comment: text without the white at its ends, or a comment.
+#[derive(Debug, Drop)]
+#[cycle(comments)]
+pub enum Item {
+    Run(Span),
+    Nested(Comment),
+}
+
+/// What stands between two parentheses.
+#[derive(Debug, Drop)]
+#[cycle(comments)]
+pub struct Comment {
+    pub items: Vec<Item>,
+}

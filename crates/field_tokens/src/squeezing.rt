@@ -1,0 +1,43 @@
+//! Squeezed text.
+ghost use Rattle.std.specs.Prelude.{◌≡◌, [], ◌∷◌, ◌++◌, if◌then◌else◌, IfOk, OnOk};
+ghost use Rattle.field_tokens.specs.Squeezed.{is_blank as is_blank_of, squeezed_text, AreNeighbours};
+
+use crate::places::octets_of;
+use crate::{Token, TokenKind};
+use mail_wire::values::{Memory, Octets};
+use std::alloc::Global;
+
+/// Whether a token only stands between others.
+fn is_blank(kind: TokenKind) -> bool
+    ensures { result ≡ is_blank_of kind }
+{
+    matches!(kind, TokenKind::Gap | TokenKind::Comment)
+}
+
+fn push_token(made: &mut Octets, is_apart: bool, octets: &[u8]) -> Result<(), Memory>
+    ensures { OnOk result (made.new ≡ made.old ++ ((if is_apart then 32 ∷ [] else []) ++ octets.now)) }
+{
+    if is_apart {
+        made.push(b' ')?;
+    }
+    made.push_slice(octets)
+}
+
+/// The octets of neighbouring tokens without their comments, with one space where a gap or a comment stood between two
+/// of them.
+pub fn squeezed(alloc: Global, text: &[u8], tokens: &[Token]) -> Result<Octets, Memory>
+    requires { AreNeighbours text.now tokens.now }
+    ensures { IfOk result (λ made. made ≡ squeezed_text text.now tokens.now) }
+{
+    let mut made = Octets::new(alloc);
+    let mut is_apart = false;
+    for token in tokens {
+        if is_blank(token.kind) {
+            is_apart = !made.is_empty();
+        } else {
+            push_token(&mut made, is_apart, octets_of(text, token.span))?;
+            is_apart = false;
+        }
+    }
+    Ok(made)
+}
