@@ -1,0 +1,4 @@
+pub mod EncapsulatedLemmas
+pub mod HexLemmas
+pub mod FormLemmas
+pub mod XtextLemmas

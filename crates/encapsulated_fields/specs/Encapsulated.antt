@@ -1,0 +1,39 @@
+-- Fields that keep the value of another field under a `Downgraded-` name (RFC 6857, 3.1).
+use Rattle.std.specs.Prelude.{◌≡◌, ℕ, ◌<◌, nat_le, nat_eq, Bool, true, ◌&&◌, not, List, ◌∷◌, ◌++◌, length, codes}
+use Rattle.std.specs.List.{list_all}
+use Rattle.mail_wire.specs.Octets.{is_white}
+use Rattle.mail_wire.specs.Lines.{crlf}
+use Rattle.mail_wire.specs.Folds.{unfolded}
+use Rattle.mail_wire.specs.Spans.{IsTrimmed}
+use Rattle.encoded_words.specs.Words.{UnitValue}
+use Rattle.encoded_words.specs.Units.{HasUnits}
+use Rattle.encoded_words.specs.Pieces.{AreBWords}
+use Rattle.encoded_words.specs.Folding.{made_body, word_pieces}
+
+-- an octet of a field's name: 33 to 126, and no colon (RFC 5322, 3.6.8)
+abbrev pub is_name_octet : ℕ → Bool
+is_name_octet x = nat_le 33 x && nat_le x 126 && not (nat_eq x 58)
+
+abbrev pub IsFieldName : List ℕ → Type 0
+IsFieldName name = (0 < length name) × (list_all is_name_octet name ≡ true)
+
+abbrev pub downgraded_name : List ℕ → List ℕ
+downgraded_name name = codes "Downgraded-" ++ name
+
+-- a field of this name with this body: the name, a colon, the body, CRLF
+abbrev pub field_of : List ℕ → List ℕ → List ℕ
+field_of name body = name ++ 58 ∷ (body ++ crlf)
+
+-- the field keeps the value of a field of this name as B words, each on a line of its own behind a space
+pub record Encapsulates (name value field : List ℕ) : Type 0 where
+  pub words : List (List ℕ)
+  pub are_words : AreBWords value words
+  pub spelled : field ≡ field_of (downgraded_name name) (made_body (word_pieces 32 words))
+
+-- a field of this name says these units: they are those of its body, unfolded and without white at its ends
+pub record FieldSays (name field : List ℕ) (units : List UnitValue) : Type 0 where
+  pub body : List ℕ
+  pub text : List ℕ
+  pub spelled : field ≡ field_of name body
+  pub text_is : IsTrimmed is_white (unfolded body) text
+  pub says : HasUnits text units

@@ -1,0 +1,3 @@
+pub mod Encapsulated
+pub mod AddressForms
+pub mod Xtext
