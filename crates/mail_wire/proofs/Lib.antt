@@ -7,3 +7,7 @@ pub mod Folded
 pub mod MessageLemmas
 pub mod Moving
 pub mod LawfulLemmas
+pub mod FirstLineLemmas
+pub mod TurnsLemmas
+pub mod LineEnd
+pub mod Feeding

@@ -8,3 +8,7 @@ pub mod Transcript
 pub mod Telling
 pub mod Moves
 pub mod MemState
+pub mod KeeperTelling
+pub mod Keeping
+pub mod MemKept
+pub mod Turns

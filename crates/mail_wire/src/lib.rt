@@ -2,7 +2,11 @@
 #![tactic(auto)]
 
 pub mod edge;
+pub mod file_keeper;
+pub mod framing;
 pub mod in_memory;
+pub mod keeping;
+pub mod mem_keeper;
 pub mod message;
 pub mod outside;
 #[cfg(test)]

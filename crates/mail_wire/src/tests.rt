@@ -1,7 +1,9 @@
-//! Texts, words and wires, each public call once with ample memory.
+//! Texts, words, wires and keepers, each public call once with ample memory.
 use crate::in_memory::{Failure, MemWire};
+use crate::keeping::Keeper;
+use crate::mem_keeper::MemKeeper;
 use crate::message::{first_faulty, is_message};
-use crate::outside::{Entry, Fault};
+use crate::outside::{Entry, Failed, Fault};
 use crate::text::{lines, unfold};
 use crate::traffic::{give_all, take_piece};
 use crate::values::Octets;
@@ -75,5 +77,30 @@ fn a_wire_in_memory_hands_out_pieces_and_fails(rt: HostRuntime) -> Result<(), Fa
     }
     given.push(b'.')?;
     assert!(rt; given.as_slice() == b"xy.".as_slice());
+    Ok(())
+}
+
+// A keeper's calls, through its bound.
+fn use_keeper<J: Keeper>(keeper: &mut J) -> Result<(), Failed> {
+    keeper.append(b"yz")?;
+    Ok(())
+}
+
+#[test]
+fn a_keeper_in_memory_keeps_and_fails(rt: HostRuntime) -> Result<(), Fail> {
+    let alloc = rt.alloc();
+    let failure = Failure { call: 1, kept: 1 };
+    let mut keeper = MemKeeper::new(
+        Octets::from_slice(alloc, b"abc")?,
+        Vec::from_slice(alloc, &[failure])?,
+    );
+    assert_eq!(rt; use_keeper(&mut keeper), Ok(()));
+    assert_eq!(rt; use_keeper(&mut keeper), Err(Failed::Outside));
+    assert_eq!(rt; keeper.len(), Ok(6));
+    let mut buffer = [0; 3];
+    assert_eq!(rt; keeper.read_at(2, &mut buffer), Ok(()));
+    assert_eq!(rt; buffer, *b"cyz");
+    assert_eq!(rt; keeper.cut(4), Ok(()));
+    assert!(rt; keeper.octets() == b"abcy".as_slice());
     Ok(())
 }

@@ -1,0 +1,14 @@
+use Rattle.mail_wire.proofs.LineEnd.{line_across, line_found, line_none, some_first}
+use Rattle.mail_wire.proofs.framing.line_end.Goals as goal
+
+pub returns-then-joins-clause-bound : goal.returns-then-joins-clause-bound
+returns-then-joins-clause-bound c = some_first c.args.kept.now c.args.piece.now (c.joins.ensures.0 c.if-joins.true)
+
+pub returns-then-joins-clause-line : goal.returns-then-joins-clause-line
+returns-then-joins-clause-line c = line_across c.args.kept.now c.args.piece.now c.requires (c.joins.ensures.0 c.if-joins.true)
+
+pub returns-in-Some-clause-line : goal.returns-in-Some-clause-line
+returns-in-Some-clause-line c = line_found c.args.kept.now c.args.piece.now c.in-Some.at _ c.requires c.joins.ensures c.if-joins.false c.in-Some.ensures
+
+pub returns-in-None-clause-line : goal.returns-in-None-clause-line
+returns-in-None-clause-line c = line_none c.args.kept.now c.args.piece.now _ c.requires c.joins.ensures c.if-joins.false c.in-None.ensures

@@ -1,0 +1,10 @@
+-- What a keeper tells of itself.
+use Rattle.std.specs.Prelude.{ℕ, List, Option, Bool}
+
+pub record KeeperTelling : Type 0 where
+  -- the octets that it keeps, where it tells
+  pub octets : Option (List ℕ)
+  -- how often the outside has failed
+  pub faults : ℕ
+  -- it tells that it never fails
+  pub never_fails : Bool

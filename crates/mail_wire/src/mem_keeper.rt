@@ -1,0 +1,111 @@
+//! A keeper in memory, for tests: it tells its octets, and fails at the calls that a list names.
+ghost use Rattle.std.specs.Prelude.{◌≡◌, ◌==◌, Some, length, IsTrue, IsNone};
+
+use crate::in_memory::Failure;
+use crate::keeping::Keeper;
+use crate::outside::Failed;
+use crate::values::Octets;
+use std::marker::Model;
+
+#[derive(Debug, Drop)]
+pub struct MemKeeper {
+    octets: Vec<u8>,
+    failures: Vec<Failure>,
+    calls: u64,
+    faults: u64,
+}
+
+impl Model for MemKeeper {
+    ghost use Rattle.std.specs.Prelude.{length, ◌==◌};
+    ghost use Rattle.mail_wire.specs.MemKept.{MemKept};
+
+    ghost Value = { MemKept };
+
+    ghost view = { λ a. record {
+      octets = a.octets.items;
+      faults = a.faults;
+      never_fails = length a.failures.items == 0;
+    } };
+}
+
+impl MemKeeper {
+    /// A keeper of these octets.
+    pub fn new(octets: Octets, failures: Vec<Failure>) -> Self
+        ensures octets { result.octets ≡ octets }
+        ensures faults { result.faults ≡ 0 }
+        ensures never_fails { result.never_fails ≡ (length failures.items == 0) }
+    {
+        MemKeeper {
+            octets: octets.into_vec(),
+            failures,
+            calls: 0,
+            faults: 0,
+        }
+    }
+
+    /// What is kept.
+    pub fn octets(&self) -> &[u8]
+        ensures { result.now ≡ self.now.octets }
+    {
+        &self.octets
+    }
+
+    // Whether the next call is to fail, and the call is counted.
+    fn next_failure(&mut self) -> Option<Failure>
+        ensures same { self.new ≡ self.old }
+        ensures never { IsTrue self.old.never_fails → IsNone result }
+    {
+        let call = self.calls;
+        self.calls = call.saturating_add(1);
+        self.failures
+            .iter()
+            .copied()
+            .find(|failure| failure.call == call)
+    }
+}
+
+impl Keeper for MemKeeper {
+    ghost tells = { λ keeper. record {
+      octets = Some keeper.octets;
+      faults = keeper.faults;
+      never_fails = keeper.never_fails;
+    } };
+
+    fn len(&mut self) -> Result<u64, Failed> {
+        if self.next_failure().is_some() {
+            self.faults = self.faults.saturating_add(1);
+            return Err(Failed::Outside);
+        }
+        Ok(self.octets.len() as u64)
+    }
+
+    fn read_at(&mut self, at: u64, into: &mut [u8]) -> Result<(), Failed> {
+        if self.next_failure().is_some() {
+            self.faults = self.faults.saturating_add(1);
+            return Err(Failed::Outside);
+        }
+        let at = at as usize;
+        into.copy_from_slice(&self.octets[at..at + into.len()]);
+        Ok(())
+    }
+
+    fn append(&mut self, from: &[u8]) -> Result<(), Failed> {
+        let failure = self.next_failure();
+        let count = failure.map_or(from.len(), |failure| failure.kept.min(from.len()));
+        self.octets.extend_from_slice(&from[..count])?;
+        if failure.is_some() {
+            self.faults = self.faults.saturating_add(1);
+            return Err(Failed::Outside);
+        }
+        Ok(())
+    }
+
+    fn cut(&mut self, len: u64) -> Result<(), Failed> {
+        if self.next_failure().is_some() {
+            self.faults = self.faults.saturating_add(1);
+            return Err(Failed::Outside);
+        }
+        self.octets.truncate(len as usize);
+        Ok(())
+    }
+}
