@@ -1,0 +1,13 @@
+pub mod Fields
+pub mod RecordLaws
+pub mod FrameLemmas
+pub mod AddressLemmas
+pub mod GrammarLemmas
+pub mod ReadingLemmas
+pub mod StoredLemmas
+pub mod IndexLemmas
+pub mod Answering
+pub mod NameLemmas
+pub mod Next
+pub mod Readings
+pub mod ReplayLemmas

@@ -1,0 +1,133 @@
+-- What a store keeps, as the fold of a journal's records. Things are named by their numbers in order of their records.
+use Rattle.std.specs.Prelude.{ℕ, zero, suc, ◌+◌, List, [], ◌∷◌, ◌++◌, length, map, count_by, codes, Bool, true, false, Option, Some, None, ◌==◌, if◌then◌else◌, slice_get, slice_index_or}
+use Rattle.std.specs.Str.{bytes_eq}
+use Rattle.mail_store.specs.declared.records.Record.{Record}
+use Rattle.mail_store.specs.declared.records.Record.TheVariants as records
+use Rattle.mail_store.specs.declared.kept.Account.{Account}
+use Rattle.mail_store.specs.declared.kept.Folder.{Folder}
+use Rattle.mail_store.specs.declared.kept.Message.{Message}
+use Rattle.mail_store.specs.declared.kept.Recipient.{Recipient}
+use Rattle.mail_store.specs.declared.kept.Entry.{Entry}
+use Rattle.mail_store.specs.declared.kept.Listed.{Listed}
+use Rattle.mail_store.specs.Addresses.{is_same_address}
+
+pub record Kept : Type 0 where
+  pub accounts : List Account
+  pub domains : List (List ℕ)
+  pub folders : List Folder
+  pub messages : List Message
+  pub entries : List Entry
+
+abbrev pub nothing : Kept
+nothing = record { accounts = []; domains = []; folders = []; messages = []; entries = [] }
+
+-- the list with what stands at a place changed
+abbrev pub change_at : {T : Type 0} → (T → T) → List T → ℕ → List T
+change_at change [] at = []
+change_at change (x ∷ xs) zero = change x ∷ xs
+change_at change (x ∷ xs) (suc at) = x ∷ change_at change xs at
+
+abbrev pub inbox : List ℕ
+inbox = codes "INBOX"
+
+abbrev pub with_flags : ℕ → Message → Message
+with_flags flags message = record message { flags = flags }
+
+abbrev pub gone : Message → Message
+gone message = record message { live = false }
+
+abbrev pub waiting : List ℕ → Recipient
+waiting address = record { address = address; waits = true }
+
+abbrev pub settled : Recipient → Recipient
+settled recipient = record recipient { waits = false }
+
+abbrev pub without : ℕ → Entry → Entry
+without index entry = record entry { recipients = change_at settled entry.recipients index }
+
+-- what is kept after a record. An account brings its INBOX.
+abbrev pub after : Kept → Record → Kept
+after kept (records.Account address password) = record kept {
+  accounts = kept.accounts ++ record { address = address; password = password } ∷ [];
+  folders = kept.folders ++ record { account = length kept.accounts; name = inbox } ∷ [];
+}
+after kept (records.Domain name) = record kept { domains = kept.domains ++ name ∷ [] }
+after kept (records.Folder account name) = record kept { folders = kept.folders ++ record { account = account; name = name } ∷ [] }
+after kept (records.Message folder flags date octets) = record kept {
+  messages = kept.messages ++ record { folder = folder; flags = flags; live = true; date = date; octets = octets } ∷ [];
+}
+after kept (records.Flags message flags) = record kept { messages = change_at (with_flags flags) kept.messages message }
+after kept (records.Expunge message) = record kept { messages = change_at gone kept.messages message }
+after kept (records.Queue path addresses octets) = record kept {
+  entries = kept.entries ++ record { path = path; recipients = map waiting addresses; octets = octets } ∷ [];
+}
+after kept (records.Settle entry index) = record kept { entries = change_at (without index) kept.entries entry }
+
+-- what is kept after these records, the first of them first
+abbrev pub after_all : Kept → List Record → Kept
+after_all kept [] = kept
+after_all kept (one ∷ others) = after_all (after kept one) others
+
+abbrev pub store_of : List Record → Kept
+store_of all = after_all nothing all
+
+-- ---- what the reading calls answer
+
+-- the numbers of the messages that a folder ever had, the first of the list having this number
+abbrev pub numbers_in : ℕ → ℕ → List Message → List ℕ
+numbers_in folder at [] = []
+numbers_in folder at (message ∷ messages) =
+    if message.folder == folder then at ∷ numbers_in folder (at + 1) messages else numbers_in folder (at + 1) messages
+
+-- an account's first folder, the first of the list having this number
+abbrev pub first_folder : ℕ → ℕ → List Folder → Option ℕ
+first_folder account at [] = None
+first_folder account at (folder ∷ folders) = if folder.account == account then Some at else first_folder account (at + 1) folders
+
+-- the INBOX of an account, which is its first folder
+abbrev pub inbox_of : Kept → ℕ → Option ℕ
+inbox_of kept account = first_folder account 0 kept.folders
+
+-- one more than the number of messages that a folder ever had
+abbrev pub uid_next : Kept → ℕ → ℕ
+uid_next kept folder = count_by (λ message. message.folder == folder) kept.messages + 1
+
+-- the folder's live messages, the first of the list having this number, and the folder's next one this UID
+abbrev pub listed_from : ℕ → ℕ → ℕ → List Message → List Listed
+listed_from folder at uid [] = []
+listed_from folder at uid (message ∷ messages) =
+    if message.folder == folder
+    then (if message.live
+    then record { id = at; uid = uid; flags = message.flags } ∷ listed_from folder (at + 1) (uid + 1) messages
+    else listed_from folder (at + 1) (uid + 1) messages)
+    else listed_from folder (at + 1) uid messages
+
+abbrev pub listed : Kept → ℕ → List Listed
+listed kept folder = listed_from folder 0 1 kept.messages
+
+-- the first account of this name, the first of the list having this number
+abbrev pub first_account : List ℕ → ℕ → List Account → Option ℕ
+first_account name at [] = None
+first_account name at (account ∷ accounts) = if is_same_address name account.address then Some at else first_account name (at + 1) accounts
+
+abbrev pub has_password : Option Account → List ℕ → Bool
+has_password None password = false
+has_password (Some account) password = bytes_eq account.password password
+
+-- the account that was found, where the password is its own
+abbrev pub admitted : Kept → Option ℕ → List ℕ → Option ℕ
+admitted kept None password = None
+admitted kept (Some account) password = if has_password (slice_get kept.accounts account) password then Some account else None
+
+-- the first account of this name, where the password is its own
+abbrev pub logged_in : Kept → List ℕ → List ℕ → Option ℕ
+logged_in kept name password = admitted kept (first_account name 0 kept.accounts) password
+
+-- the first domain, or else `localhost`
+abbrev pub name_of : Kept → List ℕ
+name_of kept = slice_index_or kept.domains 0 (codes "localhost")
+
+-- what is listed of a message, a word of the private calls
+abbrev pub listed_one : Option Message → ℕ → ℕ → Option Listed
+listed_one None id uid = None
+listed_one (Some message) id uid = if message.live then Some (record { id = id; uid = uid; flags = message.flags }) else None

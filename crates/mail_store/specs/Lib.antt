@@ -1,0 +1,15 @@
+pub mod Addresses
+pub mod Grammar
+pub mod Stored
+pub mod Spelling
+pub mod Reading
+pub mod Kept
+pub mod Records
+pub mod Opening
+pub mod Unbuilt
+pub mod Answers
+pub mod StoreState
+pub mod Adding
+pub mod Names
+pub mod Store
+pub mod Replaying

@@ -1,0 +1,43 @@
+-- The whole records of a keeper's octets, what is cut behind them, and where a journal is bad.
+use Rattle.std.specs.Prelude.{◌≡◌, ◌≢◌, ◌⊎◌, ℕ, ◌<◌, ◌≤◌, List, [], ◌++◌, length, take}
+use Rattle.mail_store.specs.declared.limits.TheConstants.{RECORD_MAX}
+use Rattle.mail_store.specs.declared.records.Record.{Record}
+use Rattle.mail_store.specs.Kept.{Kept, nothing, store_of}
+use Rattle.mail_store.specs.Records.{IsRecord, AreRecords}
+use Rattle.mail_store.specs.Spelling.{number, record_text, journal, first_octets}
+
+-- a prefix of a record: fewer than four octets, or a length within the limit and fewer octets than it says
+abbrev pub IsCutShort : List ℕ → Type 0
+IsCutShort octets =
+    (length octets < 4)
+    ⊎ ((n : ℕ) × (held : List ℕ) × (0 < n) × (n ≤ RECORD_MAX) × (length held < n) × (octets ≡ number n ++ held))
+
+-- the octets are a journal of these records and a rest
+pub record BeginsWith (octets : List ℕ) (all : List Record) (rest : List ℕ) : Type 0 where
+  pub text : octets ≡ journal all ++ rest
+  pub records : AreRecords nothing all
+
+-- fewer octets than a journal begins with, and all of them such
+pub record IsBeginning (octets : List ℕ) : Type 0 where
+  pub shorter : length octets < 8
+  pub same : octets ≡ take (length octets) first_octets
+
+-- these are the whole records of the octets, which go on with a prefix of a record, or are a prefix of an empty journal
+abbrev pub HasRecords : List ℕ → List Record → Type 0
+HasRecords octets all = (IsBeginning octets × (all ≡ [])) ⊎ ((rest : List ℕ) × BeginsWith octets all rest × IsCutShort rest)
+
+-- no record begins the octets, where this is kept
+abbrev pub HasNoRecord : Kept → List ℕ → Type 0
+HasNoRecord kept octets = (one : Record) (rest : List ℕ) → IsRecord kept one → octets ≢ record_text one ++ rest
+
+-- whole records end here, and the octets from here on are no record and no prefix of one
+pub record IsBadBehind (octets : List ℕ) (all : List Record) (rest : List ℕ) : Type 0 where
+  pub whole : BeginsWith octets all rest
+  pub no_prefix : IsCutShort rest → ⊥
+  pub no_record : HasNoRecord (store_of all) rest
+
+-- the octets are no journal from here on
+abbrev pub IsBadAt : List ℕ → ℕ → Type 0
+IsBadAt octets at =
+    ((at ≡ 0) × (IsBeginning octets → ⊥) × ((rest : List ℕ) → octets ≢ first_octets ++ rest))
+    ⊎ ((all : List Record) × (rest : List ℕ) × (at ≡ length (journal all)) × IsBadBehind octets all rest)

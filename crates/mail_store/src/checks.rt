@@ -1,0 +1,31 @@
+//! Whether a record is in order, but for its addresses, its domain and its message's octets.
+ghost use Rattle.std.specs.Prelude.{◌≡◌, ◌↔◌, ◌≤◌, ◌<◌, IsTrue, length};
+ghost use Rattle.mail_store.specs.Grammar.{IsDate};
+ghost use Rattle.mail_store.specs.Records.{HasRoom};
+
+use crate::grammar::is_date;
+use crate::limits::{TEXT_MAX, THINGS_MAX};
+
+/// Whether one more thing of a kind passes no limit.
+pub fn has_room(count: usize) -> bool
+    ensures { IsTrue result ↔ HasRoom count }
+{
+    count < THINGS_MAX
+}
+
+/// Whether an account's texts are within their limits, and there is room for it and its folder.
+pub fn account_fits(address: &[u8], password: &[u8], accounts: usize, folders: usize) -> bool
+    ensures { IsTrue result ↔ ((length address.now ≤ TEXT_MAX) × (length password.now ≤ TEXT_MAX) × HasRoom accounts × HasRoom folders) }
+{
+    address.len() <= TEXT_MAX
+        && password.len() <= TEXT_MAX
+        && has_room(accounts)
+        && has_room(folders)
+}
+
+/// Whether a message's numbers and its date are in order, and there is room for it.
+pub fn message_fits(folder: u32, flags: u8, date: &[u8], folders: usize, messages: usize) -> bool
+    ensures { IsTrue result ↔ ((folder < folders) × (flags < 32) × IsDate date.now × HasRoom messages) }
+{
+    (folder as usize) < folders && flags < 32 && is_date(date) && has_room(messages)
+}

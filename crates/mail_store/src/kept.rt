@@ -1,0 +1,134 @@
+//! What the store keeps.
+ghost use Rattle.std.specs.Prelude.{◌≡◌, [], ◌∷◌, ◌++◌, OnOk, OnErr, length};
+
+use mail_wire::values::{Memory, Octets};
+use std::alloc::Global;
+use std::marker::Model;
+
+#[derive(Debug, Drop)]
+pub struct Account {
+    pub address: Octets,
+    pub password: Octets,
+}
+
+#[derive(Debug, Drop)]
+pub struct Folder {
+    pub account: u32,
+    pub name: Octets,
+}
+
+#[derive(Debug, Drop)]
+pub struct Message {
+    pub folder: u32,
+    pub flags: u8,
+    /// It isn't expunged.
+    pub live: bool,
+    pub date: Octets,
+    pub octets: Octets,
+}
+
+#[derive(Debug, Drop)]
+pub struct Recipient {
+    pub address: Octets,
+    /// It isn't settled.
+    pub waits: bool,
+}
+
+/// A list of recipients.
+#[derive(Debug, Drop)]
+pub struct Recipients {
+    recipients: Vec<Recipient>,
+}
+
+impl Model for Recipients {
+    ghost use Rattle.std.specs.Prelude.{List};
+    ghost use Rattle.mail_store.specs.declared.kept.Recipient.{Recipient};
+
+    ghost Value = { List Recipient };
+
+    ghost view = { λ a. a.recipients.items };
+}
+
+impl Recipients {
+    /// The recipients of a `Vec`, which is taken over as it is.
+    pub fn from_vec(recipients: Vec<Recipient>) -> Self
+        ensures { result ≡ recipients.items }
+    {
+        Recipients { recipients }
+    }
+
+    /// Gives the `Vec` back.
+    pub fn into_vec(self) -> Vec<Recipient>
+        ensures { result.items ≡ self }
+    {
+        self.recipients
+    }
+
+    pub fn as_slice(&self) -> &[Recipient]
+        ensures { result.now ≡ self.now }
+    {
+        &self.recipients
+    }
+}
+
+/// A message that waits for its recipients.
+#[derive(Debug, Drop)]
+pub struct Entry {
+    pub path: Octets,
+    pub recipients: Recipients,
+    pub octets: Octets,
+}
+
+/// A live message of a folder.
+#[derive(Clone, Copy, Debug, PartialEq, Eq)]
+pub struct Listed {
+    pub id: u32,
+    pub uid: u32,
+    pub flags: u8,
+}
+
+/// A list of numbers.
+#[derive(Debug, Drop)]
+pub struct Numbers {
+    numbers: Vec<u32>,
+}
+
+impl Model for Numbers {
+    ghost use Rattle.std.specs.Prelude.{List, ℕ};
+
+    ghost Value = { List ℕ };
+
+    ghost view = { λ a. a.numbers.items };
+}
+
+impl Numbers {
+    /// No numbers.
+    pub fn new(alloc: Global) -> Self
+        ensures { result ≡ [] }
+    {
+        Numbers {
+            numbers: Vec::new(alloc),
+        }
+    }
+
+    /// Puts a number last.
+    pub fn push(&mut self, number: u32) -> Result<(), Memory>
+        ensures ok { OnOk result (self.new ≡ self.old ++ number ∷ []) }
+        ensures err { OnErr result (self.new ≡ self.old) }
+    {
+        self.numbers.push(number)?;
+        Ok(())
+    }
+
+    pub fn len(&self) -> usize
+        ensures { result ≡ length self.now }
+    {
+        self.numbers.len()
+    }
+
+    pub fn as_slice(&self) -> &[u32]
+        ensures { result.now ≡ self.now }
+    {
+        &self.numbers
+    }
+}

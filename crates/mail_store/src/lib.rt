@@ -1,0 +1,18 @@
+//! The store of a mail system: accounts, domains, folders, messages and a queue, as the fold of a journal's records.
+#![tactic(auto)]
+
+mod addresses;
+mod checks;
+mod frames;
+mod grammar;
+pub mod kept;
+pub mod laws;
+pub mod limits;
+mod names;
+pub mod opening;
+mod reading;
+pub mod records;
+mod stored;
+pub mod storing;
+#[cfg(test)]
+mod tests;

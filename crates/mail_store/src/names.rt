@@ -1,0 +1,32 @@
+//! The first number of each name.
+ghost use Rattle.std.specs.Prelude.{◌≡◌, ℕ, List, OnOk, OnErr};
+ghost use Rattle.mail_store.specs.Names.{number_of, PutsName};
+
+use mail_wire::values::Memory;
+use std::alloc::Global;
+use std::collections::BTreeMap;
+
+/// Puts a number at a name, where none is there.
+pub fn put_first(
+    alloc: Global,
+    numbers: &mut BTreeMap<Vec<u8>, u32>,
+    name: &[u8],
+    number: u32,
+) -> Result<(), Memory>
+    ensures ok { OnOk result (PutsName (number_of numbers.old) (number_of numbers.new) name.now number) }
+    ensures err { OnErr result ((q : List ℕ) → number_of numbers.new q ≡ number_of numbers.old q) }
+{
+    if numbers.contains_key(name) {
+        return Ok(());
+    }
+    let key = Vec::from_slice(alloc, name)?;
+    numbers.insert(key, number)?;
+    Ok(())
+}
+
+/// The number at a name.
+pub fn number_of(numbers: &BTreeMap<Vec<u8>, u32>, name: &[u8]) -> Option<u32>
+    ensures { result ≡ number_of numbers.now name.now }
+{
+    numbers.get(name).copied()
+}

@@ -1,0 +1,199 @@
+//! The store opened from a keeper's octets.
+ghost use Rattle.std.specs.Prelude.{◌≡◌, ◌+◌, ◌≤◌, length, ◌<◌, ◌^◌, IfOk, OnOk, OnErr, IfErr, IfSome, option_map, false};
+ghost use Rattle.mail_wire.specs.Keeping.{HasKeeperCause};
+ghost use Rattle.mail_store.specs.Adding.{AddsNext, Added};
+ghost use Rattle.mail_store.specs.Answers.{open_fault, IsFold, OpensTo, IsJournalFault, LeavesRecords};
+ghost use Rattle.mail_store.specs.Kept.{nothing};
+ghost use Rattle.mail_store.specs.Replaying.{IsOutside, IsFieldsFault, fields_at, EndsAt, IsReadingFault, repaired, HalfRepairs, IsBeginningOf};
+ghost use Rattle.mail_store.specs.declared.frames.Beginning.TheVariants as beginnings;
+
+use crate::frames::{Beginning, FIRST_OCTETS, Frame, fill, frame_at, read_beginning};
+use crate::limits::{MESSAGE_MAX, RECORD_MAX};
+use crate::reading::{self, ReadFault};
+use crate::storing::Store;
+use mail_wire::keeping::Keeper;
+use mail_wire::outside::Failed;
+use std::alloc::{AllocError, Global};
+
+/// Why a store wasn't opened.
+#[derive(Clone, Copy, Debug, PartialEq, Eq)]
+pub enum OpenFault {
+    /// The keeper failed.
+    Keeper,
+    /// The octets from here on are no record and no prefix of one.
+    BadJournal { at: u64 },
+    /// The record that stands here can't be read yet.
+    NotBuilt { at: u64 },
+    /// Want of memory.
+    Memory,
+}
+
+impl From<Failed> for OpenFault {
+    ghost use Rattle.std.specs.Prelude.{◌≡◌};
+    ghost use Rattle.mail_store.specs.Answers.{open_fault};
+
+    ghost from_gives = { λ failed fault. fault ≡ open_fault failed };
+
+    fn from(failed: Failed) -> OpenFault {
+        match failed {
+            Failed::Outside => OpenFault::Keeper,
+            Failed::Memory => OpenFault::Memory,
+        }
+    }
+}
+
+impl From<AllocError> for OpenFault {
+    ghost use Rattle.mail_store.specs.declared.opening.OpenFault.TheVariants as faults;
+    ghost use Rattle.std.specs.Prelude.{◌≡◌};
+
+    ghost from_gives = { λ _ fault. fault ≡ faults.Memory };
+
+    fn from(_error: AllocError) -> OpenFault {
+        OpenFault::Memory
+    }
+}
+
+// The fields of a record are put last, or they are none.
+fn add_next(alloc: Global, store: &mut Store, fields: &[u8]) -> Result<(), ReadFault>
+    requires { length fields.now ≤ RECORD_MAX }
+    ensures { AddsNext store.old store.new result fields.now }
+{
+    let one = reading::read(alloc, fields)?;
+    store.add(one)
+}
+
+// Puts the record last whose length stands at a place.
+fn add_at<J: Keeper>(
+    alloc: Global,
+    keeper: &mut J,
+    store: &mut Store,
+    at: u64,
+    len: usize,
+    buffer: &mut Vec<u8>,
+) -> Result<(), OpenFault>
+    requires short { len ≤ RECORD_MAX }
+    requires within { IfSome (J.tells keeper.old).octets (λ octets. at + (4 + len) ≤ length octets) }
+    requires place { at + (4 + len) < 2 ^ 64 }
+    ensures added { OnOk result (Added store.old store.new buffer.new.items) }
+    ensures len { OnOk result (length buffer.new.items ≡ len) }
+    ensures fields { OnOk result (IfSome (J.tells keeper.old).octets (λ octets. buffer.new.items ≡ fields_at octets at len)) }
+    ensures fault { IfErr result (IsFieldsFault (J.tells keeper.old).octets at len store.old) }
+    ensures same { (J.tells keeper.new).octets ≡ (J.tells keeper.old).octets }
+    ensures cause { HasKeeperCause (J.tells keeper.old) (J.tells keeper.new) result OpenFault.Keeper }
+{
+    fill(keeper, at + 4, len, buffer)?;
+    match add_next(alloc, store, buffer) {
+        Ok(()) => Ok(()),
+        Err(fault) => match fault {
+            ReadFault::Memory => Err(OpenFault::Memory),
+            ReadFault::NoRecord => Err(OpenFault::BadJournal { at }),
+            ReadFault::NotBuilt => Err(OpenFault::NotBuilt { at }),
+        },
+    }
+}
+
+// Puts the journal's records last, one after the other, and says where they end.
+fn replay<J: Keeper>(
+    alloc: Global,
+    keeper: &mut J,
+    store: &mut Store,
+    had: u64,
+    buffer: &mut Vec<u8>,
+) -> Result<u64, OpenFault>
+    requires start { store.old.kept ≡ nothing }
+    requires had { IfSome (J.tells keeper.old).octets (λ octets. had ≡ length octets) }
+    requires long { 8 ≤ had }
+    requires first { IfSome (J.tells keeper.old).octets (IsBeginningOf beginnings.Journal) }
+    ensures ends { IfOk result (λ end. IfSome (J.tells keeper.old).octets (λ octets. EndsAt octets end store.new.kept)) }
+    ensures fold { OnOk result (IsFold store.new.kept) }
+    ensures within { IfOk result (λ end. end ≤ had) }
+    ensures message_max { OnOk result (store.new.message_max ≡ store.old.message_max) }
+    ensures failed { OnOk result (store.new.failed ≡ store.old.failed) }
+    ensures fault { IfErr result (λ fault. IfSome (J.tells keeper.old).octets (λ octets. IsReadingFault octets fault)) }
+    ensures same { (J.tells keeper.new).octets ≡ (J.tells keeper.old).octets }
+    ensures cause { HasKeeperCause (J.tells keeper.old) (J.tells keeper.new) result OpenFault.Keeper }
+{
+    let mut at = 8;
+    loop {
+        let len = match frame_at(keeper, at, had, buffer)? {
+            Frame::CutShort => return Ok(at),
+            Frame::Bad => return Err(OpenFault::BadJournal { at }),
+            Frame::Whole(len) => len,
+        };
+        add_at(alloc, keeper, store, at, len, buffer)?;
+        at += 4 + len as u64;
+    }
+}
+
+// The records of all the octets are put last. It says where they end, which is 0 where no journal is begun.
+fn read_all<J: Keeper>(
+    alloc: Global,
+    keeper: &mut J,
+    store: &mut Store,
+    had: u64,
+) -> Result<u64, OpenFault>
+    requires start { store.old.kept ≡ nothing }
+    requires had { IfSome (J.tells keeper.old).octets (λ octets. had ≡ length octets) }
+    ensures ends { IfOk result (λ end. IfSome (J.tells keeper.old).octets (λ octets. EndsAt octets end store.new.kept)) }
+    ensures fold { OnOk result (IsFold store.new.kept) }
+    ensures within { IfOk result (λ end. end ≤ had) }
+    ensures message_max { OnOk result (store.new.message_max ≡ store.old.message_max) }
+    ensures failed { OnOk result (store.new.failed ≡ store.old.failed) }
+    ensures fault { IfErr result (λ fault. IfSome (J.tells keeper.old).octets (λ octets. IsReadingFault octets fault)) }
+    ensures same { (J.tells keeper.new).octets ≡ (J.tells keeper.old).octets }
+    ensures cause { HasKeeperCause (J.tells keeper.old) (J.tells keeper.new) result OpenFault.Keeper }
+{
+    let mut buffer = Vec::new(alloc);
+    match read_beginning(keeper, had, &mut buffer)? {
+        Beginning::Prefix => Ok(0),
+        Beginning::Other => Err(OpenFault::BadJournal { at: 0 }),
+        Beginning::Journal => replay(alloc, keeper, store, had, &mut buffer),
+    }
+}
+
+// Cuts what is behind the records, or begins the journal.
+fn repair<J: Keeper>(keeper: &mut J, had: u64, end: u64) -> Result<(), OpenFault>
+    requires had { IfSome (J.tells keeper.old).octets (λ octets. had ≡ length octets) }
+    requires within { end ≤ had }
+    ensures repaired { OnOk result ((J.tells keeper.new).octets ≡ option_map (repaired end) (J.tells keeper.old).octets) }
+    ensures half { OnErr result (HalfRepairs end (J.tells keeper.old).octets (J.tells keeper.new).octets) }
+    ensures cause { HasKeeperCause (J.tells keeper.old) (J.tells keeper.new) result OpenFault.Keeper }
+    ensures outside { IfErr result IsOutside }
+{
+    if end < had {
+        keeper.cut(end)?;
+    }
+    if end == 0 {
+        keeper.append(&FIRST_OCTETS)?;
+    }
+    Ok(())
+}
+
+impl Store {
+    /// The store of a keeper's journal. A prefix of a record at its end is cut off; a journal is begun where none is.
+    pub fn open<J: Keeper>(
+        alloc: Global,
+        keeper: &mut J,
+        message_max: u32,
+    ) -> Result<Store, OpenFault>
+        requires { message_max ≤ MESSAGE_MAX }
+        // It keeps the fold of the whole records that were there, and the keeper holds them and nothing more.
+        ensures opens { IfOk result (λ store. IfSome (J.tells keeper.old).octets (λ old. OpensTo old (J.tells keeper.new).octets store.kept)) }
+        ensures fold { IfOk result (λ store. IsFold store.kept) }
+        ensures message_max { IfOk result (λ store. store.message_max ≡ message_max) }
+        ensures failed { IfOk result (λ store. store.failed ≡ false) }
+
+        // A bad journal is bad there, what isn't built stands there, and a fault of the keeper has its cause.
+        ensures fault { IfErr result (λ fault. IfSome (J.tells keeper.old).octets (λ old. IsJournalFault old (J.tells keeper.new).octets fault)) }
+        ensures cause { HasKeeperCause (J.tells keeper.old) (J.tells keeper.new) result OpenFault.Keeper }
+
+        // Whatever it answers, the keeper's records are the same.
+        ensures leaves { LeavesRecords (J.tells keeper.old).octets (J.tells keeper.new).octets }
+    {
+        let had = keeper.len()?;
+        let mut store = Store::new(alloc, message_max);
+        let end = read_all(alloc, keeper, &mut store, had)?;
+        repair(keeper, had, end)?;
+        Ok(store)
+    }
+}

@@ -1,0 +1,154 @@
+//! Records read from octets.
+ghost use Rattle.std.specs.Prelude.{◌≡◌};
+ghost use Rattle.mail_store.specs.declared.reading.ReadFault.TheVariants.{Memory};
+ghost use Rattle.mail_store.specs.Reading.{Gives, number_at, octet_at, list_at, ended, account_at, domain_at, message_at};
+ghost use Rattle.mail_store.specs.Adding.{Reads, ReadsKind};
+ghost use Rattle.mail_store.specs.Unbuilt.{is_later_kind};
+
+use crate::records::Record;
+use mail_wire::values::{Memory as OutOfMemory, Octets};
+use std::alloc::{AllocError, AllocFailed, Global};
+
+/// Why there is no record.
+#[derive(Clone, Copy, Debug, PartialEq, Eq)]
+pub enum ReadFault {
+    Memory,
+    /// The octets are no record.
+    NoRecord,
+    /// They are a record that isn't read yet.
+    NotBuilt,
+}
+
+impl From<AllocError> for ReadFault {
+    ghost from_gives = { λ _ e. e ≡ Memory };
+
+    fn from(_e: AllocError) -> ReadFault {
+        ReadFault::Memory
+    }
+}
+
+impl<T: Drop> From<AllocFailed<T>> for ReadFault {
+    ghost from_gives = { λ _ e. e ≡ Memory };
+
+    fn from(_e: AllocFailed<T>) -> ReadFault {
+        ReadFault::Memory
+    }
+}
+
+impl From<OutOfMemory> for ReadFault {
+    ghost from_gives = { λ _ e. e ≡ Memory };
+
+    fn from(_e: OutOfMemory) -> ReadFault {
+        ReadFault::Memory
+    }
+}
+
+fn number_of(octets: &[u8]) -> Result<(u32, &[u8]), ReadFault>
+    ensures { Gives (λ x. (x.0, x.1.now)) result (number_at octets.now) }
+{
+    if octets.len() < 4 {
+        return Err(ReadFault::NoRecord);
+    }
+    let (front, rest) = octets.split_at(4);
+    let number = u32::from_be_bytes([front[0], front[1], front[2], front[3]]);
+    Ok((number, rest))
+}
+
+fn octet_of(octets: &[u8]) -> Result<(u8, &[u8]), ReadFault>
+    ensures { Gives (λ x. (x.0, x.1.now)) result (octet_at octets.now) }
+{
+    match octets {
+        [] => Err(ReadFault::NoRecord),
+        [octet, rest @ ..] => Ok((*octet, rest)),
+    }
+}
+
+#[tactic(auto, unfolding(crate::specs::Reading::list_at))]
+fn list_of(alloc: Global, octets: &[u8]) -> Result<(Octets, &[u8]), ReadFault>
+    ensures { Gives (λ x. (x.0, x.1.now)) result (list_at octets.now) }
+{
+    let (len, rest) = number_of(octets)?;
+    let len = len as usize;
+    if rest.len() < len {
+        return Err(ReadFault::NoRecord);
+    }
+    let (list, rest) = rest.split_at(len);
+    Ok((Octets::from_slice(alloc, list)?, rest))
+}
+
+fn ended(whole: Record, rest: &[u8]) -> Result<Record, ReadFault>
+    ensures { Gives (λ x. x) result (ended whole rest.now) }
+{
+    if rest.is_empty() {
+        Ok(whole)
+    } else {
+        Err(ReadFault::NoRecord)
+    }
+}
+
+#[tactic(auto, unfolding(crate::specs::Reading::account_at))]
+fn account_of(alloc: Global, octets: &[u8]) -> Result<Record, ReadFault>
+    ensures { Gives (λ x. x) result (account_at octets.now) }
+{
+    let (address, rest) = list_of(alloc, octets)?;
+    let (password, rest) = list_of(alloc, rest)?;
+    ended(Record::Account { address, password }, rest)
+}
+
+#[tactic(auto, unfolding(crate::specs::Reading::domain_at))]
+fn domain_of(alloc: Global, octets: &[u8]) -> Result<Record, ReadFault>
+    ensures { Gives (λ x. x) result (domain_at octets.now) }
+{
+    let (name, rest) = list_of(alloc, octets)?;
+    ended(Record::Domain { name }, rest)
+}
+
+#[tactic(auto, unfolding(crate::specs::Reading::message_at))]
+fn message_of(alloc: Global, octets: &[u8]) -> Result<Record, ReadFault>
+    ensures { Gives (λ x. x) result (message_at octets.now) }
+{
+    let (folder, rest) = number_of(octets)?;
+    let (flags, rest) = octet_of(rest)?;
+    let (date, rest) = list_of(alloc, rest)?;
+    let (octets, rest) = list_of(alloc, rest)?;
+    ended(
+        Record::Message {
+            folder,
+            flags,
+            date,
+            octets,
+        },
+        rest,
+    )
+}
+
+// Whether records of this kind aren't read yet.
+#[tactic(auto, unfolding(crate::specs::Unbuilt::is_later_kind))]
+fn is_later_kind(kind: u8) -> bool
+    ensures { result ≡ is_later_kind kind }
+{
+    kind == 3 || (kind >= 5 && kind <= 8)
+}
+
+#[tactic(auto, using(crate::proofs::ReadingLemmas::no_kind))]
+fn kind_of(alloc: Global, kind: u8, octets: &[u8]) -> Result<Record, ReadFault>
+    ensures { ReadsKind result kind octets.now }
+{
+    if is_later_kind(kind) {
+        return Err(ReadFault::NotBuilt);
+    }
+    match kind {
+        1 => account_of(alloc, octets),
+        2 => domain_of(alloc, octets),
+        4 => message_of(alloc, octets),
+        _ => Err(ReadFault::NoRecord),
+    }
+}
+
+/// The record that has these fields.
+pub fn read(alloc: Global, fields: &[u8]) -> Result<Record, ReadFault>
+    ensures { Reads result fields.now }
+{
+    let (kind, rest) = octet_of(fields)?;
+    kind_of(alloc, kind, rest)
+}

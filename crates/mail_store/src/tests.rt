@@ -1,0 +1,98 @@
+//! Journals opened, and what is read from them.
+use crate::opening::OpenFault;
+use crate::storing::Store;
+use mail_wire::in_memory::Failure;
+use mail_wire::mem_keeper::MemKeeper;
+use mail_wire::values::Octets;
+use std::alloc::Global;
+use std::test::Fail;
+
+const DOMAIN: [u8; 20] = *b"\0\0\0\x10\x02\0\0\0\x0bexample.org";
+
+const ACCOUNT: [u8; 30] = *b"\0\0\0\x1a\x01\0\0\0\x0fann@example.org\0\0\0\x02pw";
+
+const MESSAGE: [u8; 69] =
+    *b"\0\0\0A\x04\0\0\0\0\0\0\0\0\x1a01-Jan-1970 00:00:00 +0000\0\0\0\x19Subject: caf\xc3\xa9 bar\r\n\r\nx\r\n";
+
+const SUBJECT: [u8; 25] = *b"Subject: caf\xc3\xa9 bar\r\n\r\nx\r\n";
+
+fn keeper_of(alloc: Global, parts: &[&[u8]], failures: Vec<Failure>) -> Result<MemKeeper, Fail> {
+    let mut octets = Octets::new(alloc);
+    for part in parts {
+        octets.push_slice(part)?;
+    }
+    Ok(MemKeeper::new(octets, failures))
+}
+
+// Why the store of this journal isn't opened.
+fn fault_of(alloc: Global, octets: &[u8]) -> Result<OpenFault, Fail> {
+    let mut keeper = keeper_of(alloc, &[b"MAILJNL1", octets], Vec::new(alloc))?;
+    match Store::open(alloc, &mut keeper, 1000) {
+        Ok(_) => Err(Fail::from("opened")),
+        Err(fault) => Ok(fault),
+    }
+}
+
+#[test]
+fn a_mailbox_is_there_again(rt: HostRuntime) -> Result<(), Fail> {
+    let alloc = rt.alloc();
+    let parts = [b"MAILJNL1".as_slice(), &DOMAIN, &ACCOUNT, &MESSAGE];
+    let mut keeper = keeper_of(alloc, &parts, Vec::new(alloc))?;
+    let store = Store::open(alloc, &mut keeper, 1000)?;
+    assert!(rt; store.name() == "example.org" && !store.failed() && store.message_max() == 1000);
+    assert_eq!(rt; store.login(b"ann@example.org", b"px")?, None);
+    assert_eq!(rt; store.login(b"ANN@example.org", b"pw")?, None);
+    let Some(account) = store.login(b"ann@example.org", b"pw")? else {
+        return Err(Fail::from("not logged in"));
+    };
+    let folder = store.inbox(account);
+    let listing = store.list(folder)?;
+    assert_eq!(rt; listing.len(), 1);
+    let one = listing[0];
+    assert!(rt; one.uid == 1 && one.flags == 0 && store.uid_next(folder) == 2);
+    assert!(rt; store.octets(one.id) == SUBJECT.as_slice());
+    assert!(rt; store.date(one.id) == b"01-Jan-1970 00:00:00 +0000".as_slice());
+    Ok(())
+}
+
+#[test]
+fn an_empty_keeper_gets_a_journal(rt: HostRuntime) -> Result<(), Fail> {
+    let mut keeper = keeper_of(rt.alloc(), &[], Vec::new(rt.alloc()))?;
+    let store = Store::open(rt.alloc(), &mut keeper, 1000)?;
+    assert!(rt; store.account_count() == 0 && store.name() == "localhost");
+    assert!(rt; keeper.octets() == b"MAILJNL1".as_slice());
+    Ok(())
+}
+
+#[test]
+fn a_cut_record_is_cut_off(rt: HostRuntime) -> Result<(), Fail> {
+    let alloc = rt.alloc();
+    let parts = [b"MAILJNL1".as_slice(), &DOMAIN, &ACCOUNT[..29]];
+    let mut keeper = keeper_of(alloc, &parts, Vec::new(alloc))?;
+    let store = Store::open(alloc, &mut keeper, 1000)?;
+    assert!(rt; store.account_count() == 0 && store.name() == "example.org");
+    assert_eq!(rt; keeper.octets().len(), 8 + DOMAIN.len());
+    Ok(())
+}
+
+#[test]
+fn bad_and_later_records_are_told(rt: HostRuntime) -> Result<(), Fail> {
+    let alloc = rt.alloc();
+    assert!(rt; fault_of(alloc, b"\0\0\0\x01\x03")? == OpenFault::NotBuilt { at: 8 });
+    assert!(rt; fault_of(alloc, b"\0\0\0\x01\x09")? == OpenFault::BadJournal { at: 8 });
+    assert!(rt; fault_of(alloc, b"\0\0\0\x06\x02\0\0\0\x01A")? == OpenFault::NotBuilt { at: 8 });
+    assert!(rt; fault_of(alloc, b"\0\0\0\x07\x02\0\0\0\x01AA")? == OpenFault::BadJournal { at: 8 });
+    Ok(())
+}
+
+#[test]
+fn each_failing_call_is_told(rt: HostRuntime) -> Result<(), Fail> {
+    let alloc = rt.alloc();
+    for call in 0..6 {
+        let failures = Vec::from_slice(alloc, &[Failure { call, kept: 3 }])?;
+        let mut keeper = keeper_of(alloc, &[b"MAILJNL1", &DOMAIN, b"\0\0\0"], failures)?;
+        let opened = Store::open(alloc, &mut keeper, 1000);
+        assert!(rt; opened.is_err_and(|fault| fault == OpenFault::Keeper) == (call < 5));
+    }
+    Ok(())
+}
