@@ -12,6 +12,7 @@ use Rattle.mail_store.specs.declared.kept.Message.{Message}
 use Rattle.mail_store.specs.declared.kept.Account.{Account}
 use Rattle.mail_store.specs.Kept.{Kept, numbers_in, first_folder, first_account}
 use Rattle.mail_store.specs.Names.{kept_first, PutsName}
+use Rattle.mail_store.specs.Stored.{IsStored}
 use Rattle.mail_store.specs.StoreState.{AreIndexes}
 
 no_none : (i : ℕ) → None ≡ Some i → ⊥
@@ -64,25 +65,26 @@ contents_push contents ms m within is f =
     ]
 
 pub AreIndexes-message : (kept : Kept) (contents : List (List ℕ)) (inboxes : List ℕ) (names : List ℕ → Option ℕ) (m : Message) → AreIndexes kept contents inboxes names
-    → m.folder < length kept.folders → length kept.messages < THINGS_MAX
+    → m.folder < length kept.folders → length kept.messages < THINGS_MAX → IsStored m.octets
     → AreIndexes (record kept { messages = kept.messages ++ m ∷ [] }) (set contents m.folder (get_or contents m.folder [] ++ length kept.messages ∷ [])) inboxes names
-AreIndexes-message kept contents inboxes names m i there room = record {
+AreIndexes-message kept contents inboxes names m i there room stored = record {
   folder_count = length-set contents m.folder _ ∙ i.folder_count;
   contents_is = contents_push contents kept.messages m (omega (arith, i.folder_count)) i.contents_is;
   account_count = i.account_count;
   inboxes_is = i.inboxes_is;
   names_is = i.names_is;
   domains_are_texts = i.domains_are_texts;
+  messages_are_stored = record { each = All-push (λ (message : Message). IsStored message.octets) kept.messages m i.messages_are_stored.each stored; };
   few_accounts = i.few_accounts;
   few_messages = omega (arith, length-append kept.messages (m ∷ []));
   few_folders = i.few_folders;
 }
 
 pub AreIndexes-message_at : (kept : Kept) (contents : List (List ℕ)) (inboxes : List ℕ) (names : List ℕ → Option ℕ) (m : Message) (n : ℕ) → AreIndexes kept contents inboxes names
-    → m.folder < length kept.folders → length kept.messages < THINGS_MAX → n ≡ length kept.messages
+    → m.folder < length kept.folders → length kept.messages < THINGS_MAX → IsStored m.octets → n ≡ length kept.messages
     → AreIndexes (record kept { messages = kept.messages ++ m ∷ [] }) (set contents m.folder (get_or contents m.folder [] ++ n ∷ [])) inboxes names
-AreIndexes-message_at kept contents inboxes names m n i there room e =
-    subst (λ (k : ℕ). AreIndexes (record kept { messages = kept.messages ++ m ∷ [] }) (set contents m.folder (get_or contents m.folder [] ++ k ∷ [])) inboxes names) (sym e) (AreIndexes-message kept contents inboxes names m i there room)
+AreIndexes-message_at kept contents inboxes names m n i there room stored e =
+    subst (λ (k : ℕ). AreIndexes (record kept { messages = kept.messages ++ m ∷ [] }) (set contents m.folder (get_or contents m.folder [] ++ k ∷ [])) inboxes names) (sym e) (AreIndexes-message kept contents inboxes names m i there room stored)
 
 -- ---- one more folder
 
@@ -159,6 +161,7 @@ AreIndexes-account kept contents inboxes names after a name i more room puts =
       ];
       names_is = λ (q : List ℕ). puts q ∙ ap (λ (o : Option ℕ). kept_first o a.address q (length kept.accounts)) (i.names_is q) ∙ ap (λ (n : ℕ). kept_first (first_account q 0 kept.accounts) a.address q n) none_before ∙ sym (first_account-push q 0 kept.accounts a);
       domains_are_texts = i.domains_are_texts;
+      messages_are_stored = i.messages_are_stored;
       few_accounts = omega (arith, length-append kept.accounts (a ∷ []));
       few_messages = i.few_messages;
       few_folders = omega (arith, length-append kept.folders (x ∷ []));
@@ -180,6 +183,7 @@ AreIndexes-domain kept contents inboxes names name i text = record {
   inboxes_is = i.inboxes_is;
   names_is = i.names_is;
   domains_are_texts = All-push IsUtf8 kept.domains name i.domains_are_texts text;
+  messages_are_stored = i.messages_are_stored;
   few_accounts = i.few_accounts;
   few_messages = i.few_messages;
   few_folders = i.few_folders;

@@ -1,9 +1,10 @@
 //! The store: what is kept, and the indexes beside it.
-ghost use Rattle.std.specs.Prelude.{◌≡◌, ◌+◌, ◌<◌, ◌∷◌, ◌++◌, [], length, IfOk, OnOk, OnErr, IfSome, false, set, slice_index_or, slice_get, Some, vec_len, vec_capacity, option_map, Bool, option_copied};
+ghost use Rattle.std.specs.Prelude.{◌≡◌, ◌+◌, ◌<◌, ◌∷◌, ◌++◌, [], length, IfOk, OnOk, OnErr, IfSome, false, set, slice_index_or, slice_get, Some, vec_len, vec_capacity, option_map, Bool, option_copied, IsUtf8};
 ghost use Rattle.std.specs.List.{All};
 ghost use Rattle.std.specs.Str.{bytes_eq};
 ghost use Rattle.mail_store.specs.declared.records.Record.TheVariants as records;
 ghost use Rattle.mail_store.specs.Adding.{AddsRecord};
+ghost use Rattle.mail_store.specs.Stored.{IsStored};
 ghost use Rattle.mail_store.specs.Kept.{nothing, inbox_of, uid_next, listed, listed_one, logged_in, name_of, has_password};
 
 use crate::addresses::{is_address_text, is_domain_text};
@@ -98,6 +99,17 @@ fn has_password(accounts: &[Account], account: u32, password: &[u8]) -> bool
         Some(account) => account.password.as_slice() == password,
         None => false,
     }
+}
+
+// The name of a store without a domain.
+const LOCALHOST: &str = "localhost";
+
+// The text of a domain.
+fn domain_text(domain: &[u8]) -> &str
+    requires { IsUtf8 domain.now }
+    ensures { result.now ≡ domain.now }
+{
+    std::str::from_utf8(domain).unwrap_or(LOCALHOST)
 }
 
 impl Store {
@@ -281,7 +293,8 @@ impl Store {
     /// A message's octets.
     pub fn octets(&self, id: u32) -> &[u8]
         requires { id < length self.now.kept.messages }
-        ensures { option_map (λ message. message.octets) (slice_get self.now.kept.messages id) ≡ Some result.now }
+        ensures octets { option_map (λ message. message.octets) (slice_get self.now.kept.messages id) ≡ Some result.now }
+        ensures stored { IsStored result.now }
     {
         let message = &self.messages[id as usize];
         message.octets.as_slice()
@@ -309,8 +322,8 @@ impl Store {
         ensures { result.now ≡ name_of self.now.kept }
     {
         match self.domains.first() {
-            Some(domain) => std::str::from_utf8(domain.as_slice()).unwrap_or("localhost"),
-            None => "localhost",
+            Some(domain) => domain_text(domain.as_slice()),
+            None => LOCALHOST,
         }
     }
 
