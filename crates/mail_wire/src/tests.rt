@@ -1,4 +1,5 @@
 //! Texts, words, wires and keepers, each public call once with ample memory.
+use crate::file_keeper::FileKeeper;
 use crate::in_memory::{Failure, MemWire};
 use crate::keeping::Keeper;
 use crate::mem_keeper::MemKeeper;
@@ -102,5 +103,24 @@ fn a_keeper_in_memory_keeps_and_fails(rt: HostRuntime) -> Result<(), Fail> {
     assert_eq!(rt; buffer, *b"cyz");
     assert_eq!(rt; keeper.cut(4), Ok(()));
     assert!(rt; keeper.octets() == b"abcy".as_slice());
+    Ok(())
+}
+
+#[test]
+fn a_keeper_over_a_file_keeps_and_counts(rt: HostRuntime) -> Result<(), Fail> {
+    let mut keeper = FileKeeper::new(rt, "journal");
+    assert_eq!(rt; keeper.len(), Ok(0));
+    assert_eq!(rt; use_keeper(&mut keeper), Ok(()));
+    assert_eq!(rt; keeper.append(b"abc"), Ok(()));
+    let mut buffer = [0; 3];
+    assert_eq!(rt; keeper.read_at(1, &mut buffer), Ok(()));
+    assert_eq!(rt; buffer, *b"zab");
+    assert_eq!(rt; keeper.cut(3), Ok(()));
+    assert_eq!(rt; FileKeeper::new(rt, "journal").len(), Ok(3));
+    assert_eq!(rt; keeper.read_at(1, &mut buffer), Err(Failed::Outside));
+    assert_eq!(rt;
+        FileKeeper::new(rt, "none/journal").len(),
+        Err(Failed::Outside)
+    );
     Ok(())
 }
