@@ -1,4 +1,5 @@
 pub mod Chunks
+pub mod AllChunks
 pub mod Octets
 pub mod BWords
 pub mod WithText

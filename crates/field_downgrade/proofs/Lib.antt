@@ -4,6 +4,7 @@ pub mod Pieces
 pub mod ReadBack
 pub mod Made
 pub mod WordLemmas
+pub mod AllWords
 pub mod LineLemmas
 pub mod SegmentLemmas
 pub mod Writing
@@ -13,3 +14,4 @@ pub mod UnbuiltLemmas
 pub mod MessageLemmas
 pub mod Rewriting
 pub mod OneLayout
+pub mod AllLayouts

@@ -11,7 +11,7 @@ use Rattle.field_downgrade.specs.Words.{Word, is_high}
 use Rattle.field_downgrade.specs.Layout.{IsCopied, begins_high, ends_high}
 use Rattle.field_downgrade.specs.Steps.{SplitsCopied, SplitsCore, BeginsCore, BeginsHigh, BeginsEncoded}
 
-not_true : (b : Bool) → not b ≡ true → b ≡ false
+pub not_true : (b : Bool) → not b ≡ true → b ≡ false
 not_true true h = cc h
 not_true false h = refl
 

@@ -121,7 +121,7 @@ both_stop (x ∷ xs) a b = by (is_word_octet x) a b
     by true a b = cc b
     by false a b = cc a
 
-word_some : (rest word after : List ℕ) → 0 < length rest → Stops is_gap_octet rest → IsSpan is_word_octet rest word after → 0 < length word
+pub word_some : (rest word after : List ℕ) → 0 < length rest → Stops is_gap_octet rest → IsSpan is_word_octet rest word after → 0 < length word
 word_some rest [] after some stops span =
     let same : after ≡ rest = sym span.whole in
     absurd (omega (arith, both_stop rest stops (subst (Stops is_word_octet) same span.stops)))

@@ -2,9 +2,10 @@
 ghost use Rattle.std.specs.Prelude.{◌≡◌, ℕ, List};
 ghost use Rattle.utf8_fields.specs.declared.block.Field.{Field};
 ghost use Rattle.utf8_fields.specs.Parts.{FieldParts, IsField};
-ghost use Rattle.field_downgrade.specs.Message.{HasMessageLayout};
+ghost use Rattle.utf8_fields.specs.Block.{HasBlock};
+ghost use Rattle.field_downgrade.specs.Message.{HasMessageLayout, IsServed, HasServedFields};
 ghost use Rattle.field_downgrade.specs.Stands.{HasFieldLayout, IsBuilt, Meaning, Means};
-ghost use Rattle.field_downgrade.specs.Unbuilt.{IsUnbuilt};
+ghost use Rattle.field_downgrade.specs.Unbuilt.{IsUnbuilt, AreBuilt};
 
 /// A field has one layout.
 pub fn layouts_are_one()
@@ -25,4 +26,12 @@ pub fn message_layouts_are_one()
 /// A field that isn't unbuilt can be rewritten.
 pub fn others_are_built()
     ensures { (octets : List ℕ) → IsField octets → ¬ IsUnbuilt octets → IsBuilt octets }
+{}
+
+/// A field that can be rewritten has a served form, which is its layout, stands for it, is ASCII and keeps its lines. So
+/// has a message, none of whose fields is unbuilt.
+pub fn served_forms_are_there()
+    ensures field { (octets : List ℕ) → IsField octets → IsBuilt octets → (made : List ℕ) × IsServed octets made }
+    ensures message { (msg : List ℕ) (fields : List Field) (end : ℕ) → HasBlock msg fields end → AreBuilt msg fields
+        → (made : List ℕ) × HasServedFields msg fields end made }
 {}

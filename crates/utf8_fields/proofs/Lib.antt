@@ -12,3 +12,4 @@ pub mod OneValue
 pub mod LineShapes
 pub mod Bodies
 pub mod HaveParts
+pub mod AllSpans

@@ -1,0 +1,163 @@
+-- Every field that can be rewritten has a served form.
+use Rattle.std.proofs.Common.{◌≡◌, ℕ, ◌≤◌, true, false, not, inl, inr, zero, suc, List, [], ◌∷◌, ◌++◌, length, map, drop, refl, sym, ap, ◌∙◌, arith}
+use Rattle.std.proofs.lemmas.Bool.{and_parts, and_from, both_ways, cases_Bool}
+use Rattle.std.proofs.lemmas.List.Elements.{All-head, All-tail}
+use Rattle.std.specs.List.{list_all, All, AllZip, concat}
+use Rattle.mail_wire.specs.Octets.{is_ascii}
+use Rattle.encoded_words.specs.Folding.{word_pieces, made_body}
+use Rattle.encoded_words.proofs.AllChunks.{AreBWords-some}
+use Rattle.utf8_fields.specs.Parts.{IsField, field_octets}
+use Rattle.utf8_fields.specs.declared.block.Field.{Field}
+use Rattle.utf8_fields.specs.Block.{HasBlock, raw_of}
+use Rattle.utf8_fields.proofs.HaveParts.{block_fields, have_parts}
+use Rattle.field_downgrade.specs.declared.segments.Side.{Side}
+use Rattle.field_downgrade.specs.declared.segments.Side.TheVariants.{Edge, Encoded, Plain}
+use Rattle.field_downgrade.specs.Words.{Word, plain_text, last_run, is_high}
+use Rattle.field_downgrade.specs.Layout.{CutsLeft, CutsRight, IsCopied, begins_high, ends_high, first_side, last_side, copied_pieces, made_of}
+use Rattle.field_downgrade.specs.Steps.{NeedsRun, SplitsCopied, SplitsCore, BeginsCore, BeginsEncoded, CanWrite, WritesSegment, WritesWords}
+use Rattle.field_downgrade.specs.Stands.{IsBuilt, IsHighField}
+use Rattle.field_downgrade.specs.Unbuilt.{IsUnbuilt, AreBuilt}
+use Rattle.field_downgrade.specs.Message.{IsServed, HasServedFields}
+use Rattle.field_downgrade.proofs.SegmentLemmas.{NotEncoded, EndsHigh, not_true}
+use Rattle.field_downgrade.proofs.Writing.{WritesOn, WritesOn-start, WritesOn-step, WritesOn-begins, WritesOn-end, WritesSegment-from, CanWrite-from, needs_left, needs_right, text_utf8, shorter}
+use Rattle.field_downgrade.proofs.UnbuiltLemmas.{IsBuilt-other}
+use Rattle.field_downgrade.proofs.Rewriting.{IsServed-from, IsServed-kept}
+use Rattle.field_downgrade.proofs.AllWords.{HasWords-some}
+
+-- The words before the first high one.
+split_copied : (ws : List Word) → (copied : List Word) × (rest : List Word) × SplitsCopied ws copied rest
+split_copied [] = ([], [], record { whole = refl; is_copied = refl; begins = tt })
+split_copied (w ∷ ws) = elim (cases_Bool (is_high w)) [
+  | inl high ↦ ([], w ∷ ws, record { whole = refl; is_copied = refl; begins = high })
+  | inr low ↦
+      let s = split_copied ws in
+      (w ∷ s.0, s.1, record { whole = ap (λ vs. w ∷ vs) s.2.whole; is_copied = and_from (not (is_high w)) (list_all (λ (v : Word). not (is_high v)) s.0) (ap not low) s.2.is_copied; begins = s.2.begins })
+]
+
+-- The words up to the last high one before an encoded word.
+record HasCore (ws : List Word) : Type 0 where
+  core : List Word
+  low : List Word
+  after : List Word
+  whole : ws ≡ core ++ (low ++ after)
+  plain : NotEncoded core
+  ends : EndsHigh core
+  is_low : IsCopied low
+  stops : BeginsEncoded after
+
+core_more : (w : Word) (ws core low after : List Word) → w.is_encoded ≡ false → ws ≡ core ++ (low ++ after) → NotEncoded core → EndsHigh core → IsCopied low → BeginsEncoded after → HasCore (w ∷ ws)
+core_more w ws [] low after plain whole all ends is_low stops = elim (cases_Bool (is_high w)) [
+  | inl high ↦ record { core = w ∷ []; low = low; after = after; whole = ap (λ vs. w ∷ vs) whole; plain = rw plain refl; ends = high; is_low = is_low; stops = stops }
+  | inr w_low ↦ record {
+    core = [];
+    low = w ∷ low;
+    after = after;
+    whole = ap (λ vs. w ∷ vs) whole;
+    plain = refl;
+    ends = tt;
+    is_low = and_from (not (is_high w)) (list_all (λ (v : Word). not (is_high v)) low) (ap not w_low) is_low;
+    stops = stops;
+  }
+]
+core_more w ws (k ∷ core) low after plain whole all ends is_low stops = record {
+  core = w ∷ k ∷ core;
+  low = low;
+  after = after;
+  whole = ap (λ vs. w ∷ vs) whole;
+  plain = and_from (not w.is_encoded) (list_all (λ (v : Word). not v.is_encoded) (k ∷ core)) (ap not plain) all;
+  ends = ends;
+  is_low = is_low;
+  stops = stops;
+}
+
+core_of : (ws : List Word) → HasCore ws
+core_of [] = record { core = []; low = []; after = []; whole = refl; plain = refl; ends = tt; is_low = refl; stops = tt }
+core_of (w ∷ ws) = elim (cases_Bool w.is_encoded) [
+  | inl encoded ↦ record { core = []; low = []; after = w ∷ ws; whole = refl; plain = refl; ends = tt; is_low = refl; stops = encoded }
+  | inr plain ↦ let c = core_of ws in core_more w ws c.core c.low c.after plain c.whole c.plain c.ends c.is_low c.stops
+]
+
+core_ends : (w : Word) (ws core low after : List Word) → BeginsCore (w ∷ ws) → w ∷ ws ≡ core ++ (low ++ after) → EndsHigh core → IsCopied low → BeginsEncoded after
+    → (begins_high core ≡ true) × (ends_high core ≡ true)
+core_ends w ws [] [] [] begins whole ends low stops = cc whole
+core_ends w ws [] [] (x ∷ after) begins whole ends low stops =
+    let same : w ≡ x = cc whole in
+    absurd (both_ways x.is_encoded (ap (λ (v : Word). v.is_encoded) (sym same) ∙ begins.1) stops)
+core_ends w ws [] (l ∷ low) after begins whole ends is_low stops =
+    let same : w ≡ l = cc whole in
+    let l_low = (and_parts (not (is_high l)) (list_all (λ (v : Word). not (is_high v)) low) is_low).0 in
+    absurd (both_ways (is_high l) (not_true (is_high l) l_low) (ap is_high (sym same) ∙ begins.0))
+core_ends w ws (k ∷ core) low after begins whole ends is_low stops = let same : w ≡ k = cc whole in (ap is_high (sym same) ∙ begins.0, ends)
+
+split_core : (w : Word) (ws : List Word) → BeginsCore (w ∷ ws) → (core : List Word) × (rest : List Word) × SplitsCore (w ∷ ws) core rest
+split_core w ws begins =
+    let c = core_of (w ∷ ws) in
+    let high = core_ends w ws c.core c.low c.after begins c.whole c.ends c.is_low c.stops in
+    (c.core, c.low ++ c.after, record { low = c.low; after = c.after; whole = c.whole; begins = high.0; ends = high.1; plain = c.plain; rest_is = refl; is_low = c.is_low; stops = c.stops })
+
+-- The parts of the runs beside a core.
+cut_left : (side : Side) (run : List ℕ) → NeedsRun side run → (part : List ℕ) × (white : ℕ) × CutsLeft side run part white
+cut_left Edge run needs = ([], 32, (refl, refl))
+cut_left Encoded run needs = (run, 32, (refl, refl))
+cut_left Plain [] needs = absurd (omega (arith, needs))
+cut_left Plain (x ∷ run) needs = (run, x, refl)
+
+cut_last : (x : ℕ) (xs : List ℕ) → (part : List ℕ) × (white : ℕ) × (x ∷ xs ≡ part ++ white ∷ [])
+cut_last x [] = ([], x, refl)
+cut_last x (y ∷ xs) = let c = cut_last y xs in (x ∷ c.0, c.1, ap (λ t. x ∷ t) c.2)
+
+cut_right : (side : Side) (run : List ℕ) → NeedsRun side run → (part : List ℕ) × (white : ℕ) × CutsRight side run part white
+cut_right Edge run needs = ([], 32, (refl, refl))
+cut_right Encoded run needs = (run, 32, (refl, refl))
+cut_right Plain [] needs = absurd (omega (arith, needs))
+cut_right Plain (x ∷ run) needs = cut_last x run
+
+segment_lines : (before core copied : List Word) (old : List ℕ) → CanWrite before core copied → (new : List ℕ) × WritesSegment before core copied old new
+segment_lines before core copied old can =
+    let left = cut_left (last_side before) (last_run before) (needs_left before core copied can) in
+    let right = cut_right (first_side copied) (last_run core) (needs_right before core copied can) in
+    let text : List ℕ = (left.0 ++ plain_text core) ++ right.0 in
+    let words = AreBWords-some text (text_utf8 before core copied left.0 right.0 left.1 right.1 can left.2 right.2) in
+    let mid : List ℕ = old ++ made_body (word_pieces left.1 words.0) in
+    let new : List ℕ = mid ++ made_body (copied_pieces right.1 copied) in (
+      new,
+      WritesSegment-from before core copied left.0 right.0 text old mid new left.1 right.1 left.2 right.2 refl (record { words = words.0; are_words = words.1; added = refl }) refl,
+    )
+
+more_lines : (n : ℕ) (words : List Word) (start made : List ℕ) (copied rest : List Word) → length rest ≤ n → WritesOn words start made copied rest → (new : List ℕ) × WritesWords words start new
+more_lines n words start made copied [] small on = (made, WritesOn-end words copied [] start made on refl)
+more_lines zero words start made copied (w ∷ rest) small on = absurd (omega (arith, small))
+more_lines (suc n) words start made copied (w ∷ rest) small on =
+    let core = split_core w rest (WritesOn-begins words copied (w ∷ rest) start made on) in
+    let next = split_copied core.1 in
+    let lines = segment_lines copied core.0 next.0 made (CanWrite-from words copied (w ∷ rest) core.0 core.1 next.0 next.1 start made on core.2 next.2) in
+    more_lines n words start lines.0 next.0 next.1 (omega (arith, small, shorter (w ∷ rest) core.0 core.1 next.0 next.1 core.2 next.2))
+    (WritesOn-step words copied (w ∷ rest) core.0 core.1 next.0 next.1 start made lines.0 on core.2 next.2 lines.1)
+
+pub IsServed-some : (octets : List ℕ) → IsField octets → IsBuilt octets → (made : List ℕ) × IsServed octets made
+IsServed-some octets is_any built = elim (cases_Bool (list_all is_ascii octets)) [
+  | inl ascii ↦ (octets, IsServed-kept octets is_any ascii)
+  | inr other ↦
+      let f = is_any.parts in
+      let high : IsHighField octets f = record { is_field = is_any.has_parts; high = other } in
+      let words = HasWords-some f.body is_any.has_parts.body is_any.has_parts.utf8 in
+      let copied = split_copied words.0 in
+      let first : List ℕ = made_body (copied_pieces 32 copied.0) in
+      let lines = more_lines (length copied.1) words.0 [] first copied.0 copied.1 (omega arith) (WritesOn-start words.0 copied.0 copied.1 [] first words.1.are_words words.2 copied.2 refl) in
+      let made : List ℕ = field_octets (made_of f lines.1.pieces) in
+      (made, IsServed-from octets made f high (built f high) (record { words = words.0; pieces = lines.1.pieces; has_words = words.1; are_utf8 = words.2; have_pieces = lines.1.have; made_is = refl }))
+]
+
+-- The same for each field of a message.
+made_fields : (msg : List ℕ) (fields : List Field) → All (λ field. IsField (raw_of msg field)) fields → AreBuilt msg fields → (header : List (List ℕ)) × AllZip IsServed (map (raw_of msg) fields) header
+made_fields msg [] are built = ([], tt)
+made_fields msg (field ∷ fields) are built =
+    let first = IsServed-some (raw_of msg field) (All-head (λ field. IsField (raw_of msg field)) field fields are)
+    (IsBuilt-other (raw_of msg field) (All-head (λ field. ¬ (IsUnbuilt (raw_of msg field))) field fields built)) in
+    let more = made_fields msg fields (All-tail (λ field. IsField (raw_of msg field)) field fields are) (All-tail (λ field. ¬ (IsUnbuilt (raw_of msg field))) field fields built) in
+    (first.0 ∷ more.0, (first.1, more.1))
+
+pub HasServedFields-some : (msg : List ℕ) (fields : List Field) (end : ℕ) → HasBlock msg fields end → AreBuilt msg fields → (made : List ℕ) × HasServedFields msg fields end made
+HasServedFields-some msg fields end block built =
+    let header = made_fields msg fields (have_parts msg fields (block_fields msg 0 fields end (omega arith) block)) built in
+    (concat header.0 ++ drop end msg, record { header = header.0; each = header.1; whole = refl })
