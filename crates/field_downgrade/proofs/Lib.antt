@@ -15,3 +15,4 @@ pub mod MessageLemmas
 pub mod Rewriting
 pub mod OneLayout
 pub mod AllLayouts
+pub mod GivenLayouts

@@ -1,8 +1,18 @@
 //! What holds of what every session is served.
 ghost use Rattle.std.specs.Prelude.{◌≡◌, ℕ, List};
-ghost use Rattle.surrogate_cache.specs.Served.{Mode, IsServed};
+ghost use Rattle.surrogate_cache.specs.Served.{Mode, IsServed, IsServable, IsSurrogate, GivesSurrogates};
 
 /// In each mode a message is served in one form at most.
 pub fn one_served_form()
     ensures { (mode : Mode) (msg shown other : List ℕ) → IsServed mode msg shown → IsServed mode msg other → shown ≡ other }
+{}
+
+/// Every message that can be served to a legacy session has a surrogate.
+pub fn surrogates_are_there()
+    ensures { (msg : List ℕ) → IsServable msg → (made : List ℕ) × IsSurrogate msg made }
+{}
+
+/// There is a function that gives surrogates, so what is said of every such function is said of one.
+pub fn surrogates_are_given()
+    ensures { (surrogate : List ℕ → List ℕ) × GivesSurrogates surrogate }
 {}

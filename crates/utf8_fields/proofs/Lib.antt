@@ -13,3 +13,4 @@ pub mod LineShapes
 pub mod Bodies
 pub mod HaveParts
 pub mod AllSpans
+pub mod DecidingBlocks

@@ -21,7 +21,7 @@ field_not_empty (x ∷ name) line begins empty =
     let clash : false ≡ true = rw (← same) at octet in cc
 
 -- the lines of fields, and then nothing or an empty line, don't begin with white
-fields_end : (lines rest : List (List ℕ)) (start end : ℕ) (fields : List Field) → AreFields lines start fields end → EndsBlock rest → EndsField (lines ++ rest)
+pub fields_end : (lines rest : List (List ℕ)) (start end : ℕ) (fields : List Field) → AreFields lines start fields end → EndsBlock rest → EndsField (lines ++ rest)
 fields_end lines rest start end [] done ends = rw done.0 (ends_field rest ends)
   where
     ends_field : (rest : List (List ℕ)) → EndsBlock rest → EndsField rest
@@ -30,7 +30,7 @@ fields_end lines rest start end [] done ends = rw done.0 (ends_field rest ends)
 fields_end lines rest start end (field ∷ fields) done ends = rw done.3 (field_not_white (take field.name.len done.0) done.0 done.4.begins)
 
 -- further lines are those up to the first that isn't white
-same_further : (more more' rest rest' : List (List ℕ)) → more ++ rest ≡ more' ++ rest' → All BeginsWhite more → All BeginsWhite more' → EndsField rest → EndsField rest'
+pub same_further : (more more' rest rest' : List (List ℕ)) → more ++ rest ≡ more' ++ rest' → All BeginsWhite more → All BeginsWhite more' → EndsField rest → EndsField rest'
     → (more ≡ more') × (rest ≡ rest')
 same_further [] [] rest rest' same white white' ends ends' = (refl, same)
 same_further [] (line ∷ more') rest rest' same white white' ends ends' =
