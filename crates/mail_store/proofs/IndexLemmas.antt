@@ -74,7 +74,7 @@ AreIndexes-message kept contents inboxes names m i there room stored = record {
   inboxes_is = i.inboxes_is;
   names_is = i.names_is;
   domains_are_texts = i.domains_are_texts;
-  messages_are_stored = record { each = All-push (λ (message : Message). IsStored message.octets) kept.messages m i.messages_are_stored.each stored; };
+  messages_are_stored = record { each = All-push (λ (message : Message). IsStored message.octets) kept.messages m i.messages_are_stored.each stored };
   few_accounts = i.few_accounts;
   few_messages = omega (arith, length-append kept.messages (m ∷ []));
   few_folders = i.few_folders;

@@ -11,3 +11,4 @@ pub mod NameLemmas
 pub mod Next
 pub mod Readings
 pub mod ReplayLemmas
+pub mod WritingLemmas

@@ -13,3 +13,4 @@ pub mod Adding
 pub mod Names
 pub mod Store
 pub mod Replaying
+pub mod Writing

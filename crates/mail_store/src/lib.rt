@@ -16,3 +16,4 @@ mod stored;
 pub mod storing;
 #[cfg(test)]
 mod tests;
+pub mod writing;

@@ -1,6 +1,8 @@
 //! Journals opened, and what is read from them.
 use crate::opening::OpenFault;
+use crate::records::{Record, Texts};
 use crate::storing::Store;
+use crate::writing::push_record;
 use mail_wire::in_memory::Failure;
 use mail_wire::mem_keeper::MemKeeper;
 use mail_wire::values::Octets;
@@ -94,5 +96,70 @@ fn each_failing_call_is_told(rt: HostRuntime) -> Result<(), Fail> {
         let opened = Store::open(alloc, &mut keeper, 1000);
         assert!(rt; opened.is_err_and(|fault| fault == OpenFault::Keeper) == (call < 5));
     }
+    Ok(())
+}
+
+#[test]
+fn written_records_are_opened(rt: HostRuntime) -> Result<(), Fail> {
+    let alloc = rt.alloc();
+    let domain = Record::Domain {
+        name: Octets::from_slice(alloc, b"example.org")?,
+    };
+    let account = Record::Account {
+        address: Octets::from_slice(alloc, b"ann@example.org")?,
+        password: Octets::from_slice(alloc, b"pw")?,
+    };
+    let message = Record::Message {
+        folder: 0,
+        flags: 0,
+        date: Octets::from_slice(alloc, b"01-Jan-1970 00:00:00 +0000")?,
+        octets: Octets::from_slice(alloc, &SUBJECT)?,
+    };
+    let mut journal = Octets::from_slice(alloc, b"MAILJNL1")?;
+    push_record(&mut journal, &domain)?;
+    push_record(&mut journal, &account)?;
+    push_record(&mut journal, &message)?;
+    let mut keeper = MemKeeper::new(journal, Vec::new(alloc));
+    let store = Store::open(alloc, &mut keeper, 1000)?;
+    assert!(rt; store.name() == "example.org" && store.message_count() == 1);
+    let written = keeper_of(
+        alloc,
+        &[b"MAILJNL1", &DOMAIN, &ACCOUNT, &MESSAGE],
+        Vec::new(alloc),
+    )?;
+    assert!(rt; keeper.octets() == written.octets());
+    Ok(())
+}
+
+#[test]
+fn later_kinds_are_written(rt: HostRuntime) -> Result<(), Fail> {
+    let alloc = rt.alloc();
+    let mut addresses = Vec::new(alloc);
+    addresses.push(Octets::from_slice(alloc, b"b")?)?;
+    addresses.push(Octets::from_slice(alloc, b"cd")?)?;
+    let queue = Record::Queue {
+        path: Octets::new(alloc),
+        addresses: Texts::from_vec(addresses),
+        octets: Octets::from_slice(alloc, b"x")?,
+    };
+    let folder = Record::Folder {
+        account: 258,
+        name: Octets::from_slice(alloc, b"f")?,
+    };
+    let mut journal = Octets::new(alloc);
+    push_record(&mut journal, &folder)?;
+    push_record(
+        &mut journal,
+        &Record::Flags {
+            message: 1,
+            flags: 3,
+        },
+    )?;
+    push_record(&mut journal, &Record::Expunge { message: 2 })?;
+    push_record(&mut journal, &queue)?;
+    push_record(&mut journal, &Record::Settle { entry: 0, index: 1 })?;
+    let text =
+        b"\0\0\0\x0a\x03\0\0\x01\x02\0\0\0\x01f\0\0\0\x06\x05\0\0\0\x01\x03\0\0\0\x05\x06\0\0\0\x02\0\0\0\x19\x07\0\0\0\0\0\0\0\x02\0\0\0\x01b\0\0\0\x02cd\0\0\0\x01x\0\0\0\x09\x08\0\0\0\0\0\0\0\x01";
+    assert!(rt; journal.as_slice() == text.as_slice());
     Ok(())
 }
