@@ -40,16 +40,16 @@ class Program:
         self.path = os.path.abspath(path)
         self.folder = tempfile.TemporaryDirectory(prefix="dervlask-acceptance-")
 
-    def run(self, words, octets, stdout=subprocess.PIPE, preexec=None):
+    def run(self, words, octets, **how):
         """Exit status and what was written, for these words and this standard input."""
         with tempfile.NamedTemporaryFile(dir=self.folder.name) as file:
             file.write(octets)
             file.flush()
             with open(file.name, "rb") as stdin:
-                return self.run_on(words, stdin, stdout, preexec)
+                return self.run_on(words, stdin, **how)
 
-    def run_on(self, words, stdin, stdout=subprocess.PIPE, preexec=None):
-        how = {"stdin": stdin, "stdout": stdout, "stderr": subprocess.PIPE, "cwd": self.folder.name}
+    def run_on(self, words, stdin, stdout=subprocess.PIPE, preexec=None, cwd=None):
+        how = {"stdin": stdin, "stdout": stdout, "stderr": subprocess.PIPE, "cwd": cwd or self.folder.name}
         ran = subprocess.run([self.path, *words], timeout=SECONDS, preexec_fn=preexec, **how)
         if ran.stderr:
             print(f"note: the program wrote to standard error: {show(ran.stderr)}", file=sys.stderr)

@@ -55,7 +55,11 @@ def outcome(words, octets):
         if is_unbuilt(raw):
             return 10, b"not built at %d\r\n" % at
         at += len(raw)
-    return 0, b"".join(map(surrogate_field, fields)) + rest
+    return 0, surrogate(fields, rest)
+
+
+def surrogate(fields, rest):
+    return b"".join(map(surrogate_field, fields)) + rest
 
 
 def is_sound(octets):
@@ -70,18 +74,25 @@ def read_mail(octets):
         raise Refused
     if octets and not octets.endswith(b"\r\n"):
         raise Refused
+    return read_block(octets)
+
+
+def read_block(octets):
+    """The raw fields of octets that begin with a header block, and the rest, whatever it holds. The last line may lack its CRLF."""
     fields, at = [], 0
     while at < len(octets) and not octets.startswith(b"\r\n", at):
-        end = octets.index(b"\r\n", at) + 2
-        line = octets[at:end]
+        end = octets.find(b"\r\n", at) + 2
+        line = octets[at:end] if end > 1 else octets[at:]
         check_utf8(line)
+        if not is_sound(line):
+            raise Refused
         if line[:1] in (b" ", b"\t") and fields:
             fields[-1] += line
         elif FIELD.match(line):
             fields.append(line)
         else:
             raise Refused
-        at = end
+        at += len(line)
     return fields, octets[at:]
 
 
@@ -93,13 +104,14 @@ def check_utf8(line):
 
 
 def parts_of(raw):
-    """Name and body of a field that ends with CRLF."""
+    """Name, body and ending of a field."""
     name, body = FIELD.match(raw).groups()
-    return name, body[:-2]
+    ending = b"\r\n" if body.endswith(b"\r\n") else b""
+    return name, body.removesuffix(ending), ending
 
 
 def is_unbuilt(raw):
-    name, body = parts_of(raw)
+    name, body, _ = parts_of(raw)
     if name.lower() == b"content-type":
         return True
     if raw.isascii():
@@ -110,8 +122,8 @@ def is_unbuilt(raw):
 def surrogate_field(raw):
     if raw.isascii():
         return raw
-    name, body = parts_of(raw)
-    return name + b":" + b"".join(b"\r\n" + piece for piece in pieces_of(body)) + b"\r\n"
+    name, body, ending = parts_of(raw)
+    return name + b":" + b"".join(b"\r\n" + piece for piece in pieces_of(body)) + ending
 
 
 def pieces_of(body):

@@ -1,0 +1,222 @@
+"""Rows of POP3 that are written out: a journal and lines in, replies, a status and a journal out."""
+
+import os
+import subprocess
+import tempfile
+
+import paths
+from harness import differs, in_lanes
+from journal import FIRST_OCTETS, account, domain, journal, mailbox, message
+from pop_oracle import outcome
+from rows import CAFE, little_memory
+from talk import JOURNAL, all_cuts, answer_faults, joined, run_whole
+
+READY = ["+OK ready"]
+LOGIN = ["USER ann@example.org", "PASS pw"]
+LOGGED_IN = ["+OK ready", "+OK", "+OK"]
+ANN = mailbox([])
+TWO = journal(domain(b"example.org"), account(b"ann@example.org", b"pw"), account(b"bob@example.org", b""), message(1, b"A: b\r\n"))
+DOTS = mailbox([b"A: b\r\n\r\n.\r\n..\r\nx.\r\n\r\n.x"])
+SESSION_MAX = 1 << 30
+LINE_MAX = 65_536
+
+
+def octets_of(lines):
+    return "".join(line + "\r\n" for line in lines).encode()
+
+
+def of_sessions():
+    """Name, journal, lines of the client, and replies."""
+    cafe = mailbox([CAFE])
+    return [
+        ("café bar to a legacy client", cafe, [*LOGIN, "UTF8", "STAT", "LIST 1", "QUIT"],
+            [*LOGGED_IN, "-ERR out of order", "+OK 1 44", "+OK 1 44", "+OK bye"]),
+        ("café bar to an enabled client", cafe, ["UTF8", *LOGIN, "UTF8", "STAT", "LIST 1", "QUIT"],
+            ["+OK ready", "+OK", "+OK", "+OK", "-ERR out of order", "+OK 1 25", "+OK 1 25", "+OK bye"]),
+        ("café bar retrieved by a legacy client", cafe, [*LOGIN, "RETR 1"],
+            [*LOGGED_IN, "+OK", "Subject:", " =?UTF-8?B?Y2Fmw6k=?=", " bar", "", "x", "."]),
+        ("café bar retrieved by an enabled client", cafe, ["UTF8", *LOGIN, "RETR 1"],
+            ["+OK ready", "+OK", "+OK", "+OK", "+OK", "Subject: café bar", "", "x", "."]),
+        ("UTF8 twice", cafe, ["utf8", "Utf8", *LOGIN, "STAT"], ["+OK ready", "+OK", "+OK", "+OK", "+OK", "+OK 1 25"]),
+        ("no input", ANN, [], READY),
+        ("a second QUIT", ANN, ["QUIT", "QUIT"], ["+OK ready", "+OK bye"]),
+        ("what stands behind QUIT", ANN, [*LOGIN, "QUIT", "STAT", "x" * 70_000], [*LOGGED_IN, "+OK bye"]),
+        ("an account without messages", ANN, [*LOGIN, "STAT", "LIST", "LIST 1", "RETR 1"],
+            [*LOGGED_IN, "+OK 0 0", "+OK", ".", "-ERR no such message", "-ERR no such message"]),
+        ("an account without a password", TWO, ["USER bob@example.org", "PASS ", "STAT"], [*LOGGED_IN, "+OK 1 6"]),
+        ("a wrong password, and USER is forgotten", ANN, ["USER ann@example.org", "PASS PW", "PASS pw", *LOGIN],
+            ["+OK ready", "+OK", "-ERR no", "-ERR out of order", "+OK", "+OK"]),
+        ("a password has its white", ANN, ["USER ann@example.org", "PASS  pw", *LOGIN[:1], "PASS pw ", *LOGIN],
+            ["+OK ready", "+OK", "-ERR no", "+OK", "-ERR no", "+OK", "+OK"]),
+        ("a second USER replaces the first", ANN, ["USER x", *LOGIN], ["+OK ready", "+OK", "+OK", "+OK"]),
+        ("a name has its case", ANN, ["USER Ann@example.org", "PASS pw"], ["+OK ready", "+OK", "-ERR no"]),
+        ("keywords in any case", ANN, ["uSer ann@example.org", "pass pw", "stAT", "list", "qUIt"],
+            [*LOGGED_IN, "+OK 0 0", "+OK", ".", "+OK bye"]),
+        ("before the login", cafe, ["STAT", "LIST", "LIST 1", "RETR 1", "PASS pw", "STAT x", "RETR", "QUIT"],
+            [*READY, *["-ERR out of order"] * 7, "+OK bye"]),
+        ("behind the login", cafe, [*LOGIN, *LOGIN, "UTF8", "USER", "PASS", "UTF8 x"], [*LOGGED_IN, *["-ERR out of order"] * 6]),
+        ("commands that aren't built", ANN, ["CAPA", "NOOP", "", " ", "APOP a b", *LOGIN, "TOP 1 0", "DELE 1", "UIDL", "RSET", "NOOP"],
+            [*READY, *["-ERR syntax"] * 5, "+OK", "+OK", *["-ERR syntax"] * 5]),
+        ("arguments that are wrong", cafe, ["USER", "USER ", "PASS", "UTF8 ", "UTF8 x", "QUIT ", "QUIT x", *LOGIN, "STAT ", "STAT 1",
+            "LIST ", "LIST x", "LIST 1 ", "LIST  1", "LIST -1", "RETR", "RETR ", "RETR +1", "RETR 1 1", "RETR\t1", "QUIT 1"],
+            [*READY, *["-ERR syntax"] * 7, "+OK", "+OK", *["-ERR syntax"] * 13]),
+        ("numbers", cafe, [*LOGIN, "LIST 0", "LIST 2", "LIST 0001", "RETR 18446744073709551617", "LIST " + "9" * 5000, "LIST " + "0" * 5000 + "1"],
+            [*LOGGED_IN, "-ERR no such message", "-ERR no such message", "+OK 1 44", "-ERR no such message", "-ERR no such message", "+OK 1 44"]),
+        ("dots, and a last line without CRLF", DOTS, [*LOGIN, "STAT", "RETR 1"],
+            [*LOGGED_IN, "+OK 1 23", "+OK", "A: b", "", "..", "...", "x.", "", "..x", "."]),
+        ("a message without octets", mailbox([b""]), [*LOGIN, "STAT", "RETR 1"], [*LOGGED_IN, "+OK 1 0", "+OK", "", "."]),
+        ("the first of two accounts of one name", journal(account(b"a@b", b"1"), account(b"a@b", b"2"), message(1, b"A: b\r\n")),
+            ["USER a@b", "PASS 2", "USER a@b", "PASS 1", "STAT"], ["+OK ready", "+OK", "-ERR no", "+OK", "+OK", "+OK 0 0"]),
+        ("a line of 65,536 octets", ANN, ["x" * (LINE_MAX - 2), "QUIT"], [*READY, "-ERR syntax", "+OK bye"]),
+        ("a line of 65,537 octets", ANN, ["x" * (LINE_MAX - 1), "QUIT"], [*READY, "-ERR line too long"]),
+    ]
+
+
+def of_octets():
+    """Name, journal, octets of the client, and octets of the replies."""
+    too_long = b"+OK ready\r\n-ERR line too long\r\n"
+    return [
+        ("NOO without its end", ANN, b"NOO", b"+OK ready\r\n"),
+        ("QUIT without its LF", ANN, b"QUIT\r", b"+OK ready\r\n"),
+        ("LF and CR that end no line", ANN, b"QUIT\nQUIT\rQUIT\r\n", b"+OK ready\r\n-ERR syntax\r\n"),
+        ("octets that aren't UTF-8", ANN, b"\xff\xfe\r\nUSER \xff\r\nPASS \xff\r\n\0\r\n", b"+OK ready\r\n-ERR syntax\r\n+OK\r\n-ERR no\r\n-ERR syntax\r\n"),
+        ("65,536 octets without an end", ANN, b"x" * LINE_MAX, b"+OK ready\r\n"),
+        ("65,537 octets without an end", ANN, b"x" * (LINE_MAX + 1), too_long),
+        ("CR as octet 65,536", ANN, b"x" * (LINE_MAX - 1) + b"\r\nQUIT\r\n", too_long),
+    ]
+
+
+def of_journals():
+    """Name, journal, status, line, and the journal then. The input is `QUIT`."""
+    opens = (0, b"+OK ready\r\n+OK bye\r\n")
+    refused = lambda name, octets, status, line: (name, octets, status, line + b"\r\n", octets)
+    record = bytes.fromhex
+    unbuilt = ((kind, b"not built at 8", 10) for kind in (3, 5, 6, 7, 8))
+    unknown = ((kind, b"bad journal at 8", 5) for kind in (0, 9, 255))
+    return [
+        ("no journal", None, *opens, FIRST_OCTETS),
+        ("an empty journal", b"", *opens, FIRST_OCTETS),
+        ("a prefix of the first octets", b"MAILJN", *opens, FIRST_OCTETS),
+        ("the first octets alone", FIRST_OCTETS, *opens, FIRST_OCTETS),
+        ("ten octets", FIRST_OCTETS + b"\0\0", *opens, FIRST_OCTETS),
+        ("a record cut off", ANN[:-1], *opens, journal(domain(b"example.org"))),
+        ("a record of an unknown kind cut off", FIRST_OCTETS + record("0000000209"), *opens, FIRST_OCTETS),
+        ("a length alone", FIRST_OCTETS + record("04000000"), *opens, FIRST_OCTETS),
+        refused("other octets", b"MAILJNL2", 5, b"bad journal at 0"),
+        refused("one other octet", b"m", 5, b"bad journal at 0"),
+        refused("a length of 0", FIRST_OCTETS + record("00000000"), 5, b"bad journal at 8"),
+        refused("a length above 67,108,864", FIRST_OCTETS + record("04000001"), 5, b"bad journal at 8"),
+        *(refused(f"the kind {kind}", FIRST_OCTETS + record("00000001") + bytes([kind]), status, line) for kind, line, status in (*unbuilt, *unknown)),
+        refused("an address of capitals", journal(account(b"Ann@example.org", b"pw")), 10, b"not built at 8"),
+        refused("a domain with a hyphen", journal(domain(b"x-y.org")), 10, b"not built at 8"),
+        refused("an octet behind the fields", journal(b"\0\0\0\x07\x02\0\0\0\1xx"), 5, b"bad journal at 8"),
+        refused("a message of no folder", journal(message(0, b"A: b\r\n")), 5, b"bad journal at 8"),
+        refused("flags above 31", ANN + message(0, b"A: b\r\n", flags=32), 5, b"bad journal at %d" % len(ANN)),
+        refused("a date of one digit", ANN + message(0, b"A: b\r\n", date=b"1-Jan-1970 00:00:00 +0000"), 5, b"bad journal at %d" % len(ANN)),
+        ("a date of a space, and months in any case", ANN + message(0, b"A: b\r\n", flags=31, date=b" 9-jUN-0000 99:99:99 -9999"), *opens,
+            ANN + message(0, b"A: b\r\n", flags=31, date=b" 9-jUN-0000 99:99:99 -9999")),
+        refused("a line that is no field", ANN + message(0, b"x\r\n"), 5, b"bad journal at %d" % len(ANN)),
+        refused("a bare LF in the body", ANN + message(0, b"A: b\r\n\r\nx\n"), 5, b"bad journal at %d" % len(ANN)),
+        refused("an address field", ANN + message(0, "To: é\r\n".encode()), 10, b"not built at %d" % len(ANN)),
+        refused("an address field in no folder", ANN + message(9, "To: é\r\n".encode(), flags=99), 10, b"not built at %d" % len(ANN)),
+        refused("the first of two faults", ANN + domain(b"-") + b"\0\0\0\1\x09", 10, b"not built at %d" % len(ANN)),
+    ]
+
+
+def rows():
+    """Name, journal, input, and what is wanted: status, octets and journal."""
+    for name, octets, lines, replies in of_sessions():
+        yield name, octets, octets_of(lines), (0, octets_of(replies), octets)
+    for name, octets, given, wanted in of_octets():
+        yield name, octets, given, (0, wanted, octets)
+    for name, octets, status, line, after in of_journals():
+        yield name, octets, b"QUIT\r\n", (status, line, after)
+
+
+def check_rows(program, tally):
+    def one(row):
+        _, octets, given, wanted = row
+        status, due, after = outcome(octets or b"", given)
+        faults = [f"oracle: {fault}" for fault in answer_faults((status, joined(due), after), wanted)]
+        return faults + all_cuts(program, octets, given, wanted, due, [1])
+
+    cases = list(rows())
+    for row, faults in zip(cases, in_lanes(one, cases)):
+        tally.note(f"POP3: {row[0]}", faults)
+
+
+def status_in(program, folder, octets=b"QUIT\r\n", **how):
+    return program.run([b"pop"], octets, cwd=folder, **how)
+
+
+def of_the_outside(program, tally):
+    """Rows where standard output, standard input, the journal or memory fails."""
+    with tempfile.TemporaryDirectory(dir=program.folder.name) as folder:
+        with open("/dev/full", "wb") as full:
+            tally.note("POP3: standard output is full", differs("status", status_in(program, folder, stdout=full)[0], 1))
+        unreadable = os.open(folder, os.O_RDONLY)
+        found = program.run_on([b"pop"], unreadable, cwd=folder)
+        os.close(unreadable)
+        tally.note("POP3: standard input can't be read", differs("answer", found, (1, b"+OK ready\r\n")))
+    for name, place in (("a folder", os.mkdir), ("a full device", lambda path: os.symlink("/dev/full", path))):
+        with tempfile.TemporaryDirectory(dir=program.folder.name) as folder:
+            place(os.path.join(folder, JOURNAL))
+            tally.note(f"POP3: the journal is {name}", differs("answer", status_in(program, folder), (2, b"")))
+    large = mailbox([b"A: b\r\n\r\n" + b"x" * (32 << 20)])
+    found = run_whole(program, large, b"QUIT\r\n", preexec=little_memory)
+    tally.note("POP3: want of memory", differs("answer", found[:2], (3, b"")) + differs("journal", found[2] == large, True))
+
+
+def of_words(program, tally):
+    """Wrong words, and those of another command, leave the journal alone."""
+    for words in ([b"pop", b"pop"], [b"POP"], [b"pop", b""], [b"pop3"]):
+        with tempfile.TemporaryDirectory(dir=program.folder.name) as folder:
+            found = program.run(words, b"QUIT\r\n", cwd=folder)
+            faults = differs("answer", found, (4, b"words refused\r\n")) + differs("files", os.listdir(folder), [])
+        tally.note(f"the words {words}", faults)
+    with tempfile.TemporaryDirectory(dir=program.folder.name) as folder:
+        program.run([b"downgrade"], CAFE, cwd=folder)
+        tally.note("downgrade makes no journal", differs("files", os.listdir(folder), []))
+
+
+def of_the_limit(program, tally):
+    """Sessions of 1,073,741,824 octets: lines of 65,536 octets, and the end."""
+    line = b"x" * (LINE_MAX - 2) + b"\r\n"
+    most = SESSION_MAX - len(line)
+    cases = [
+        ("the session limit", b"y" * LINE_MAX, 6, b""),
+        ("the session limit, as a line ends", line, 6, b"-ERR syntax\r\n"),
+        ("one octet below the session limit", b"y" * (LINE_MAX - 1), 0, b""),
+        ("QUIT as the session limit comes", b"x" * (LINE_MAX - 8) + b"\r\nQUIT\r\n", 0, b"-ERR syntax\r\n+OK bye\r\n"),
+    ]
+
+    def one(case):
+        _, last, status, reply = case
+        wanted = b"+OK ready\r\n" + b"-ERR syntax\r\n" * (most // len(line)) + reply
+        return differs("answer", run_long(program, line, most // len(line), last), (status, wanted))
+
+    for case, faults in zip(cases, in_lanes(one, cases)):
+        tally.note(f"POP3: {case[0]}", faults)
+
+
+def run_long(program, line, count, last):
+    """Status and octets where so many lines and a last one come through a pipe."""
+    with tempfile.TemporaryDirectory(dir=program.folder.name) as folder, tempfile.TemporaryFile(dir=folder) as out:
+        how = {"stdin": subprocess.PIPE, "stdout": out, "cwd": folder}
+        with subprocess.Popen([program.path, b"pop"], **how) as running:
+            try:
+                for _ in range(count):
+                    running.stdin.write(line)
+                running.stdin.write(last)
+                running.stdin.close()
+            except BrokenPipeError:
+                pass
+        out.seek(0)
+        return running.returncode, out.read()
+
+
+def check(program, tally):
+    check_rows(program, tally)
+    of_words(program, tally)
+    of_the_outside(program, tally)
+    of_the_limit(program, tally)

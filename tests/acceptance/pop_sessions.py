@@ -1,0 +1,102 @@
+"""Random sessions over random mailboxes, and random damage of their journals: all is as the oracle has it, however it is cut."""
+
+import random
+
+import generated
+import paths
+from harness import in_lanes
+from journal import account, domain, journal, message
+from pop_oracle import outcome
+from talk import all_cuts, joined
+
+SEED = 6856
+SESSIONS = 300
+JOURNALS = 300
+
+NAMES = [b"ann@example.org", b"b@x", b"a.b@x.org", b"0@0.0"]
+PASSWORDS = [b"", b"pw", b" p w ", b"\xff\x00", "pässword".encode(), b"p\rw", b"p\nw"]
+BUILT = [b"", b"\r\n", b"\r\n.", b"A: b", b"A: b\r\n\r\n.\r\n..\r\n\r\n.", b"A: b\r\n\r\n" + b".\r\n" * 400, "X: \u00e9".encode(), b"A: b\r\n\r\n\r\n\r\n"]
+UNBUILT = ["To: é\r\n".encode(), b"Content-Type: text/plain\r\n\r\nx\r\n", "A: b\r\n é\r\n".encode(), "Subject: =?é\r\n\r\n\0".encode()]
+FAULTY = [b"x", b" a: b\r\n", b"A: b\r", b"A: b\r\n\r\nx\n", b"A: \xff\r\n", b"A: b\r\n\r\n\0"]
+WORDS = [b"USER", b"PASS", b"UTF8", b"STAT", b"LIST", b"RETR", b"QUIT", b"CAPA", b"NOOP", b"TOP", b"DELE", b"", b"LISTS", b"RET"]
+ARGUMENTS = [None, None, b"", b" ", b"1", b"01", b"2", b"3", b"7", b"0", b"99999999999999999999", b"1 ", b"-1", b"x", b"\xe9", b"1 2"]
+SIZES = [1, 1, 1, 2, 3, 7, 64, 512]
+RECORDS = [b"\0\0\0\1\x03", b"\0\0\0\1\x09", b"\0\0\0\0", b"\x04\0\0\1", b"\0\0\0\6\2\0\0\0\1X", b"\0\0\0\x0e\1\0\0\0\3a@b\0\0\0\2p", b"\0\0\0\5\2\0\0\0\0"]
+
+
+def some_message(rng):
+    if rng.random() < 0.4:
+        return rng.choice(BUILT)
+    octets, _ = generated.message(rng)
+    return octets[:-2] if rng.random() < 0.2 and octets.endswith(b"\r\n") else octets
+
+
+def some_mailbox(rng):
+    """Accounts, and the records of a journal with their messages."""
+    accounts = [(rng.choice(NAMES), rng.choice(PASSWORDS)) for _ in range(rng.randint(1, 3))]
+    records = [domain(b"example.org"), *(account(*it) for it in accounts)]
+    records += [message(rng.randrange(len(accounts)), some_message(rng), flags=rng.randrange(32)) for _ in range(rng.choice([0, 1, 3, 8]))]
+    return accounts, records
+
+
+def some_line(rng):
+    word, argument = rng.choice(WORDS), rng.choice(ARGUMENTS)
+    if rng.random() < 0.3:
+        word = word.swapcase()
+    return word + (b"" if argument is None else b" " + argument)
+
+
+def some_input(rng, accounts):
+    """Lines of a client, which logs in more often than not."""
+    lines = [some_line(rng) for _ in range(rng.randint(0, 4))]
+    if rng.random() < 0.4:
+        lines.append(rng.choice([b"UTF8", b"utf8"]))
+    if rng.random() < 0.8:
+        name, password = rng.choice(accounts)
+        lines += [b"USER " + name, b"PASS " + password]
+    for _ in range(rng.randint(0, 12)):
+        numbered = rng.choice([b"RETR %d", b"LIST %d", b"retr %d"]) % rng.randint(0, 9)
+        lines.append(rng.choice([numbered, numbered, b"STAT", b"LIST", some_line(rng)]))
+    if rng.random() < 0.02:
+        lines.append(b"y" * rng.choice([65_534, 65_535]))
+    octets = b"".join(line + b"\r\n" for line in lines)
+    end = rng.choice([b"QUIT\r\n", b"quit\r\nSTAT\r\n", b"", b"STA", b"STAT\r"])
+    return octets.replace(b"\r\n", rng.choice([b"\n", b"\r"]), 1) + end if rng.random() < 0.1 else octets + end
+
+
+def some_session(rng):
+    accounts, records = some_mailbox(rng)
+    sizes = [rng.choice(SIZES) for _ in range(rng.randint(0, 12))]
+    return journal(*records), some_input(rng, accounts), sizes
+
+
+def some_journal(rng):
+    """A journal that may be damaged, and a session over it."""
+    accounts, records = some_mailbox(rng)
+    if rng.random() < 0.6:
+        other = rng.choice([rng.choice(RECORDS), message(rng.randint(0, 4), rng.choice(UNBUILT + FAULTY), flags=rng.choice([0, 31, 32]))])
+        records.insert(rng.randint(0, len(records)), other)
+    octets = bytearray(journal(*records))
+    if rng.random() < 0.3:
+        del octets[rng.randint(0, len(octets)) :]
+    elif octets and rng.random() < 0.4:
+        octets[rng.randrange(len(octets))] ^= 1 << rng.randrange(8)
+    return bytes(octets), some_input(rng, accounts), [rng.choice(SIZES)]
+
+
+def check(program, tally):
+    rng = random.Random(SEED)
+    cases = [(f"random session {number}", *some_session(rng)) for number in range(SESSIONS)]
+    cases += [(f"random journal {number}", *some_journal(rng)) for number in range(JOURNALS)]
+
+    def one(case):
+        _, octets, given, sizes = case
+        status, due, after = outcome(octets, given)
+        faults = all_cuts(program, octets, given, (status, joined(due), after), due, sizes)
+        return status, faults and [*faults[:4], f"input: {given!r}", f"journal: {octets.hex()}"]
+
+    counts = {}
+    for case, (status, faults) in zip(cases, in_lanes(one, cases)):
+        counts[status] = counts.get(status, 0) + 1
+        tally.note(case[0], faults)
+    print(f"random sessions and journals: {', '.join(f'{count} of status {status}' for status, count in sorted(counts.items()))}")

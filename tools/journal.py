@@ -1,0 +1,49 @@
+"""Writes journals: the file that `dervlask pop` serves. `tools/write_journal` is the command over it."""
+
+FIRST_OCTETS = b"MAILJNL1"
+DATE = b"01-Jan-1970 00:00:00 +0000"
+
+
+def record(kind, *fields):
+    octets = b"".join([bytes([kind]), *fields])
+    return number(len(octets)) + octets
+
+
+def number(value):
+    return value.to_bytes(4, "big")
+
+
+def text(octets):
+    return number(len(octets)) + octets
+
+
+def account(address, password):
+    """An account, which brings its INBOX. Accounts are counted from 0."""
+    return record(1, text(address), text(password))
+
+
+def domain(name):
+    return record(2, text(name))
+
+
+def message(account_number, octets, flags=0, date=DATE):
+    """A message in the INBOX of an account."""
+    return record(4, number(account_number), bytes([flags]), text(date), text(octets))
+
+
+def journal(*records):
+    return b"".join([FIRST_OCTETS, *records])
+
+
+def mailbox(messages, address=b"ann@example.org", password=b"pw"):
+    """A journal with one account and these messages."""
+    name = address.partition(b"@")[2]
+    return journal(domain(name), account(address, password), *(message(0, octets) for octets in messages))
+
+
+def crlf(octets):
+    """Text with LF line ends, or with both kinds, as lines that end with CRLF."""
+    lines = octets.replace(b"\r\n", b"\n")
+    if lines and not lines.endswith(b"\n"):
+        lines += b"\n"
+    return lines.replace(b"\n", b"\r\n")
