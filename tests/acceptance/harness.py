@@ -39,6 +39,8 @@ class Program:
     def __init__(self, path):
         self.path = os.path.abspath(path)
         self.folder = tempfile.TemporaryDirectory(prefix="dervlask-acceptance-")
+        # seconds that a reply which is due may take
+        self.patience = 20
 
     def run(self, words, octets, **how):
         """Exit status and what was written, for these words and this standard input."""

@@ -18,6 +18,7 @@ class Talk:
     """A session whose standard input comes in the pieces that are sent: each packet is one read of the program."""
 
     def __init__(self, program, journal):
+        self.program = program
         self.folder = tempfile.TemporaryDirectory(dir=program.folder.name)
         self.path = place_journal(self.folder.name, journal)
         self.socket, theirs = socket.socketpair(socket.AF_UNIX, socket.SOCK_SEQPACKET)
@@ -50,7 +51,10 @@ class Talk:
     def wait(self, count):
         """What was heard, once it has so many octets, or the program ended, or it took too long."""
         with self.changed:
-            self.changed.wait_for(lambda: len(self.heard) >= count or self.is_over, timeout=SECONDS)
+            is_there = self.changed.wait_for(lambda: len(self.heard) >= count or self.is_over, timeout=self.program.patience)
+            if not is_there:
+                # one that is late once may be late always, and there are thousands of replies
+                self.program.patience = 0.2
             return bytes(self.heard)
 
     def end(self):
