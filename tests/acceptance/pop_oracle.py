@@ -254,8 +254,8 @@ def is_argument(keyword, argument):
 
 
 def stuffed(octets):
-    """The octets with a dot more before each line that begins with one, and with a CRLF at the end where they lack it."""
-    if not octets.endswith(b"\r\n"):
+    """The octets with a dot more before each line that begins with one, and with a CRLF behind a last line that lacks it."""
+    if octets and not octets.endswith(b"\r\n"):
         octets += b"\r\n"
     return re.sub(rb"(\A|\r\n)\.", rb"\1..", octets)
 

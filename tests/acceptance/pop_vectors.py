@@ -35,11 +35,12 @@ def due_of(case):
 def check(program, tally, folder):
     def one(case):
         journal, octets, after = (bytes.fromhex(case[word]) for word in ("journal", "in", "after"))
-        wanted, due = (int(case["status"]), bytes.fromhex(case["out"]), after), due_of(case)
+        wanted = int(case["status"]), bytes.fromhex(case["out"]), after
+        # where the journal isn't opened, the line is due before any input
+        due = due_of(case) or [(0, wanted[1])]
         status, told, then = outcome(journal, octets)
         faults = [f"oracle: {fault}" for fault in answer_faults((status, joined(told), then), wanted)]
-        if due:
-            faults += differs("what is due, as the oracle has it", told, due)
+        faults += differs("what is due, as the oracle has it", told, due)
         return faults + all_cuts(program, journal, octets, wanted, due, [int(size) for size in case["cuts"].split()])
 
     paths = [os.path.join(folder, name) for name in FILES]

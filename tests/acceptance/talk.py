@@ -149,5 +149,5 @@ def all_cuts(program, journal, octets, wanted, due, sizes):
     faults = [f"whole: {fault}" for fault in answer_faults(run_whole(program, journal, octets), wanted)]
     for how, pieces in (("cut", cut(octets, sizes)), ("command by command", cut_at(octets, [count for count, _ in due]))):
         *found, on_the_way = run_cut(program, journal, pieces, due)
-        faults += [f"{how}: {fault}" for fault in [*on_the_way, *answer_faults(found, wanted)]]
+        faults += [f"{how}: {fault}" for fault in on_the_way or answer_faults(found, wanted)]
     return faults and [*faults, f"input: {show(octets)}", f"sizes: {sizes}"]
