@@ -40,7 +40,8 @@ beyond the opening's. *an octet*: instructions at n by the journal's octets.
 
 
 def message(number, size):
-    head = f"From: Ann <ann@example.org>\r\nTo: b@example.org\r\nSubject: deux cafés au lait et une crème brûlée, nº {number}\r\n\r\n".encode()
+    subject = f"deux cafés au lait et une crème brûlée, nº {number}"
+    head = f"From: Ann <ann@example.org>\r\nTo: b@example.org\r\nSubject: {subject}\r\n\r\n".encode()
     lines, last = divmod(size - len(head), len(LINE))
     return head + LINE * (lines - 1) + b"y" * (len(LINE) + last - 2) + b"\r\n"
 
@@ -97,12 +98,13 @@ def count_rows(name, once, twice):
     rows, missed = [], []
     for session, count in once.counts.items():
         ratio = twice.counts[session] / count
-        rows.append([name if not rows else "", session, f"{count:,}", f"{twice.counts[session]:,}", f"{ratio:.2f}", f"{count / once.journal:.2f}"])
+        figures = [f"{count:,}", f"{twice.counts[session]:,}", f"{ratio:.2f}", f"{count / once.journal:.2f}"]
+        rows.append([name if not rows else "", session, *figures])
         if ratio > RATIO_MOST:
             missed.append(f"{name}, {session}: {ratio:.2f} times the instructions at 2n, more than {RATIO_MOST}")
     for it in (once, twice):
         if it.memory > MEMORY_MOST:
-            missed.append(f"{name}: {it.memory:.2f} times the journal of {it.journal:,} octets in memory, more than {MEMORY_MOST:.0f}")
+            missed.append(f"{name}: {it.memory:.2f} times the journal of {it.journal:,} octets in memory")
     return rows, missed
 
 
@@ -221,10 +223,16 @@ def measure(program):
     lines, missed = counted(program)
     times = timed(program)
     idle, whole, cut = long_line(program)
-    said = f"A command line of 65,536 octets takes {whole:,} instructions in one piece and {cut:,} octet by octet, {cut / whole:.1f} times as many (a run without octets takes {idle:,})."
+    said = (
+        f"A command line of 65,536 octets takes {whole:,} instructions in one piece and {cut:,} octet by octet, "
+        f"{cut / whole:.1f} times as many (a run without octets takes {idle:,})."
+    )
     if cut / whole > LINE_MOST:
         missed.append(f"the line octet by octet: {cut / whole:.1f} times the instructions, more than {LINE_MOST:.0f}")
-    wanted = f"Wanted: at most {RATIO_MOST} times the instructions at 2n, {MEMORY_MOST:.0f} times the journal in memory, {LINE_MOST:.0f} times the instructions for the line octet by octet."
+    wanted = (
+        f"Wanted: at most {RATIO_MOST} times the instructions at 2n, {MEMORY_MOST:.0f} times the journal in memory, "
+        f"{LINE_MOST:.0f} times the instructions for the line octet by octet."
+    )
     end = ["", said, "", *[f"{it}  " for it in [wanted, *([f"Not met: {it}." for it in missed] or ["All met."])]]]
     tell(end)
     return [PROSE, "", *lines, "", "Wall clock over loopback, the best of three, one command at a time.", *times, *end]

@@ -1,16 +1,11 @@
 """Rows of POP3 that are written out: a journal and lines in, replies, a status and a journal out."""
 
-import os
-import subprocess
-import tempfile
-import time
-
 import paths
-from harness import differs, in_lanes
+from harness import in_lanes
 from journal import FIRST_OCTETS, account, domain, journal, mailbox, message
 from pop_oracle import outcome
-from rows import CAFE, little_memory
-from talk import JOURNAL, all_cuts, answer_faults, joined, run_whole
+from rows import CAFE
+from talk import all_cuts, answer_faults, joined
 
 READY = ["+OK ready"]
 LOGIN = ["USER ann@example.org", "PASS pw"]
@@ -18,17 +13,15 @@ LOGGED_IN = ["+OK ready", "+OK", "+OK"]
 ANN = mailbox([])
 TWO = journal(domain(b"example.org"), account(b"ann@example.org", b"pw"), account(b"bob@example.org", b""), message(1, b"A: b\r\n"))
 DOTS = mailbox([b"A: b\r\n\r\n.\r\n..\r\nx.\r\n\r\n.x"])
-SESSION_MAX = 1 << 30
 LINE_MAX = 65_536
-LIMIT_SECONDS = 60
 
 
 def octets_of(lines):
     return "".join(line + "\r\n" for line in lines).encode()
 
 
-def of_sessions():
-    """Name, journal, lines of the client, and replies."""
+def of_mail():
+    """What is shown of messages: name, journal, lines of the client, and replies."""
     cafe = mailbox([CAFE])
     return [
         ("café bar to a legacy client", cafe, [*LOGIN, "UTF8", "STAT", "LIST 1", "QUIT"],
@@ -40,11 +33,19 @@ def of_sessions():
         ("café bar retrieved by an enabled client", cafe, ["UTF8", *LOGIN, "RETR 1"],
             ["+OK ready", "+OK", "+OK", "+OK", "+OK", "Subject: café bar", "", "x", "."]),
         ("UTF8 twice", cafe, ["utf8", "Utf8", *LOGIN, "STAT"], ["+OK ready", "+OK", "+OK", "+OK", "+OK", "+OK 1 25"]),
-        ("no input", ANN, [], READY),
-        ("a second QUIT", ANN, ["QUIT", "QUIT"], ["+OK ready", "+OK bye"]),
-        ("what stands behind QUIT", ANN, [*LOGIN, "QUIT", "STAT", "x" * 70_000], [*LOGGED_IN, "+OK bye"]),
         ("an account without messages", ANN, [*LOGIN, "STAT", "LIST", "LIST 1", "RETR 1"],
             [*LOGGED_IN, "+OK 0 0", "+OK", ".", "-ERR no such message", "-ERR no such message"]),
+        ("numbers", cafe, [*LOGIN, "LIST 0", "LIST 2", "LIST 0001", "RETR 18446744073709551617", "LIST " + "9" * 5000, "LIST " + "0" * 5000 + "1"],
+            [*LOGGED_IN, "-ERR no such message", "-ERR no such message", "+OK 1 44", "-ERR no such message", "-ERR no such message", "+OK 1 44"]),
+        ("dots, and a last line without CRLF", DOTS, [*LOGIN, "STAT", "RETR 1"],
+            [*LOGGED_IN, "+OK 1 23", "+OK", "A: b", "", "..", "...", "x.", "", "..x", "."]),
+        ("a message without octets", mailbox([b""]), [*LOGIN, "STAT", "RETR 1"], [*LOGGED_IN, "+OK 1 0", "+OK", "."]),
+    ]
+
+
+def of_logins():
+    """Who may log in."""
+    return [
         ("an account without a password", TWO, ["USER bob@example.org", "PASS ", "STAT"], [*LOGGED_IN, "+OK 1 6"]),
         ("a wrong password, and USER is forgotten", ANN, ["USER ann@example.org", "PASS PW", "PASS pw", *LOGIN],
             ["+OK ready", "+OK", "-ERR no", "-ERR out of order", "+OK", "+OK"]),
@@ -52,6 +53,18 @@ def of_sessions():
             ["+OK ready", "+OK", "-ERR no", "+OK", "-ERR no", "+OK", "+OK"]),
         ("a second USER replaces the first", ANN, ["USER x", *LOGIN], ["+OK ready", "+OK", "+OK", "+OK"]),
         ("a name has its case", ANN, ["USER Ann@example.org", "PASS pw"], ["+OK ready", "+OK", "-ERR no"]),
+        ("the first of two accounts of one name", journal(account(b"a@b", b"1"), account(b"a@b", b"2"), message(1, b"A: b\r\n")),
+            ["USER a@b", "PASS 2", "USER a@b", "PASS 1", "STAT"], ["+OK ready", "+OK", "-ERR no", "+OK", "+OK", "+OK 0 0"]),
+    ]
+
+
+def of_commands():
+    """Order and form of commands, and the end."""
+    cafe = mailbox([CAFE])
+    return [
+        ("no input", ANN, [], READY),
+        ("a second QUIT", ANN, ["QUIT", "QUIT"], ["+OK ready", "+OK bye"]),
+        ("what stands behind QUIT", ANN, [*LOGIN, "QUIT", "STAT", "x" * 70_000], [*LOGGED_IN, "+OK bye"]),
         ("keywords in any case", ANN, ["uSer ann@example.org", "pass pw", "stAT", "list", "qUIt"],
             [*LOGGED_IN, "+OK 0 0", "+OK", ".", "+OK bye"]),
         ("before the login", cafe, ["STAT", "LIST", "LIST 1", "RETR 1", "PASS pw", "STAT x", "RETR", "QUIT"],
@@ -62,13 +75,6 @@ def of_sessions():
         ("arguments that are wrong", cafe, ["USER", "USER ", "PASS", "UTF8 ", "UTF8 x", "QUIT ", "QUIT x", *LOGIN, "STAT ", "STAT 1",
             "LIST ", "LIST x", "LIST 1 ", "LIST  1", "LIST -1", "RETR", "RETR ", "RETR +1", "RETR 1 1", "RETR\t1", "QUIT 1"],
             [*READY, *["-ERR syntax"] * 7, "+OK", "+OK", *["-ERR syntax"] * 13]),
-        ("numbers", cafe, [*LOGIN, "LIST 0", "LIST 2", "LIST 0001", "RETR 18446744073709551617", "LIST " + "9" * 5000, "LIST " + "0" * 5000 + "1"],
-            [*LOGGED_IN, "-ERR no such message", "-ERR no such message", "+OK 1 44", "-ERR no such message", "-ERR no such message", "+OK 1 44"]),
-        ("dots, and a last line without CRLF", DOTS, [*LOGIN, "STAT", "RETR 1"],
-            [*LOGGED_IN, "+OK 1 23", "+OK", "A: b", "", "..", "...", "x.", "", "..x", "."]),
-        ("a message without octets", mailbox([b""]), [*LOGIN, "STAT", "RETR 1"], [*LOGGED_IN, "+OK 1 0", "+OK", "."]),
-        ("the first of two accounts of one name", journal(account(b"a@b", b"1"), account(b"a@b", b"2"), message(1, b"A: b\r\n")),
-            ["USER a@b", "PASS 2", "USER a@b", "PASS 1", "STAT"], ["+OK ready", "+OK", "-ERR no", "+OK", "+OK", "+OK 0 0"]),
         ("a line of 65,536 octets", ANN, ["x" * (LINE_MAX - 2), "QUIT"], [*READY, "-ERR syntax", "+OK bye"]),
         ("a line of 65,537 octets", ANN, ["x" * (LINE_MAX - 1), "QUIT"], [*READY, "-ERR line too long"]),
     ]
@@ -77,11 +83,12 @@ def of_sessions():
 def of_octets():
     """Name, journal, octets of the client, and octets of the replies."""
     too_long = b"+OK ready\r\n-ERR line too long\r\n"
+    high, refused = b"\xff\xfe\r\nUSER \xff\r\nPASS \xff\r\n\0\r\n", ["+OK ready", "-ERR syntax", "+OK", "-ERR no", "-ERR syntax"]
     return [
         ("NOO without its end", ANN, b"NOO", b"+OK ready\r\n"),
         ("QUIT without its LF", ANN, b"QUIT\r", b"+OK ready\r\n"),
         ("LF and CR that end no line", ANN, b"QUIT\nQUIT\rQUIT\r\n", b"+OK ready\r\n-ERR syntax\r\n"),
-        ("octets that aren't UTF-8", ANN, b"\xff\xfe\r\nUSER \xff\r\nPASS \xff\r\n\0\r\n", b"+OK ready\r\n-ERR syntax\r\n+OK\r\n-ERR no\r\n-ERR syntax\r\n"),
+        ("octets that aren't UTF-8", ANN, high, octets_of(refused)),
         ("65,536 octets without an end", ANN, b"x" * LINE_MAX, b"+OK ready\r\n"),
         ("65,537 octets without an end", ANN, b"x" * (LINE_MAX + 1), too_long),
         ("CR as octet 65,536", ANN, b"x" * (LINE_MAX - 1) + b"\r\nQUIT\r\n", too_long),
@@ -93,8 +100,7 @@ def of_journals():
     opens = (0, b"+OK ready\r\n+OK bye\r\n")
     refused = lambda name, octets, status, line: (name, octets, status, line + b"\r\n", octets)
     record = bytes.fromhex
-    unbuilt = ((kind, b"not built at 8", 10) for kind in (3, 5, 6, 7, 8))
-    unknown = ((kind, b"bad journal at 8", 5) for kind in (0, 9, 255))
+    kinds = [*((kind, 10, b"not built at 8") for kind in (3, 5, 6, 7, 8)), *((kind, 5, b"bad journal at 8") for kind in (0, 9, 255))]
     return [
         ("no journal", None, *opens, FIRST_OCTETS),
         ("an empty journal", b"", *opens, FIRST_OCTETS),
@@ -108,7 +114,7 @@ def of_journals():
         refused("one other octet", b"m", 5, b"bad journal at 0"),
         refused("a length of 0", FIRST_OCTETS + record("00000000"), 5, b"bad journal at 8"),
         refused("a length above 67,108,864", FIRST_OCTETS + record("04000001"), 5, b"bad journal at 8"),
-        *(refused(f"the kind {kind}", FIRST_OCTETS + record("00000001") + bytes([kind]), status, line) for kind, line, status in (*unbuilt, *unknown)),
+        *(refused(f"the kind {kind}", FIRST_OCTETS + record("00000001") + bytes([kind]), *told) for kind, *told in kinds),
         refused("an address of capitals", journal(account(b"Ann@example.org", b"pw")), 10, b"not built at 8"),
         refused("a domain with a hyphen", journal(domain(b"x-y.org")), 10, b"not built at 8"),
         refused("an octet behind the fields", journal(b"\0\0\0\x07\x02\0\0\0\1xx"), 5, b"bad journal at 8"),
@@ -127,7 +133,7 @@ def of_journals():
 
 def rows():
     """Name, journal, input, and what is wanted: status, octets and journal."""
-    for name, octets, lines, replies in of_sessions():
+    for name, octets, lines, replies in [*of_mail(), *of_logins(), *of_commands()]:
         yield name, octets, octets_of(lines), (0, octets_of(replies), octets)
     for name, octets, given, wanted in of_octets():
         yield name, octets, given, (0, wanted, octets)
@@ -135,7 +141,7 @@ def rows():
         yield name, octets, b"QUIT\r\n", (status, line, after)
 
 
-def check_rows(program, tally):
+def check(program, tally):
     def one(row):
         _, octets, given, wanted = row
         status, due, after = outcome(octets or b"", given)
@@ -145,85 +151,3 @@ def check_rows(program, tally):
     cases = list(rows())
     for row, faults in zip(cases, in_lanes(one, cases)):
         tally.note(f"POP3: {row[0]}", faults)
-
-
-def status_in(program, folder, octets=b"QUIT\r\n", **how):
-    return program.run([b"pop"], octets, cwd=folder, **how)
-
-
-def of_the_outside(program, tally):
-    """Rows where standard output, standard input, the journal or memory fails."""
-    with tempfile.TemporaryDirectory(dir=program.folder.name) as folder:
-        with open("/dev/full", "wb") as full:
-            tally.note("POP3: standard output is full", differs("status", status_in(program, folder, stdout=full)[0], 1))
-        unreadable = os.open(folder, os.O_RDONLY)
-        found = program.run_on([b"pop"], unreadable, cwd=folder)
-        os.close(unreadable)
-        tally.note("POP3: standard input can't be read", differs("answer", found, (1, b"+OK ready\r\n")))
-    for name, place in (("a folder", os.mkdir), ("a full device", lambda path: os.symlink("/dev/full", path))):
-        with tempfile.TemporaryDirectory(dir=program.folder.name) as folder:
-            place(os.path.join(folder, JOURNAL))
-            tally.note(f"POP3: the journal is {name}", differs("answer", status_in(program, folder), (2, b"")))
-    large = mailbox([b"A: b\r\n\r\n" + b"x" * (32 << 20)])
-    found = run_whole(program, large, b"QUIT\r\n", preexec=little_memory)
-    tally.note("POP3: want of memory", differs("answer", found[:2], (3, b"")) + differs("journal", found[2] == large, True))
-
-
-def of_words(program, tally):
-    """Wrong words, and those of another command, leave the journal alone."""
-    for words in ([b"pop", b"pop"], [b"POP"], [b"pop", b""], [b"pop3"]):
-        with tempfile.TemporaryDirectory(dir=program.folder.name) as folder:
-            found = program.run(words, b"QUIT\r\n", cwd=folder)
-            faults = differs("answer", found, (4, b"words refused\r\n")) + differs("files", os.listdir(folder), [])
-        tally.note(f"the words {words}", faults)
-    with tempfile.TemporaryDirectory(dir=program.folder.name) as folder:
-        program.run([b"downgrade"], CAFE, cwd=folder)
-        tally.note("downgrade makes no journal", differs("files", os.listdir(folder), []))
-
-
-def of_the_limit(program, tally):
-    """Sessions of 1,073,741,824 octets: lines of 65,536 octets, and the end."""
-    line = b"x" * (LINE_MAX - 2) + b"\r\n"
-    most = SESSION_MAX - len(line)
-    begun = time.perf_counter()
-    run_long(program, line, 32, b"")
-    if (time.perf_counter() - begun) * most / (32 * len(line)) > LIMIT_SECONDS:
-        print("the session limit wasn't tried: this program would take minutes for a session of 1 GiB, as one that is built to find faults")
-        return
-    cases = [
-        ("the session limit", b"y" * LINE_MAX, 6, b""),
-        ("the session limit, as a line ends", line, 6, b"-ERR syntax\r\n"),
-        ("one octet below the session limit", b"y" * (LINE_MAX - 1), 0, b""),
-        ("QUIT as the session limit comes", b"x" * (LINE_MAX - 8) + b"\r\nQUIT\r\n", 0, b"-ERR syntax\r\n+OK bye\r\n"),
-    ]
-
-    def one(case):
-        _, last, status, reply = case
-        wanted = b"+OK ready\r\n" + b"-ERR syntax\r\n" * (most // len(line)) + reply
-        return differs("answer", run_long(program, line, most // len(line), last), (status, wanted))
-
-    for case, faults in zip(cases, in_lanes(one, cases)):
-        tally.note(f"POP3: {case[0]}", faults)
-
-
-def run_long(program, line, count, last):
-    """Status and octets where so many lines and a last one come through a pipe."""
-    with tempfile.TemporaryDirectory(dir=program.folder.name) as folder, tempfile.TemporaryFile(dir=folder) as out:
-        how = {"stdin": subprocess.PIPE, "stdout": out, "cwd": folder}
-        with subprocess.Popen([program.path, b"pop"], **how) as running:
-            try:
-                for _ in range(count):
-                    running.stdin.write(line)
-                running.stdin.write(last)
-                running.stdin.close()
-            except BrokenPipeError:
-                pass
-        out.seek(0)
-        return running.returncode, out.read()
-
-
-def check(program, tally):
-    check_rows(program, tally)
-    of_words(program, tally)
-    of_the_outside(program, tally)
-    of_the_limit(program, tally)

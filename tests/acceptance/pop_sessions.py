@@ -5,7 +5,7 @@ import random
 import generated
 import paths
 from harness import in_lanes
-from journal import account, domain, journal, message
+from journal import account, domain, journal, message, record, text
 from pop_oracle import outcome
 from talk import all_cuts, joined
 
@@ -15,13 +15,14 @@ JOURNALS = 300
 
 NAMES = [b"ann@example.org", b"b@x", b"a.b@x.org", b"0@0.0"]
 PASSWORDS = [b"", b"pw", b" p w ", b"\xff\x00", "pässword".encode(), b"p\rw", b"p\nw"]
-BUILT = [b"", b"\r\n", b"\r\n.", b"A: b", b"A: b\r\n\r\n.\r\n..\r\n\r\n.", b"A: b\r\n\r\n" + b".\r\n" * 400, "X: \u00e9".encode(), b"A: b\r\n\r\n\r\n\r\n"]
+DOTS = [b"\r\n.", b"A: b\r\n\r\n.\r\n..\r\n\r\n.", b"A: b\r\n\r\n" + b".\r\n" * 400]
+BUILT = [b"", b"\r\n", b"A: b", "X: é".encode(), b"A: b\r\n\r\n\r\n\r\n", *DOTS]
 UNBUILT = ["To: é\r\n".encode(), b"Content-Type: text/plain\r\n\r\nx\r\n", "A: b\r\n é\r\n".encode(), "Subject: =?é\r\n\r\n\0".encode()]
 FAULTY = [b"x", b" a: b\r\n", b"A: b\r", b"A: b\r\n\r\nx\n", b"A: \xff\r\n", b"A: b\r\n\r\n\0"]
 WORDS = [b"USER", b"PASS", b"UTF8", b"STAT", b"LIST", b"RETR", b"QUIT", b"CAPA", b"NOOP", b"TOP", b"DELE", b"", b"LISTS", b"RET"]
 ARGUMENTS = [None, None, b"", b" ", b"1", b"01", b"2", b"3", b"7", b"0", b"99999999999999999999", b"1 ", b"-1", b"x", b"\xe9", b"1 2"]
 SIZES = [1, 1, 1, 2, 3, 7, 64, 512]
-RECORDS = [b"\0\0\0\1\x03", b"\0\0\0\1\x09", b"\0\0\0\0", b"\x04\0\0\1", b"\0\0\0\6\2\0\0\0\1X", b"\0\0\0\x0e\1\0\0\0\3a@b\0\0\0\2p", b"\0\0\0\5\2\0\0\0\0"]
+RECORDS = [b"\0\0\0\1\x03", b"\0\0\0\1\x09", b"\0\0\0\0", b"\x04\0\0\1", record(2, text(b"X")), record(2, text(b"")), record(1, text(b"a@b"))]
 
 
 def some_message(rng):
@@ -74,7 +75,8 @@ def some_journal(rng):
     """A journal that may be damaged, and a session over it."""
     accounts, records = some_mailbox(rng)
     if rng.random() < 0.6:
-        other = rng.choice([rng.choice(RECORDS), message(rng.randint(0, 4), rng.choice(UNBUILT + FAULTY), flags=rng.choice([0, 31, 32]))])
+        mail = message(rng.randint(0, 4), rng.choice(UNBUILT + FAULTY), flags=rng.choice([0, 31, 32]))
+        other = rng.choice([rng.choice(RECORDS), mail])
         records.insert(rng.randint(0, len(records)), other)
     octets = bytearray(journal(*records))
     if rng.random() < 0.3:
