@@ -1,0 +1,9 @@
+pub mod Numbers
+pub mod Arguments
+pub mod StuffingLemmas
+pub mod StuffedPieces
+pub mod ListLemmas
+pub mod FitLemmas
+pub mod FramingLemmas
+pub mod FeedLemmas
+pub mod RowLemmas

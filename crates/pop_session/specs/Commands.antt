@@ -1,0 +1,54 @@
+-- The words of a command line (RFC 1939, 3).
+use Rattle.std.specs.Prelude.{ℕ, ◌+◌, ◌-◌, ◌*◌, ◌==◌, ◌&&◌, List, [], ◌∷◌, Bool, Option, None, Some, length, take, drop, map, fold, codes, if◌then◌else◌, nat_le, position}
+use Rattle.std.specs.List.{before_first, list_all}
+use Rattle.std.specs.Option.{option_map}
+use Rattle.std.specs.Str.{bytes_eq}
+use Rattle.std.specs.Char.{to_ascii_lowercase}
+use Rattle.pop_session.specs.declared.command.Keyword.{Keyword}
+use Rattle.pop_session.specs.declared.command.Keyword.TheVariants as keyword
+
+-- a command: its keyword, and what stands behind the first space, where there is one
+pub record Command : Type 0 where
+  pub keyword : Keyword
+  pub argument : Option (List ℕ)
+
+-- the keyword of this name, which is in lower case
+abbrev pub keyword_named : List ℕ → Keyword
+keyword_named name =
+    if bytes_eq name (codes "user") then keyword.User
+    else (if bytes_eq name (codes "pass") then keyword.Pass
+    else (if bytes_eq name (codes "utf8") then keyword.Utf8
+    else (if bytes_eq name (codes "stat") then keyword.Stat
+    else (if bytes_eq name (codes "list") then keyword.List
+    else (if bytes_eq name (codes "retr") then keyword.Retr
+    else (if bytes_eq name (codes "quit") then keyword.Quit else keyword.Other))))))
+
+-- keywords are read in any case
+abbrev pub keyword_of : List ℕ → Keyword
+keyword_of word = keyword_named (map to_ascii_lowercase word)
+
+abbrev pub is_space : ℕ → Bool
+is_space x = x == 32
+
+-- the line without its CRLF
+abbrev pub text_of : List ℕ → List ℕ
+text_of line = take (length line - 2) line
+
+unfoldable pub argument_of : List ℕ → Option (List ℕ)
+argument_of text = option_map (λ at. drop (at + 1) text) (position is_space text)
+
+-- the command of a line
+abbrev pub command_of : List ℕ → Command
+command_of line = record { keyword = keyword_of (before_first is_space (text_of line)); argument = argument_of (text_of line) }
+
+abbrev pub is_digit : ℕ → Bool
+is_digit x = nat_le 48 x && nat_le x 57
+
+-- the number that digits write
+abbrev pub value_of : List ℕ → ℕ
+value_of digits = fold (λ n digit. n * 10 + (digit - 48)) 0 digits
+
+-- one or more digits
+unfoldable pub number_of : List ℕ → Option ℕ
+number_of [] = None
+number_of (x ∷ digits) = if list_all is_digit (x ∷ digits) then Some (value_of (x ∷ digits)) else None

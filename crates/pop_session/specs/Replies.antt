@@ -1,0 +1,49 @@
+-- The octets of a reply (RFC 1939, 3), and what may be sent in it (RFC 6856, 2; RFC 6857).
+use Rattle.std.specs.Prelude.{◌≡◌, ℕ, ◌++◌, ◌==◌, List, [], ◌∷◌, Bool, true, false, take, drop, if◌then◌else◌}
+use Rattle.std.specs.List.{flat_map, list_all, AllByRecursion}
+use Rattle.mail_wire.specs.Lines.{crlf, lines_of, is_crlf}
+use Rattle.mail_wire.specs.Octets.{is_ascii}
+use Rattle.surrogate_cache.specs.Served.{legacy, enabled, IsSurrogate, HasAsciiHeader, served_by}
+use Rattle.pop_session.specs.Machine.{Part, line, shown}
+
+-- a dot before a line that begins with one
+abbrev pub stuffed_line : List ℕ → List ℕ
+stuffed_line [] = []
+stuffed_line (x ∷ rest) = if x == 46 then 46 ∷ 46 ∷ rest else x ∷ rest
+
+-- each line stuffed
+unfoldable pub stuffed : List ℕ → List ℕ
+stuffed octets = flat_map stuffed_line (lines_of octets)
+
+-- there are none, or they end in CRLF
+unfoldable pub are_complete : List ℕ → Bool
+are_complete [] = true
+are_complete (x ∷ []) = false
+are_complete (x ∷ y ∷ []) = is_crlf x y
+are_complete (x ∷ y ∷ z ∷ rest) = are_complete (y ∷ z ∷ rest)
+
+-- the CRLF that the last line lacks
+abbrev pub missing_end : List ℕ → List ℕ
+missing_end octets = if are_complete octets then [] else crlf
+
+-- the octets of a message in a reply of many lines: each line stuffed, and the last one complete
+abbrev pub multi_line : List ℕ → List ℕ
+multi_line octets = stuffed octets ++ missing_end octets
+
+-- the octets of a part; `surrogate` gives surrogates
+abbrev pub part_octets : (List ℕ → List ℕ) → Part → List ℕ
+part_octets surrogate (line octets) = octets ++ crlf
+part_octets surrogate (shown msg mode at len) = multi_line (take len (drop at (served_by surrogate mode msg)))
+
+-- the octets of a reply
+abbrev pub reply_octets : (List ℕ → List ℕ) → List Part → List ℕ
+reply_octets surrogate parts = flat_map (part_octets surrogate) parts
+
+-- A line is ASCII. What a legacy session is shown is a range of the message's surrogate, all of whose header is ASCII.
+abbrev pub IsFit : (List ℕ → List ℕ) → Part → Type 0
+IsFit surrogate (line octets) = list_all is_ascii octets ≡ true
+IsFit surrogate (shown msg legacy at len) = IsSurrogate msg (surrogate msg) × HasAsciiHeader (surrogate msg)
+IsFit surrogate (shown msg enabled at len) = Unit {0}
+
+abbrev pub AreFit : (List ℕ → List ℕ) → List Part → Type 0
+AreFit surrogate parts = AllByRecursion (IsFit surrogate) parts

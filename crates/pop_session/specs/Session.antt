@@ -1,0 +1,79 @@
+-- A session (RFC 1939, 3): the machine over a stream, and what a session value stands for.
+use Rattle.std.specs.Prelude.{◌≡◌, ℕ, List, ◌∷◌, codes, Option, None, Some}
+use Rattle.mail_wire.specs.Turns.{Turn, all_turns}
+use Rattle.mail_store.specs.StoreState.{StoreState}
+use Rattle.surrogate_cache.specs.Served.{legacy}
+use Rattle.pop_session.specs.Framing.{Framed, waiting, whole, too_long, next_command}
+use Rattle.pop_session.specs.Commands.{command_of}
+use Rattle.pop_session.specs.Machine.{Part, line, State, authorization, transaction, ended, says, step}
+use Rattle.pop_session.specs.States.{state_of, KnowsState}
+use Rattle.pop_session.specs.declared.session.PopSession.{PopSession}
+use Rattle.pop_session.specs.declared.session.PopSession.TheVariants as variant
+
+-- the machine and its store
+pub record Machine : Type 0 where
+  pub state : State
+  pub store : StoreState
+
+abbrev pub line_too_long : List Part
+line_too_long = says (codes "-ERR line too long")
+
+-- what a whole command brings
+abbrev pub turn_by : (List ℕ → List ℕ) → Machine → Framed → Option (Turn Machine Part)
+turn_by surrogate machine waiting = None
+turn_by surrogate machine (whole text rest) =
+    let taken = step surrogate machine.state machine.store (command_of text) in
+    Some (record { parts = taken.reply; after = record { state = taken.state; store = machine.store }; rest = rest })
+turn_by surrogate machine (too_long rest) =
+    Some (record { parts = line_too_long; after = record { state = ended; store = machine.store }; rest = rest })
+
+-- after the end no command is read
+abbrev pub turn_in : (List ℕ → List ℕ) → State → Machine → List ℕ → Option (Turn Machine Part)
+turn_in surrogate (authorization mode user) machine octets = turn_by surrogate machine (next_command octets)
+turn_in surrogate (transaction mode inbox) machine octets = turn_by surrogate machine (next_command octets)
+turn_in surrogate ended machine octets = None
+
+unfoldable pub next_turn : (List ℕ → List ℕ) → Machine → List ℕ → Option (Turn Machine Part)
+next_turn surrogate machine octets = turn_in surrogate machine.state machine octets
+
+-- what these octets bring; `surrogate` gives surrogates
+abbrev pub turns_of : (List ℕ → List ℕ) → Machine → List ℕ → Turn Machine Part
+turns_of surrogate machine octets = all_turns (next_turn surrogate) machine octets
+
+abbrev pub greeting : List Part
+greeting = says (codes "+OK ready")
+
+-- a session begins as legacy
+abbrev pub start_of : StoreState → Machine
+start_of store = record { state = authorization legacy None; store = store }
+
+-- the parts that a session is sent of a stream: the greeting, and the replies to its whole commands, up to the end
+abbrev pub parts_to : (List ℕ → List ℕ) → StoreState → List ℕ → List Part
+parts_to surrogate store octets = line (codes "+OK ready") ∷ (turns_of surrogate (start_of store) octets).parts
+
+-- the store that these commands leave
+abbrev pub store_after : (List ℕ → List ℕ) → StoreState → List ℕ → StoreState
+store_after surrogate store octets = (turns_of surrogate (start_of store) octets).after.store
+
+-- the machine's state of a session
+abbrev pub session_state : PopSession → State
+session_state (variant.Open reading) = state_of reading.state
+session_state variant.Ended = ended
+
+abbrev pub machine_of : PopSession → StoreState → Machine
+machine_of session store = record { state = session_state session; store = store }
+
+-- the rest that a session stands for: the octets that it has kept, and after the end any
+abbrev pub HasRest : PopSession → List ℕ → Type 0
+HasRest (variant.Open reading) rest = rest ≡ reading.kept
+HasRest variant.Ended rest = Unit {0}
+
+-- A session and its store stand for what these turns leave.
+pub record StandsFor (session : PopSession) (store : StoreState) (turn : Turn Machine Part) : Type 0 where
+  pub machine : machine_of session store ≡ turn.after
+  pub rest : HasRest session turn.rest
+
+-- What a session needs: it has kept no whole command, and the store has the messages that it names.
+abbrev pub IsReady : PopSession → StoreState → Type 0
+IsReady (variant.Open reading) store = (next_command reading.kept ≡ waiting) × KnowsState store (state_of reading.state)
+IsReady variant.Ended store = Unit {0}

@@ -1,0 +1,49 @@
+-- What a value of each state (RFC 1939, 4 to 6) stands for.
+use Rattle.std.specs.Prelude.{◌≡◌, ◌<◌, ℕ, List, length, Option, None, Some}
+use Rattle.std.specs.List.{All}
+use Rattle.mail_store.specs.declared.kept.Listed.{Listed}
+use Rattle.mail_store.specs.Kept.{logged_in}
+use Rattle.mail_store.specs.StoreState.{StoreState}
+use Rattle.surrogate_cache.specs.Served.{legacy, enabled}
+use Rattle.pop_session.specs.declared.states.PopState.{PopState}
+use Rattle.pop_session.specs.declared.states.PopState.TheVariants as pop
+use Rattle.pop_session.specs.declared.states.Login.{Login}
+use Rattle.pop_session.specs.declared.states.Login.TheVariants.{OutOfOrder, Refused, Open}
+use Rattle.pop_session.specs.Machine.{State, authorization, transaction, ended, inbox_messages}
+
+-- the machine's state
+abbrev pub state_of : PopState → State
+state_of (pop.Authorization session) = authorization legacy session.state.user
+state_of (pop.EnabledAuthorization session) = authorization enabled session.state.user
+state_of (pop.Transaction session) = transaction legacy session.state.inbox.items
+state_of (pop.EnabledTransaction session) = transaction enabled session.state.inbox.items
+
+-- the machine's state, also where no session is left
+abbrev pub state_or_ended : Option PopState → State
+state_or_ended None = ended
+state_or_ended (Some session) = state_of session
+
+-- the store has these messages
+abbrev pub Knows : StoreState → List Listed → Type 0
+Knows store inbox = All (λ one. one.id < length store.kept.messages) inbox
+
+-- the store has the messages that the state names
+abbrev pub KnowsState : StoreState → State → Type 0
+KnowsState store (authorization mode user) = Unit {0}
+KnowsState store (transaction mode inbox) = Knows store inbox
+KnowsState store ended = Unit {0}
+
+-- the login found this account
+pub record IsAdmitted (store : StoreState) (user : Option (List ℕ)) (password : List ℕ) (inbox : List Listed) : Type 0 where
+  pub name : List ℕ
+  pub account : ℕ
+  pub user_is : user ≡ Some name
+  pub found : logged_in store.kept name password ≡ Some account
+  pub inbox_is : inbox ≡ inbox_messages store.kept account
+  pub known : Knows store inbox
+
+-- what PASS leads to, by the name that USER gave
+abbrev pub IsLogin : {V : Type 0} → Login V → Option (List ℕ) → List ℕ → StoreState → Type 0
+IsLogin (OutOfOrder session) user password store = (user ≡ None) × (session.state.user ≡ None)
+IsLogin (Refused session) user password store = (name : List ℕ) × (user ≡ Some name) × (logged_in store.kept name password ≡ None) × (session.state.user ≡ None)
+IsLogin (Open session) user password store = IsAdmitted store user password session.state.inbox.items

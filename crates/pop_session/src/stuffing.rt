@@ -1,0 +1,119 @@
+//! Gives what is shown of a message as a reply of many lines.
+ghost use Rattle.std.specs.Prelude.{◌≡◌, ◌++◌, IfOk, OnOk, OnErr, [], if◌then◌else◌, Err, codes};
+ghost use Rattle.mail_wire.specs.Lines.{crlf};
+ghost use Rattle.mail_wire.specs.Moves.{GivesOrFails, GivesPrefix, HasWireCause};
+ghost use Rattle.surrogate_cache.specs.Served.{shown_octets};
+ghost use Rattle.pop_session.specs.Replies.{multi_line};
+ghost use Rattle.pop_session.specs.Stuffing.{is_start, needs_dot, next_place as place_behind, place_after, stuffed_from, PassesOn};
+
+use mail_wire::outside::{Fault, Wire};
+use mail_wire::traffic::give_all;
+use mail_wire::values::{Memory, Octets};
+use std::alloc::Global;
+use surrogate_cache::shown::Shown;
+
+/// Where in its line an octet stands.
+#[derive(Clone, Copy, Debug, PartialEq, Eq)]
+pub enum Place {
+    LineStart,
+    AfterCr,
+    Within,
+}
+
+fn needs_dot(place: Place, octet: u8) -> bool
+    ensures { result ≡ needs_dot place octet }
+{
+    matches!(place, Place::LineStart) && octet == b'.'
+}
+
+fn next_place(place: Place, octet: u8) -> Place
+    ensures { result ≡ place_behind place octet }
+{
+    match octet {
+        b'\r' => Place::AfterCr,
+        b'\n' if matches!(place, Place::AfterCr) => Place::LineStart,
+        _ => Place::Within,
+    }
+}
+
+// Puts a piece last, with a dot more before each line that begins with one.
+fn push_stuffed(pending: &mut Octets, place: Place, piece: &[u8]) -> Result<Place, Memory>
+    ensures place { IfOk result (λ after. after ≡ place_after place piece.now) }
+    ensures octets { OnOk result (pending.new ≡ pending.old ++ stuffed_from place piece.now) }
+{
+    let mut at = place;
+    for octet in piece {
+        if needs_dot(at, *octet) {
+            pending.push(b'.')?;
+        }
+        pending.push(*octet)?;
+        at = next_place(at, *octet);
+    }
+    Ok(at)
+}
+
+// How many octets are read at a time, and from how many on they are given.
+const PIECE: usize = 4096;
+
+// Gives what is pending, once it is a piece.
+fn give_piece<W: Wire>(pending: &mut Octets, wire: &mut W) -> Result<(), Fault>
+    ensures passes { OnOk result (PassesOn (W.tells wire.old) (W.tells wire.new) pending.old pending.new) }
+    ensures fails { OnErr result (GivesPrefix (W.tells wire.old) (W.tells wire.new) pending.old) }
+    ensures cause { HasWireCause (W.tells wire.old) (W.tells wire.new) result Fault.Wire }
+    ensures keeper { ¬ (result ≡ Err Fault.Keeper) }
+{
+    if pending.len() < PIECE {
+        return Ok(());
+    }
+    give_all(wire, pending.as_slice())?;
+    pending.clear();
+    Ok(())
+}
+
+// What lines lack whose end stands here.
+fn missing_end(place: Place) -> &'static [u8]
+    ensures { result.now ≡ (if is_start place then [] else crlf) }
+{
+    match place {
+        Place::LineStart => b"",
+        Place::AfterCr | Place::Within => b"\r\n",
+    }
+}
+
+// Puts the end of a reply of many lines last, which stands here, and gives all that is pending.
+fn give_end<W: Wire>(mut pending: Octets, place: Place, wire: &mut W) -> Result<(), Fault>
+    ensures gives { GivesOrFails (W.tells wire.old) (W.tells wire.new) result
+        (pending ++ ((if is_start place then [] else crlf) ++ codes ".\r\n")) }
+    ensures cause { HasWireCause (W.tells wire.old) (W.tells wire.new) result Fault.Wire }
+    ensures keeper { ¬ (result ≡ Err Fault.Keeper) }
+{
+    pending.push_slice(missing_end(place))?;
+    pending.push_slice(b".\r\n")?;
+    give_all(wire, pending.as_slice())
+}
+
+/// Gives what is shown of a message as the lines of a reply: each stuffed, and the last one complete.
+pub fn give_message<W: Wire>(
+    alloc: Global,
+    shown: &Shown,
+    msg: &[u8],
+    wire: &mut W,
+) -> Result<(), Fault>
+    ensures gives { GivesOrFails (W.tells wire.old) (W.tells wire.new) result
+        (codes "+OK\r\n" ++ (multi_line (shown_octets shown.now msg.now) ++ codes ".\r\n")) }
+    ensures cause { HasWireCause (W.tells wire.old) (W.tells wire.new) result Fault.Wire }
+    ensures keeper { ¬ (result ≡ Err Fault.Keeper) }
+{
+    let mut pending = Octets::from_slice(alloc, b"+OK\r\n")?;
+    let mut place = Place::LineStart;
+    let mut at = 0;
+    let mut piece = [0; PIECE];
+    let size = shown.size(msg);
+    while at < size {
+        let count = shown.read_at(msg, at, &mut piece);
+        place = push_stuffed(&mut pending, place, &piece[..count])?;
+        give_piece(&mut pending, wire)?;
+        at += count;
+    }
+    give_end(pending, place, wire)
+}
