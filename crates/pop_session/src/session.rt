@@ -1,5 +1,5 @@
 //! A session over a wire.
-ghost use Rattle.std.specs.Prelude.{◌≡◌, ℕ, ◌++◌, List, None, Some, IfOk, OnErr, Err, IsTrue, ◌↔◌, length, ◌⊎◌, ◌≤◌, []};
+ghost use Rattle.std.specs.Prelude.{◌≡◌, ℕ, ◌++◌, List, None, Some, IfOk, Err, IsTrue, ◌↔◌, length, ◌⊎◌, ◌≤◌, []};
 ghost use Rattle.std.specs.Option.{option_copied};
 ghost use Rattle.mail_wire.specs.Moves.{GivesOrFails, HasWireCause};
 ghost use Rattle.mail_store.specs.StoreState.{StoreState};
@@ -314,8 +314,8 @@ impl PopSession {
     /// Where a line ends is sought in the piece alone; of what came before only the last octet is looked at. A line of more
     /// than [`LINE_MAX`] octets ends the session with a reply. After the end pieces are taken and bring nothing.
     ///
-    /// An `Err` takes the session away, and no reply says so; the store is as before. `Fault::Keeper` never comes, since
-    /// no command changes the store yet.
+    /// An `Err` takes the session away, and no reply says so. No command changes the store yet, so `Fault::Keeper` never
+    /// comes.
     pub fn feed<W: Wire, J: Keeper>(
         self,
         piece: &[u8],
@@ -341,7 +341,7 @@ impl PopSession {
 
         ensures cause { HasWireCause (W.tells wire.old) (W.tells wire.new) result Fault.Wire }
         ensures keeper { ¬ (result ≡ Err Fault.Keeper) }
-        ensures store { OnErr result (store.new ≡ store.old) }
+        ensures store { store.new ≡ store.old }
         ensures kept { J.tells keeper.new ≡ J.tells keeper.old }
     {
         match self {
