@@ -1,8 +1,9 @@
-//! The program: the words of the command line over standard input and standard output.
+//! The program: the words of the command line over standard input, standard output and the journal `mail.journal`.
 #![tactic(auto)]
 
 use mail_command::command::run;
 use mail_wire::edge::StdWire;
+use mail_wire::file_keeper::FileKeeper;
 use mail_wire::values::Memory;
 use mail_wire::words::Words;
 use std::alloc::{Alloc, Global};
@@ -12,6 +13,9 @@ use std::process::ExitCode;
 
 /// The status of want of memory.
 const WANT_OF_MEMORY: u8 = 3;
+
+/// The journal, in the current folder.
+const JOURNAL: &str = "mail.journal";
 
 // The words behind the program's name. Arguments that aren't UTF-8 are the words of no command: none.
 fn words<R: Env + Alloc<A = Global>>(rt: &R) -> Result<Words, Memory> {
@@ -33,5 +37,6 @@ fn main(rt: HostRuntime) -> ExitCode {
         return ExitCode::from(WANT_OF_MEMORY);
     };
     let mut wire = StdWire::new(rt.reader(), io::writer(&rt));
-    ExitCode::from(run(rt.alloc(), &words, &mut wire))
+    let mut keeper = FileKeeper::new(&rt, JOURNAL);
+    ExitCode::from(run(rt.alloc(), &words, &mut wire, &mut keeper))
 }

@@ -2,3 +2,6 @@ pub mod TakingLemmas
 pub mod WordsLemmas
 pub mod OutcomeLemmas
 pub mod RunLemmas
+pub mod ServingLemmas
+pub mod PopServing
+pub mod SessionLemmas

@@ -15,9 +15,9 @@ use Rattle.utf8_fields.proofs.OneField.{HasParts-once}
 use Rattle.field_downgrade.proofs.OneLayout.{HasFieldLayout-once}
 use Rattle.field_downgrade.proofs.MessageLemmas.{HasMessageLayout-once, HasMessageLayout-served}
 use Rattle.mail_wire.specs.declared.values.Memory.{Memory}
-use Rattle.mail_command.specs.declared.downgrading.Reply.{Reply}
+use Rattle.mail_command.specs.declared.lines.Reply.{Reply}
 use Rattle.std.specs.Prelude.{◌≢◌, IfOk, Result, Ok, Err}
-use Rattle.mail_command.specs.Outcome.{message_max, IsMail, DowngradeOutcome, TooLarge, NoMail, NotBuilt, Downgraded, Outcome, WordsRefused, Downgrade}
+use Rattle.mail_command.specs.Outcome.{message_max, IsMail, DowngradeOutcome, TooLarge, NoMail, NotBuilt, Downgraded}
 
 served_once : (msg : List ℕ) (fields : List Field) (end : ℕ) (made other : List ℕ) → HasServedFields msg fields end made → HasServedFields msg fields end other → made ≡ other
 served_once msg fields end made other one two =
@@ -101,13 +101,6 @@ downgrade_once octets status other given others (Downgraded fields end fits mail
 downgrade_once octets status other given others (Downgraded fields end fits mail built served s) (Downgraded fields' end' fits' mail' built' served' o) =
     let same = one_mail octets fields fields' end end' mail mail' in
     record { status_is = s ∙ sym o; given_is = served_once octets fields end given others served (rw (same.fields_are, same.end_is) served') }
-
-pub outcome_once : (words : List (List ℕ)) (octets : List ℕ) (status other : ℕ) (given others : List ℕ) → Outcome words octets status given → Outcome words octets other others
-    → IsSame status other given others
-outcome_once words octets status other given others (WordsRefused none s g) (WordsRefused none' o h) = same_as 4 (codes "words refused" ++ crlf) status other given others s o g h
-outcome_once words octets status other given others (WordsRefused none s g) (Downgrade is outcome) = absurd (none is)
-outcome_once words octets status other given others (Downgrade is outcome) (WordsRefused none o h) = absurd (none is)
-outcome_once words octets status other given others (Downgrade is outcome) (Downgrade is' outcome') = downgrade_once octets status other given others outcome outcome'
 
 -- What was taken is all of the octets, or more than a message may have.
 pub record IsEnough (octets taken : List ℕ) : Type 0 where

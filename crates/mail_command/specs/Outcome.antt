@@ -1,5 +1,5 @@
--- What a command comes to: its status, and the octets that it gives.
-use Rattle.std.specs.Prelude.{◌≡◌, ℕ, ◌<◌, ◌≤◌, List, [], ◌∷◌, ◌++◌, length, codes, decimal}
+-- What a command of one message comes to: its status, and the octets that it gives.
+use Rattle.std.specs.Prelude.{◌≡◌, ℕ, ◌<◌, ◌≤◌, List, ◌++◌, length, codes, decimal}
 use Rattle.mail_wire.specs.Lines.{crlf}
 use Rattle.mail_wire.specs.Message.{IsMessage}
 use Rattle.utf8_fields.specs.declared.block.Field.{Field}
@@ -28,14 +28,3 @@ pub data DowngradeOutcome (octets : List ℕ) (status : ℕ) (given : List ℕ) 
   -- the surrogate
   Downgraded : (fields : List Field) (end : ℕ) → length octets ≤ message_max → IsMail octets fields end → AreBuilt octets fields
       → HasServedFields octets fields end given → status ≡ 0 → DowngradeOutcome octets status given
-
--- the words are the one word of the command
-abbrev pub IsDowngrade : List (List ℕ) → Type 0
-IsDowngrade words = words ≡ codes "downgrade" ∷ []
-
--- What the words come to, where these octets are taken.
-pub data Outcome (words : List (List ℕ)) (octets : List ℕ) (status : ℕ) (given : List ℕ) : Type 0 where
-  -- words of no command
-  WordsRefused : ¬ IsDowngrade words → status ≡ 4 → given ≡ codes "words refused" ++ crlf → Outcome words octets status given
-  -- `downgrade` takes one message and gives its surrogate
-  Downgrade : IsDowngrade words → DowngradeOutcome octets status given → Outcome words octets status given

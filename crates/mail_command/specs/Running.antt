@@ -1,46 +1,128 @@
--- What a call that runs a command does to its wire.
-use Rattle.std.specs.Prelude.{◌≡◌, ℕ, ◌≤◌, ◌⊎◌, List, [], ◌++◌, length, IfSome, IsTrue}
+-- What the call that runs a command does to its wire and its keeper, by its status.
+use Rattle.std.specs.Prelude.{◌≡◌, ℕ, ◌≤◌, ◌⊎◌, List, [], ◌++◌, length, codes, decimal, Option, IfSome, IsTrue}
 use Rattle.mail_wire.specs.declared.outside.Entry.{Entry}
+use Rattle.mail_wire.specs.Lines.{crlf}
 use Rattle.mail_wire.specs.Telling.{Telling}
+use Rattle.mail_wire.specs.KeeperTelling.{KeeperTelling}
 use Rattle.mail_wire.specs.Transcript.{IsLawful, taken_of, given_of}
-use Rattle.mail_wire.specs.Moves.{Moves}
+use Rattle.mail_wire.specs.Moves.{Moves, Gives, GivesPrefix}
 use Rattle.mail_wire.specs.Causes.{Rose}
-use Rattle.mail_command.specs.Outcome.{Outcome, IsDowngrade, message_max}
+use Rattle.mail_store.specs.declared.opening.OpenFault.{OpenFault}
+use Rattle.mail_store.specs.declared.opening.OpenFault.TheVariants as faults
+use Rattle.mail_store.specs.declared.records.Record.{Record}
+use Rattle.mail_store.specs.Answers.{IsFold, OpensTo, IsJournalFault, LeavesRecords}
+use Rattle.mail_store.specs.Kept.{nothing, store_of}
+use Rattle.mail_store.specs.Records.{AreRecords}
+use Rattle.mail_store.specs.Spelling.{journal}
+use Rattle.mail_store.specs.StoreState.{StoreState}
+use Rattle.mail_command.specs.declared.serving.Role.{Role}
+use Rattle.mail_command.specs.Outcome.{DowngradeOutcome, message_max}
+use Rattle.mail_command.specs.Serving.{IsPrefixOf, ServesLawfully, ServesAll, ServesUpTo}
 
 -- status 1, a fault of the wire, or 3, want of memory
 abbrev pub IsBrokenOff : ℕ → Type 0
 IsBrokenOff status = (status ≡ 1) ⊎ (status ≡ 3)
 
-abbrev pub IsPrefixOf : List ℕ → List ℕ → Type 0
-IsPrefixOf front whole = (rest : List ℕ) × (whole ≡ front ++ rest)
+-- ---- words of no command
 
--- The words came to their outcome on the octets that were taken, and it was given whole. Nothing was given before the
--- last take. Where the wire tells what it had left, the outcome is that of all of it, and all of it was taken, if it isn't
--- more than a message may have. Words of no command take nothing.
-pub record Answers (words : List (List ℕ)) (before now : Telling) (status : ℕ) : Type 0 where
+abbrev pub words_refused : List ℕ
+words_refused = codes "words refused" ++ crlf
+
+-- they are told so, or that was broken off
+pub data RefusesWords (before now : Telling) (status : ℕ) : Type 0 where
+  Told : Gives before now words_refused → status ≡ 4 → RefusesWords before now status
+  BrokenOff : GivesPrefix before now words_refused → IsBrokenOff status → RefusesWords before now status
+
+-- ---- `downgrade`
+
+-- The octets that were taken came to their outcome, and it was given whole. Nothing was given before the last take. Where the
+-- wire tells what it had left, the outcome is that of all of it, and all of it was taken, if it isn't more than a message may
+-- have.
+pub record Answers (before now : Telling) (status : ℕ) : Type 0 where
   pub entries : List Entry
   pub moves : Moves before now entries
   pub quiet : IsLawful (λ taken. []) entries
-  pub outcome : Outcome words (taken_of entries) status (given_of entries)
-  pub whole : IfSome before.left (λ octets. Outcome words octets status (given_of entries))
-  pub all_taken : IfSome before.left (λ octets. IsDowngrade words → length octets ≤ message_max → taken_of entries ≡ octets)
-  pub untouched : ¬ IsDowngrade words → taken_of entries ≡ []
+  pub outcome : DowngradeOutcome (taken_of entries) status (given_of entries)
+  pub whole : IfSome before.left (λ octets. DowngradeOutcome octets status (given_of entries))
+  pub all_taken : IfSome before.left (λ octets. length octets ≤ message_max → taken_of entries ≡ octets)
 
 -- The command was broken off: nothing was given before the last take, and what was given is a prefix of its outcome's octets.
-pub record BreaksOff (words : List (List ℕ)) (before now : Telling) : Type 0 where
+pub record BreaksOff (before now : Telling) : Type 0 where
   pub entries : List Entry
   pub moves : Moves before now entries
   pub quiet : IsLawful (λ taken. []) entries
-  pub begun : (status : ℕ) (given : List ℕ) → Outcome words (taken_of entries) status given → IsPrefixOf (given_of entries) given
-  pub whole : IfSome before.left (λ octets. (status : ℕ) (given : List ℕ) → Outcome words octets status given → IsPrefixOf (given_of entries) given)
+  pub begun : (status : ℕ) (given : List ℕ) → DowngradeOutcome (taken_of entries) status given → IsPrefixOf (given_of entries) given
+  pub whole : IfSome before.left (λ octets. (status : ℕ) (given : List ℕ) → DowngradeOutcome octets status given → IsPrefixOf (given_of entries) given)
 
 -- Whatever outcome the octets have that the wire had left, its status is the answer, or the command was broken off.
-abbrev pub IsExact : List (List ℕ) → Telling → ℕ → Type 0
-IsExact words before result =
-    IfSome before.left (λ octets. (status : ℕ) (given : List ℕ) → Outcome words octets status given → (result ≡ status) ⊎ IsBrokenOff result)
+abbrev pub IsExact : Telling → ℕ → Type 0
+IsExact before result =
+    IfSome before.left (λ octets. (status : ℕ) (given : List ℕ) → DowngradeOutcome octets status given → (result ≡ status) ⊎ IsBrokenOff result)
 
--- The count of faults never falls; status 1 comes only where it rose, and never over a wire that never fails.
-pub record HasStatusCause (before now : Telling) (status : ℕ) : Type 0 where
+pub record RunsDowngrade (before now : Telling) (status : ℕ) : Type 0 where
+  pub answers : ¬ IsBrokenOff status → Answers before now status
+  pub broken_off : IsBrokenOff status → BreaksOff before now
+  pub exact : IsExact before status
+
+-- ---- a session
+
+-- The store is the fold of the records that the keeper had, and the keeper holds them and nothing more.
+pub record OpensStore (old new : Option (List ℕ)) (store : StoreState) : Type 0 where
+  pub fold : IsFold store.kept
+  pub opens : IfSome old (λ octets. OpensTo octets new store.kept)
+
+-- the keeper holds the journal of the store
+abbrev pub HoldsStore : Option (List ℕ) → StoreState → Type 0
+HoldsStore kept store = IfSome kept (λ octets. (all : List Record) × AreRecords nothing all × (octets ≡ journal all) × (store.kept ≡ store_of all))
+
+-- a text, a place, and the end of the line
+abbrev pub place_line : List ℕ → ℕ → List ℕ
+place_line text at = text ++ (decimal at ++ crlf)
+
+-- the status and the line that tell why a journal wasn't opened; a fault of the keeper and want of memory have none
+abbrev pub IsToldBy : OpenFault → ℕ → List ℕ → Type 0
+IsToldBy faults.Keeper status line = ⊥
+IsToldBy (faults.BadJournal at) status line = (status ≡ 5) × (line ≡ place_line (codes "bad journal at ") at)
+IsToldBy (faults.NotBuilt at) status line = (status ≡ 10) × (line ≡ place_line (codes "not built at ") at)
+IsToldBy faults.Memory status line = ⊥
+
+-- The journal isn't opened: it is bad at a place, or a record stands there that isn't read yet, and the line tells which.
+pub record IsUnopened (old new : Option (List ℕ)) (status : ℕ) (line : List ℕ) : Type 0 where
+  pub fault : OpenFault
+  pub told : IsToldBy fault status line
+  pub is : IfSome old (λ octets. IsJournalFault octets new fault)
+
+-- how far a session's command came that was broken off
+pub data BreaksSession (surrogate : List ℕ → List ℕ) (role : Role) (old new : Option (List ℕ)) (before now : Telling) : Type 0 where
+  -- the journal wasn't opened
+  InJournal : Gives before now [] → BreaksSession surrogate role old new before now
+  -- the line that tells why it can't be
+  InLine : (status : ℕ) (line : List ℕ) → IsUnopened old new status line → GivesPrefix before now line → BreaksSession surrogate role old new before now
+  InSession : (store : StoreState) → OpensStore old new store → ServesLawfully surrogate role store before now → BreaksSession surrogate role old new before now
+
+-- What the command of a session does, by its status. `surrogate` gives surrogates, and `max` is how many octets a session may
+-- take.
+pub data RunsSession (surrogate : List ℕ → List ℕ) (role : Role) (max : ℕ) (old new : Option (List ℕ)) (before now : Telling) (status : ℕ) : Type 0 where
+  -- the session or its input ended
+  Ended : (store after : StoreState) → OpensStore old new store → ServesAll surrogate role store after max before now → HoldsStore new after → status ≡ 0
+      → RunsSession surrogate role max old new before now status
+  -- as many octets were taken as a session may take, and it hadn't ended
+  Limit : (store after : StoreState) → OpensStore old new store → ServesUpTo surrogate role store after max before now → HoldsStore new after → status ≡ 6
+      → RunsSession surrogate role max old new before now status
+  -- the journal was told to be bad, or not to be built yet
+  Unopened : (line : List ℕ) → IsUnopened old new status line → Gives before now line → RunsSession surrogate role max old new before now status
+  -- a fault of the wire, of the keeper, or want of memory; the keeper's records stay
+  Broken : IsBrokenOff status ⊎ (status ≡ 2) → BreaksSession surrogate role old new before now → LeavesRecords old new
+      → RunsSession surrogate role max old new before now status
+
+-- ---- causes
+
+-- No count of faults falls. Status 1 comes only where the wire's rose, 2 only where the keeper's did, and neither where it tells
+-- that it never fails.
+pub record HasStatusCause (before now : Telling) (keeper kept : KeeperTelling) (status : ℕ) : Type 0 where
   pub later : before.faults ≤ now.faults
-  pub rose : status ≡ 1 → Rose before.faults now.faults
-  pub sure : IsTrue before.never_fails → IsTrue now.never_fails × ¬ (status ≡ 1)
+  pub wire_rose : status ≡ 1 → Rose before.faults now.faults
+  pub wire_sure : IsTrue before.never_fails → IsTrue now.never_fails × ¬ (status ≡ 1)
+  pub keeper_later : keeper.faults ≤ kept.faults
+  pub keeper_rose : status ≡ 2 → Rose keeper.faults kept.faults
+  pub keeper_sure : IsTrue keeper.never_fails → IsTrue kept.never_fails × ¬ (status ≡ 2)

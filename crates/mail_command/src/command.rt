@@ -1,46 +1,53 @@
-//! Runs a command over a wire.
-ghost use Rattle.std.specs.Prelude.{◌≡◌, ◌↔◌, Err, IfOk, OnErr, IsTrue};
+//! Runs a command over a wire and a keeper.
+ghost use Rattle.std.specs.Prelude.{◌≡◌, [], ◌∷◌, Err, IfOk};
 ghost use Rattle.mail_wire.specs.Moves.{HasWireCause};
-ghost use Rattle.mail_command.specs.Outcome.{IsDowngrade};
-ghost use Rattle.mail_command.specs.Running.{Answers, BreaksOff, IsBrokenOff, IsExact, HasStatusCause};
+ghost use Rattle.surrogate_cache.specs.Served.{WithSurrogates};
+ghost use Rattle.mail_command.specs.Words.{Names, IsNoCommand, IsDowngrade, IsPop};
+ghost use Rattle.mail_command.specs.Running.{RefusesWords, RunsDowngrade, RunsSession, HasStatusCause};
+ghost use Rattle.mail_command.specs.Statuses.{status_of};
+ghost use Rattle.mail_command.specs.declared.serving.TheConstants.{LIMITS};
 
-use crate::downgrading::{MESSAGE_MAX, downgrade};
-use crate::taking::take_up_to;
+use crate::downgrading::run_downgrade;
+use crate::serving::Role;
+use crate::sessions::run_session;
+use mail_wire::keeping::Keeper;
 use mail_wire::outside::{Fault, Wire};
 use mail_wire::traffic::give_all;
 use mail_wire::words::Words;
 use std::alloc::Global;
 
-fn is_downgrade(words: &Words) -> bool
-    ensures { IsTrue result ↔ IsDowngrade words.now }
+/// The commands that words name.
+#[derive(Clone, Copy, Debug, PartialEq, Eq)]
+pub enum Command {
+    Downgrade,
+    Session(Role),
+}
+
+// The command of one word.
+fn command_named(word: &str) -> Option<Command>
+    ensures { Names (word.now ∷ []) result }
 {
-    match (words.get(0), words.get(1)) {
-        (Some(word), None) => word == "downgrade",
-        _ => false,
+    match word {
+        "downgrade" => Some(Command::Downgrade),
+        "pop" => Some(Command::Session(Role::Pop)),
+        _ => None,
     }
 }
 
-// Takes one message, and gives its surrogate or why there is none.
-fn run_downgrade<W: Wire>(alloc: Global, words: &Words, wire: &mut W) -> Result<u8, Fault>
-    requires { IsDowngrade words.now }
-    ensures answers { IfOk result (Answers words.now (W.tells wire.old) (W.tells wire.new)) }
-    ensures fine { IfOk result (λ status. ¬ IsBrokenOff status) }
-    ensures broken_off { OnErr result (BreaksOff words.now (W.tells wire.old) (W.tells wire.new)) }
-    ensures cause { HasWireCause (W.tells wire.old) (W.tells wire.new) result Fault.Wire }
-    ensures keeper { ¬ (result ≡ Err Fault.Keeper) }
+// The command that the words name.
+fn command_of(words: &Words) -> Option<Command>
+    ensures { Names words.now result }
 {
-    let taken = take_up_to(alloc, wire, MESSAGE_MAX)?;
-    let reply = downgrade(alloc, taken.as_slice())?;
-    give_all(wire, reply.given.as_slice())?;
-    Ok(reply.status)
+    match (words.get(0), words.get(1)) {
+        (Some(word), None) => command_named(word),
+        _ => None,
+    }
 }
 
 // Tells that the words are those of no command.
-fn refuse_words<W: Wire>(words: &Words, wire: &mut W) -> Result<u8, Fault>
-    requires { ¬ IsDowngrade words.now }
-    ensures answers { IfOk result (Answers words.now (W.tells wire.old) (W.tells wire.new)) }
-    ensures fine { IfOk result (λ status. ¬ IsBrokenOff status) }
-    ensures broken_off { OnErr result (BreaksOff words.now (W.tells wire.old) (W.tells wire.new)) }
+fn refuse_words<W: Wire>(wire: &mut W) -> Result<u8, Fault>
+    ensures refuses { RefusesWords (W.tells wire.old) (W.tells wire.new) (status_of result) }
+    ensures fine { IfOk result (λ status. status ≡ 4) }
     ensures cause { HasWireCause (W.tells wire.old) (W.tells wire.new) result Fault.Wire }
     ensures keeper { ¬ (result ≡ Err Fault.Keeper) }
 {
@@ -49,34 +56,43 @@ fn refuse_words<W: Wire>(words: &Words, wire: &mut W) -> Result<u8, Fault>
 }
 
 // Does what the words say.
-fn work<W: Wire>(alloc: Global, words: &Words, wire: &mut W) -> Result<u8, Fault>
-    ensures answers { IfOk result (Answers words.now (W.tells wire.old) (W.tells wire.new)) }
-    ensures fine { IfOk result (λ status. ¬ IsBrokenOff status) }
-    ensures broken_off { OnErr result (BreaksOff words.now (W.tells wire.old) (W.tells wire.new)) }
-    ensures cause { HasWireCause (W.tells wire.old) (W.tells wire.new) result Fault.Wire }
-    ensures keeper { ¬ (result ≡ Err Fault.Keeper) }
+fn work<W: Wire, J: Keeper>(
+    alloc: Global,
+    words: &Words,
+    wire: &mut W,
+    keeper: &mut J,
+) -> Result<u8, Fault>
+    ensures words { IsNoCommand words.now → RefusesWords (W.tells wire.old) (W.tells wire.new) (status_of result) }
+    ensures downgrade { IsDowngrade words.now → RunsDowngrade (W.tells wire.old) (W.tells wire.new) (status_of result) }
+    ensures pop { IsPop words.now → WithSurrogates (λ surrogate. RunsSession surrogate Role.Pop LIMITS.session_max
+        (J.tells keeper.old).octets (J.tells keeper.new).octets (W.tells wire.old) (W.tells wire.new) (status_of result)) }
+    ensures untouched { ¬ IsPop words.now → J.tells keeper.new ≡ J.tells keeper.old }
+    ensures cause { HasStatusCause (W.tells wire.old) (W.tells wire.new) (J.tells keeper.old) (J.tells keeper.new) (status_of result) }
 {
-    if is_downgrade(words) {
-        run_downgrade(alloc, words, wire)
-    } else {
-        refuse_words(words, wire)
+    match command_of(words) {
+        Some(Command::Downgrade) => run_downgrade(alloc, wire),
+        Some(Command::Session(role)) => run_session(alloc, role, wire, keeper),
+        None => refuse_words(wire),
     }
 }
 
 /// Runs the command that the words name, and answers its status: 0 where the work is done, 1 after a fault of the wire,
-/// 3 for want of memory, 4 where the words are those of no command, 7 where the octets are no message with a header
-/// block of UTF-8 fields or are more than 32 MiB, 10 where a field can't be rewritten yet.
-pub fn run<W: Wire>(alloc: Global, words: &Words, wire: &mut W) -> u8
-    // The outcome of the words and of all that was left was given.
-    ensures answers { ¬ IsBrokenOff result → Answers words.now (W.tells wire.old) (W.tells wire.new) result }
-    // At most a prefix of it was given.
-    ensures broken_off { IsBrokenOff result → BreaksOff words.now (W.tells wire.old) (W.tells wire.new) }
-    ensures exact { IsExact words.now (W.tells wire.old) result }
-    ensures cause { HasStatusCause (W.tells wire.old) (W.tells wire.new) result }
+/// 2 after one of the keeper, 3 for want of memory, 4 where the words are those of no command, 5 where the journal is bad,
+/// 6 where a session took 1 GiB without an end, 7 where the octets are no message with a header block of UTF-8 fields or are
+/// more than 32 MiB, 10 where a field or a record can't be read yet.
+pub fn run<W: Wire, J: Keeper>(alloc: Global, words: &Words, wire: &mut W, keeper: &mut J) -> u8
+    ensures words { IsNoCommand words.now → RefusesWords (W.tells wire.old) (W.tells wire.new) result }
+    ensures downgrade { IsDowngrade words.now → RunsDowngrade (W.tells wire.old) (W.tells wire.new) result }
+    ensures pop { IsPop words.now → WithSurrogates (λ surrogate. RunsSession surrogate Role.Pop LIMITS.session_max
+        (J.tells keeper.old).octets (J.tells keeper.new).octets (W.tells wire.old) (W.tells wire.new) result) }
+    // Only a session opens the journal.
+    ensures untouched { ¬ IsPop words.now → J.tells keeper.new ≡ J.tells keeper.old }
+    ensures cause { HasStatusCause (W.tells wire.old) (W.tells wire.new) (J.tells keeper.old) (J.tells keeper.new) result }
 {
-    match work(alloc, words, wire) {
+    match work(alloc, words, wire, keeper) {
         Ok(status) => status,
         Err(Fault::Wire) => 1,
-        Err(Fault::Keeper | Fault::Memory) => 3,
+        Err(Fault::Keeper) => 2,
+        Err(Fault::Memory) => 3,
     }
 }

@@ -1,9 +1,14 @@
-//! The commands: what the words of the command line do over a wire.
+//! The commands: what the words of the command line do over a wire and a keeper.
 #![tactic(auto)]
 
 pub mod command;
 pub mod downgrading;
 pub mod laws;
+mod lines;
+pub mod serving;
+#[cfg(test)]
+mod session_tests;
+pub mod sessions;
 pub mod taking;
 #[cfg(test)]
 mod tests;

@@ -1,6 +1,7 @@
-//! The rows of the command, over wires in memory.
+//! The rows of `downgrade`, over wires in memory.
 use crate::command::run;
 use mail_wire::in_memory::{Failure, MemWire};
+use mail_wire::mem_keeper::MemKeeper;
 use mail_wire::outside::Entry;
 use mail_wire::values::Octets;
 use mail_wire::words::Words;
@@ -27,7 +28,8 @@ fn answer(
         Vec::from_slice(alloc, sizes)?,
         Vec::from_slice(alloc, failures)?,
     );
-    let status = run(alloc, &words, &mut wire);
+    let mut keeper = MemKeeper::new(Octets::new(alloc), Vec::new(alloc));
+    let status = run(alloc, &words, &mut wire, &mut keeper);
     let mut given = Octets::new(alloc);
     for entry in wire.entries() {
         if let Entry::Given(octets) = entry {

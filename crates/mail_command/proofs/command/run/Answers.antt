@@ -1,6 +1,10 @@
-use Rattle.mail_command.proofs.RunLemmas.{exact_by}
 use Rattle.mail_command.proofs.command.run.Goals as goal
 
-pub returns-in-Ok-clause-exact : goal.returns-in-Ok-clause-exact
-returns-in-Ok-clause-exact g c =
-    exact_by c.args.words.now (g.W.Wire.tells c.args.wire.now) (g.W.Wire.tells c.work.new.wire) c.in-Ok.status c.in-Ok.ensures.answers
+pub returns-in-Err-Wire-clause-pop : goal.returns-in-Err-Wire-clause-pop
+returns-in-Err-Wire-clause-pop g c = rw c.in-Err-Wire.field-0-is at c.in-Err-Wire.ensures.pop
+
+pub returns-in-Err-Keeper-clause-pop : goal.returns-in-Err-Keeper-clause-pop
+returns-in-Err-Keeper-clause-pop g c = rw c.in-Err-Keeper.field-0-is at c.in-Err-Keeper.ensures.pop
+
+pub returns-in-Err-Memory-clause-pop : goal.returns-in-Err-Memory-clause-pop
+returns-in-Err-Memory-clause-pop g c = rw c.in-Err-Memory.field-0-is at c.in-Err-Memory.ensures.pop

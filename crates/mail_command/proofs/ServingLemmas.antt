@@ -1,0 +1,116 @@
+-- A session over a wire, whatever it answers: what was taken so far, and the answer to it.
+use Rattle.std.proofs.Common.{◌≡◌, ℕ, List, [], ◌∷◌, ◌++◌, Option, Some, None, refl, sym, ap, ◌∙◌, append-nil, append_assoc, take}
+use Rattle.std.specs.Prelude.{IfSome}
+use Rattle.std.specs.Io.KnownBytes.{Consumes, IsAtEnd}
+use Rattle.mail_wire.specs.declared.outside.Entry.{Entry}
+use Rattle.mail_wire.specs.declared.outside.Entry.TheVariants.{Taken}
+use Rattle.mail_wire.specs.Telling.{Telling}
+use Rattle.mail_wire.specs.Transcript.{IsLawful, taken_of, given_of}
+use Rattle.mail_wire.specs.Moves.{Moves, Gives, TakesPiece, TakesNothing}
+use Rattle.mail_wire.proofs.Moving.{Moves-trans, Moves-take, Moves-none, taken_of-append, given_of-append, AreGiven-taken_of}
+use Rattle.mail_wire.proofs.LawfulLemmas.{IsLawful-nil, IsLawful-take, IsLawful-give}
+use Rattle.mail_command.specs.Serving.{IsPrefixOf}
+
+-- The answer to more octets begins with that to the first ones.
+abbrev pub Grows : (List ℕ → List ℕ) → Type 0
+Grows answer = (xs ys : List ℕ) → IsPrefixOf (answer xs) (answer (xs ++ ys))
+
+-- These octets were taken, and the answer to them was given.
+pub record Serving (answer : List ℕ → List ℕ) (before now : Telling) (taken : List ℕ) : Type 0 where
+  pub entries : List Entry
+  pub moves : Moves before now entries
+  pub lawful : IsLawful answer entries
+  pub taken_is : taken_of entries ≡ taken
+  pub answered : given_of entries ≡ answer taken
+
+-- These octets were taken, and so far this was given, which is as is due before each take.
+pub record Halfway (answer : List ℕ → List ℕ) (before now : Telling) (taken given : List ℕ) : Type 0 where
+  pub entries : List Entry
+  pub moves : Moves before now entries
+  pub lawful : IsLawful answer entries
+  pub taken_is : taken_of entries ≡ taken
+  pub given_is : given_of entries ≡ given
+
+pub Halfway-of : (answer : List ℕ → List ℕ) (a b : Telling) (taken : List ℕ) → Serving answer a b taken → Halfway answer a b taken (answer taken)
+Halfway-of answer a b taken so_far = record { entries = so_far.entries; moves = so_far.moves; lawful = so_far.lawful; taken_is = so_far.taken_is; given_is = so_far.answered }
+
+pub Serving-of : (answer : List ℕ → List ℕ) (a b : Telling) (taken given : List ℕ) → Halfway answer a b taken given → given ≡ answer taken → Serving answer a b taken
+Serving-of answer a b taken given half is = record { entries = half.entries; moves = half.moves; lawful = half.lawful; taken_is = half.taken_is; answered = half.given_is ∙ is }
+
+-- what is given first
+pub Halfway-first : (answer : List ℕ → List ℕ) (a b : Telling) (given : List ℕ) → Gives a b given → Halfway answer a b [] given
+Halfway-first answer a b given gives = record {
+  entries = gives.entries;
+  moves = gives.moves;
+  lawful = IsLawful-give answer [] gives.entries (IsLawful-nil answer) gives.only;
+  taken_is = AreGiven-taken_of gives.entries gives.only;
+  given_is = gives.octets_are;
+}
+
+-- a piece is taken
+pub Halfway-take : (answer : List ℕ → List ℕ) (a b c : Telling) (taken into : List ℕ) (n : ℕ) → Serving answer a b taken → TakesPiece b c n into
+    → Halfway answer a c (taken ++ take n into) (answer taken)
+Halfway-take answer a b c taken into n so_far piece =
+    let entry : List Entry = Taken (take n into) ∷ [] in
+    record {
+      entries = so_far.entries ++ entry;
+      moves = Moves-trans a b c so_far.entries entry so_far.moves (Moves-take b c (take n into) piece.left piece.noted);
+      lawful = IsLawful-take answer so_far.entries (take n into) so_far.lawful (so_far.answered ∙ ap answer (sym so_far.taken_is));
+      taken_is = taken_of-append so_far.entries entry ∙ rw (so_far.taken_is, append-nil) refl;
+      given_is = given_of-append so_far.entries entry ∙ append-nil (given_of so_far.entries) ∙ so_far.answered;
+    }
+
+-- octets are given
+pub Halfway-give : (answer : List ℕ → List ℕ) (a b c : Telling) (taken given more : List ℕ) → Halfway answer a b taken given → Gives b c more → Halfway answer a c taken (given ++ more)
+Halfway-give answer a b c taken given more half gives = record {
+  entries = half.entries ++ gives.entries;
+  moves = Moves-trans a b c half.entries gives.entries half.moves gives.moves;
+  lawful = IsLawful-give answer half.entries gives.entries half.lawful gives.only;
+  taken_is = taken_of-append half.entries gives.entries ∙ ap (λ more. taken_of half.entries ++ more) (AreGiven-taken_of gives.entries gives.only)
+      ∙ append-nil (taken_of half.entries) ∙ half.taken_is;
+  given_is = given_of-append half.entries gives.entries ∙ rw (half.given_is, gives.octets_are) refl;
+}
+
+-- a take failed
+pub Serving-nothing : (answer : List ℕ → List ℕ) (a b c : Telling) (taken : List ℕ) → Serving answer a b taken → TakesNothing b c → Serving answer a c taken
+Serving-nothing answer a b c taken so_far none = record {
+  entries = so_far.entries;
+  moves = rw append-nil at (Moves-trans a b c so_far.entries [] so_far.moves (Moves-none b c none.left none.noted));
+  lawful = so_far.lawful;
+  taken_is = so_far.taken_is;
+  answered = so_far.answered;
+}
+
+-- ---- what the wire had left
+
+begun_by : (l m : Option (List ℕ)) (taken : List ℕ) → Consumes l m taken → IfSome l (λ octets. IsPrefixOf taken octets)
+begun_by None m taken consumes = tt
+begun_by (Some l) None taken consumes = absurd consumes
+begun_by (Some l) (Some m) taken consumes = (m, consumes)
+
+all_by : (l m : Option (List ℕ)) (taken : List ℕ) → Consumes l m taken → IsAtEnd m → IfSome l (λ octets. taken ≡ octets)
+all_by None m taken consumes end = tt
+all_by (Some l) None taken consumes end = absurd consumes
+all_by (Some l) (Some m) taken consumes end = sym (consumes ∙ (rw end (append-nil taken)))
+
+pub map_some : (l : Option (List ℕ)) (P Q : List ℕ → Type 0) → ((octets : List ℕ) → P octets → Q octets) → IfSome l P → IfSome l Q
+map_some None P Q step some = tt
+map_some (Some l) P Q step some = step l some
+
+-- it began with what was taken
+pub left_begins : (answer : List ℕ → List ℕ) (a b : Telling) (taken given : List ℕ) → Halfway answer a b taken given → IfSome a.left (λ octets. IsPrefixOf taken octets)
+left_begins answer a b taken given half = begun_by a.left b.left taken (rw half.taken_is at half.moves.left)
+
+-- it was what was taken, where nothing is left
+pub left_all : (answer : List ℕ → List ℕ) (a b : Telling) (taken given : List ℕ) → Halfway answer a b taken given → IsAtEnd b.left → IfSome a.left (λ octets. taken ≡ octets)
+left_all answer a b taken given half end = all_by a.left b.left taken (rw half.taken_is at half.moves.left) end
+
+prefix_trans : (xs ys zs : List ℕ) → IsPrefixOf xs ys → IsPrefixOf ys zs → IsPrefixOf xs zs
+prefix_trans xs ys zs one two = (one.0 ++ two.0, two.1 ∙ ap (λ front. front ++ two.0) one.1 ∙ append_assoc xs one.0 two.0)
+
+-- a prefix of the answer to what was taken is one of the answer to what was left
+pub begins_answer : (answer : List ℕ → List ℕ) (a b : Telling) (taken given : List ℕ) → Grows answer → Halfway answer a b taken given → IsPrefixOf given (answer taken)
+    → IfSome a.left (λ octets. IsPrefixOf given (answer octets))
+begins_answer answer a b taken given grows half begun =
+    map_some a.left (λ octets. IsPrefixOf taken octets) _ (λ octets front.
+    prefix_trans given (answer taken) (answer octets) begun (rw (← front.1) at (grows taken front.0))) (left_begins answer a b taken given half)

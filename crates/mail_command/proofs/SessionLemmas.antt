@@ -1,0 +1,81 @@
+-- What the command of a session does, exit by exit.
+use Rattle.std.proofs.Common.{◌≡◌, ℕ, List, Option, Some, None, Result, Err, refl, ap, ◌∙◌, ◌⊎◌, inl, inr}
+use Rattle.std.specs.Prelude.{IfSome}
+use Rattle.mail_wire.specs.declared.outside.Fault.{Fault}
+use Rattle.mail_wire.specs.declared.outside.Fault.TheVariants as fault
+use Rattle.mail_wire.specs.Telling.{Telling}
+use Rattle.mail_wire.specs.Moves.{Gives, GivesPrefix}
+use Rattle.mail_wire.proofs.Moving.{Gives-nil}
+use Rattle.mail_store.specs.declared.opening.OpenFault.{OpenFault}
+use Rattle.mail_store.specs.declared.records.Record.{Record}
+use Rattle.mail_store.specs.Answers.{IsFold, OpensTo, IsJournalFault, LeavesRecords}
+use Rattle.mail_store.specs.Kept.{nothing}
+use Rattle.mail_store.specs.Opening.{HasRecords}
+use Rattle.mail_store.specs.Records.{AreRecords}
+use Rattle.mail_store.specs.StoreState.{StoreState}
+use Rattle.mail_command.specs.declared.serving.Role.{Role}
+use Rattle.mail_command.specs.declared.serving.Role.TheVariants.{Pop}
+use Rattle.mail_command.specs.Serving.{ServesLawfully, ServesAll, ServesUpTo}
+use Rattle.mail_command.specs.Running.{IsBrokenOff, HoldsStore, IsToldBy, InJournal, InLine, InSession, RunsSession, Ended, Limit, Unopened, Broken}
+use Rattle.mail_command.specs.Statuses.{status_of}
+
+some_eq : (a b : List ℕ) → Some a ≡ Some b → a ≡ b
+some_eq a b h = cc
+
+not_some : (a : List ℕ) → Some a ≡ None → ⊥
+not_some a h = cc
+
+records_of : (octets : List ℕ) (all : List Record) → HasRecords octets all → AreRecords nothing all
+records_of octets all (inl begun) = rw begun.1 tt
+records_of octets all (inr whole) = whole.1.records
+
+-- the keeper holds what was opened, and the session left it
+holds_by : (old new : Option (List ℕ)) (store after : StoreState) → LeavesRecords old new → IfSome old (λ octets. OpensTo octets new store.kept) → after ≡ store → HoldsStore new after
+holds_by None None store after leaves opens same = tt
+holds_by None (Some n) store after leaves opens same = absurd (not_some n leaves)
+holds_by (Some o) None store after leaves opens same = absurd leaves
+holds_by (Some o) (Some n) store after leaves opens same =
+    (opens.all, records_of o opens.all opens.had, some_eq n _ opens.holds, ap (λ (s : StoreState). s.kept) same ∙ opens.kept_is)
+
+-- each fault breaks a command off
+pub broken_by : (result : Result ℕ Fault) (met : Fault) → result ≡ Err met → IsBrokenOff (status_of result) ⊎ (status_of result ≡ 2)
+broken_by result fault.Wire is = rw is (inl (inl refl))
+broken_by result fault.Keeper is = rw is (inr refl)
+broken_by result fault.Memory is = rw is (inl (inr refl))
+
+-- the journal wasn't opened, and no line tells why
+pub not_opened : (surrogate : List ℕ → List ℕ) (role : Role) (max : ℕ) (old new : Option (List ℕ)) (a : Telling) (status : ℕ) → LeavesRecords old new
+    → IsBrokenOff status ⊎ (status ≡ 2) → RunsSession surrogate role max old new a a status
+not_opened surrogate role max old new a status leaves broken = Broken broken (InJournal (Gives-nil a)) leaves
+
+-- a line tells why
+pub told : (surrogate : List ℕ → List ℕ) (role : Role) (max : ℕ) (old new : Option (List ℕ)) (a b : Telling) (met : OpenFault) (status : ℕ) (line : List ℕ)
+    → IfSome old (λ octets. IsJournalFault octets new met) → IsToldBy met status line → Gives a b line → RunsSession surrogate role max old new a b status
+told surrogate role max old new a b met status line is tells gives = Unopened line (record { fault = met; told = tells; is = is }) gives
+
+-- the line was broken off
+pub told_partly : (surrogate : List ℕ → List ℕ) (role : Role) (max : ℕ) (old new : Option (List ℕ)) (a b : Telling) (met : OpenFault) (told status : ℕ) (line : List ℕ) → LeavesRecords old new
+    → IfSome old (λ octets. IsJournalFault octets new met) → IsToldBy met told line → GivesPrefix a b line → IsBrokenOff status ⊎ (status ≡ 2)
+    → RunsSession surrogate role max old new a b status
+told_partly surrogate role max old new a b met told status line leaves is tells gives broken =
+    Broken broken (InLine told line (record { fault = met; told = tells; is = is }) gives) leaves
+
+-- a session was served
+pub served : (surrogate : List ℕ → List ℕ) (role : Role) (max : ℕ) (old new : Option (List ℕ)) (a b : Telling) (store after : StoreState) → LeavesRecords old new → IsFold store.kept
+    → IfSome old (λ octets. OpensTo octets new store.kept) → after ≡ store → ServesAll surrogate role store after max a b → RunsSession surrogate role max old new a b 0
+served surrogate role max old new a b store after leaves fold opens same all =
+    Ended store after (record { fold = fold; opens = opens }) all (holds_by old new store after leaves opens same) refl
+
+pub served_up_to : (surrogate : List ℕ → List ℕ) (role : Role) (max : ℕ) (old new : Option (List ℕ)) (a b : Telling) (store after : StoreState) → LeavesRecords old new → IsFold store.kept
+    → IfSome old (λ octets. OpensTo octets new store.kept) → after ≡ store → ServesUpTo surrogate role store after max a b → RunsSession surrogate role max old new a b 6
+served_up_to surrogate role max old new a b store after leaves fold opens same all =
+    Limit store after (record { fold = fold; opens = opens }) all (holds_by old new store after leaves opens same) refl
+
+pub served_partly : (surrogate : List ℕ → List ℕ) (role : Role) (max : ℕ) (old new : Option (List ℕ)) (a b : Telling) (store : StoreState) (status : ℕ) → LeavesRecords old new → IsFold store.kept
+    → IfSome old (λ octets. OpensTo octets new store.kept) → ServesLawfully surrogate role store a b → IsBrokenOff status ⊎ (status ≡ 2) → RunsSession surrogate role max old new a b status
+served_partly surrogate role max old new a b store status leaves fold opens so_far broken =
+    Broken broken (InSession store (record { fold = fold; opens = opens }) so_far) leaves
+
+-- the one role is POP3's
+pub at_pop : (P : Role → Type 0) (role : Role) → P role → P Pop
+at_pop P Pop is = is

@@ -1,0 +1,98 @@
+use Rattle.std.proofs.Common.{◌≡◌, ◌∙◌, ℕ, drop, arith, refl, Bool, false}
+use Rattle.std.specs.Prelude.{IsTrue}
+use Rattle.std.proofs.lemmas.List.{take-append-le, length-take}
+use Rattle.mail_wire.specs.declared.outside.Fault.TheVariants as fault
+use Rattle.mail_wire.proofs.Moving.{GoesOn-of, GoesOn-trans}
+use Rattle.mail_command.proofs.PopServing.{greeting_fails, goes_first, starts_open, take_fails, input_ends, input_lawfully, fed, not_fed, session_ends, goes_lawfully, limit_reached}
+use Rattle.mail_command.proofs.serving.serve_pop.Goals as goal
+
+not_both : (b : Bool) → IsTrue b → b ≡ false → ⊥
+not_both b is apart = cc
+
+pub returns-in_err-session-clause-lawful : goal.returns-in_err-session-clause-lawful
+returns-in_err-session-clause-lawful g c surrogate is =
+    greeting_fails surrogate c.args.desk.now.store (g.W.Wire.tells c.args.wire.now) (g.W.Wire.tells c.start.new.wire) (c.in_err-session.ensures.gives surrogate)
+
+pub loop-taken-init : goal.loop-taken-init
+loop-taken-init g c = record {
+  goes = λ surrogate is. goes_first surrogate c.args.desk.now.store (g.W.Wire.tells c.args.wire.now) (g.W.Wire.tells c.start.new.wire) c.in_ok-session.session
+      (c.in_ok-session.ensures.gives surrogate) (c.in_ok-session.ensures.stands c.args.desk.now.store) c.in_ok-session.ensures.rest;
+  ready = c.in_ok-session.ensures.ready c.args.desk.now.store;
+  open_still = starts_open c.in_ok-session.session c.args.desk.now.store (c.in_ok-session.ensures.stands c.args.desk.now.store);
+  on = GoesOn-of (g.W.Wire.tells c.args.wire.now) (g.W.Wire.tells c.start.new.wire) c.start.result fault.Wire c.start.ensures.cause;
+  low = omega arith;
+  store = refl;
+  limits = refl;
+  kept = refl;
+}
+
+pub returns-in_err-count-clause-lawful : goal.returns-in_err-count-clause-lawful
+returns-in_err-count-clause-lawful g c surrogate is =
+    take_fails surrogate c.args.desk.now.store (g.W.Wire.tells c.args.wire.now) (g.W.Wire.tells c.loop-taken.wire) (g.W.Wire.tells c.take_piece.new.wire) c.loop-taken.session
+    c.loop-taken.desk.store c.loop-taken.taken (c.loop-taken.invariant.goes surrogate is) c.in_err-count.ensures.fails
+
+pub returns-then-count-eq0-clause-lawful : goal.returns-then-count-eq0-clause-lawful
+returns-then-count-eq0-clause-lawful g c surrogate is =
+    input_lawfully surrogate c.args.desk.now.store (g.W.Wire.tells c.args.wire.now) (g.W.Wire.tells c.loop-taken.wire) (g.W.Wire.tells c.take_piece.new.wire) c.loop-taken.session
+    c.loop-taken.desk.store c.loop-taken.taken c.in_ok-count.count c.take_piece.new.into (c.loop-taken.invariant.goes surrogate is) c.in_ok-count.ensures.takes
+
+pub returns-then-count-eq0-clause-ended : goal.returns-then-count-eq0-clause-ended
+returns-then-count-eq0-clause-ended g c ok surrogate is =
+    input_ends surrogate c.args.desk.now.store (g.W.Wire.tells c.args.wire.now) (g.W.Wire.tells c.loop-taken.wire) (g.W.Wire.tells c.take_piece.new.wire) c.loop-taken.session
+    c.loop-taken.desk.store c.loop-taken.taken c.args.desk.now.limits.session_max c.in_ok-count.count c.take_piece.new.into (c.loop-taken.invariant.goes surrogate is)
+    c.in_ok-count.ensures.takes c.if-count-eq0.true c.loop-taken-test.true
+
+pub returns-in_err-session-2-clause-lawful : goal.returns-in_err-session-2-clause-lawful
+returns-in_err-session-2-clause-lawful g c surrogate is =
+    not_fed surrogate c.args.desk.now.store (g.W.Wire.tells c.args.wire.now) (g.W.Wire.tells c.loop-taken.wire) (g.W.Wire.tells c.take_piece.new.wire) (g.W.Wire.tells c.feed.new.wire)
+    c.loop-taken.session c.loop-taken.desk.store c.loop-taken.taken c.in_ok-count.count c.take_piece.new.into _ (c.loop-taken.invariant.goes surrogate is) c.in_ok-count.ensures.takes
+    (take-append-le c.in_ok-count.count c.take_piece.new.into (drop c.min-room.result c.loop-taken.piece) c.in_ok-count.ensures.bound) (c.in_err-session-2.ensures.gives surrogate is)
+
+pub returns-then-ended-clause-lawful : goal.returns-then-ended-clause-lawful
+returns-then-ended-clause-lawful g c surrogate is =
+    goes_lawfully surrogate c.args.desk.now.store (g.W.Wire.tells c.args.wire.now) (g.W.Wire.tells c.feed.new.wire) c.in_ok-session-2.session c.feed.new.store _
+    (fed surrogate c.args.desk.now.store (g.W.Wire.tells c.args.wire.now) (g.W.Wire.tells c.loop-taken.wire) (g.W.Wire.tells c.take_piece.new.wire) (g.W.Wire.tells c.feed.new.wire)
+    c.loop-taken.session c.in_ok-session-2.session c.loop-taken.desk.store c.feed.new.store c.loop-taken.taken c.in_ok-count.count c.take_piece.new.into _
+    (c.loop-taken.invariant.goes surrogate is) c.in_ok-count.ensures.takes c.in_ok-count.ensures.bound
+    (take-append-le c.in_ok-count.count c.take_piece.new.into (drop c.min-room.result c.loop-taken.piece) c.in_ok-count.ensures.bound)
+    (c.in_ok-session-2.ensures.gives surrogate is) (c.in_ok-session-2.ensures.fit surrogate is) (c.in_ok-session-2.ensures.stands surrogate is))
+
+pub returns-then-ended-clause-ended : goal.returns-then-ended-clause-ended
+returns-then-ended-clause-ended g c ok surrogate is =
+    session_ends surrogate c.args.desk.now.store (g.W.Wire.tells c.args.wire.now) (g.W.Wire.tells c.feed.new.wire) c.in_ok-session-2.session c.feed.new.store _ c.args.desk.now.limits.session_max
+    (fed surrogate c.args.desk.now.store (g.W.Wire.tells c.args.wire.now) (g.W.Wire.tells c.loop-taken.wire) (g.W.Wire.tells c.take_piece.new.wire) (g.W.Wire.tells c.feed.new.wire)
+    c.loop-taken.session c.in_ok-session-2.session c.loop-taken.desk.store c.feed.new.store c.loop-taken.taken c.in_ok-count.count c.take_piece.new.into _
+    (c.loop-taken.invariant.goes surrogate is) c.in_ok-count.ensures.takes c.in_ok-count.ensures.bound
+    (take-append-le c.in_ok-count.count c.take_piece.new.into (drop c.min-room.result c.loop-taken.piece) c.in_ok-count.ensures.bound)
+    (c.in_ok-session-2.ensures.gives surrogate is) (c.in_ok-session-2.ensures.fit surrogate is) (c.in_ok-session-2.ensures.stands surrogate is))
+    (c.ended.ensures.0 c.if-ended.true)
+
+pub loop-taken-preserved : goal.loop-taken-preserved
+loop-taken-preserved g c = record {
+  goes = λ surrogate is. fed surrogate c.args.desk.now.store (g.W.Wire.tells c.args.wire.now) (g.W.Wire.tells c.loop-taken.wire) (g.W.Wire.tells c.take_piece.new.wire) (g.W.Wire.tells c.feed.new.wire)
+      c.loop-taken.session c.in_ok-session-2.session c.loop-taken.desk.store c.feed.new.store c.loop-taken.taken c.in_ok-count.count c.take_piece.new.into _
+      (c.loop-taken.invariant.goes surrogate is) c.in_ok-count.ensures.takes c.in_ok-count.ensures.bound
+      (take-append-le c.in_ok-count.count c.take_piece.new.into (drop c.min-room.result c.loop-taken.piece) c.in_ok-count.ensures.bound)
+      (c.in_ok-session-2.ensures.gives surrogate is) (c.in_ok-session-2.ensures.fit surrogate is) (c.in_ok-session-2.ensures.stands surrogate is);
+  ready = c.in_ok-session-2.ensures.ready;
+  open_still = λ is. let at_end = c.ended.ensures.1 is in let apart = c.if-ended.false in not_both c.ended.result at_end apart;
+  on = GoesOn-trans (g.W.Wire.tells c.args.wire.now) (g.W.Wire.tells c.take_piece.new.wire) (g.W.Wire.tells c.feed.new.wire)
+      (GoesOn-trans (g.W.Wire.tells c.args.wire.now) (g.W.Wire.tells c.loop-taken.wire) (g.W.Wire.tells c.take_piece.new.wire) c.loop-taken.invariant.on
+      (GoesOn-of (g.W.Wire.tells c.loop-taken.wire) (g.W.Wire.tells c.take_piece.new.wire) c.take_piece.result fault.Wire c.take_piece.ensures.cause))
+      (GoesOn-of (g.W.Wire.tells c.take_piece.new.wire) (g.W.Wire.tells c.feed.new.wire) c.feed.result fault.Wire c.feed.ensures.cause);
+  low = omega (arith, c.in_ok-count.ensures.bound, c.min-room.ensures, c.take_piece.auto.into, length-take {A = ℕ});
+  store = c.feed.ensures.store ∙ c.loop-taken.invariant.store;
+  limits = c.loop-taken.invariant.limits;
+  kept = c.feed.ensures.kept ∙ c.loop-taken.invariant.kept;
+}
+
+pub returns-clause-lawful : goal.returns-clause-lawful
+returns-clause-lawful g c surrogate is =
+    goes_lawfully surrogate c.args.desk.now.store (g.W.Wire.tells c.args.wire.now) (g.W.Wire.tells c.loop-taken.wire) c.loop-taken.session c.loop-taken.desk.store c.loop-taken.taken
+    (c.loop-taken.invariant.goes surrogate is)
+
+pub returns-clause-limit : goal.returns-clause-limit
+returns-clause-limit g c ok surrogate is =
+    limit_reached surrogate c.args.desk.now.store (g.W.Wire.tells c.args.wire.now) (g.W.Wire.tells c.loop-taken.wire) c.loop-taken.session c.loop-taken.desk.store c.loop-taken.taken
+    c.args.desk.now.limits.session_max (c.loop-taken.invariant.goes surrogate is) c.loop-taken.invariant.open_still
+    (omega (arith, c.loop-taken.invariant.low, c.loop-taken-test.false))

@@ -1,0 +1,91 @@
+-- What a session is sent of a stream, and what the call that serves it does to its wire.
+use Rattle.std.specs.Prelude.{◌≡◌, ◌⊎◌, ℕ, ◌<◌, ◌≤◌, List, ◌++◌, length, IfSome, false}
+use Rattle.std.specs.Io.KnownBytes.{IsAtEnd}
+use Rattle.mail_wire.specs.declared.outside.Entry.{Entry}
+use Rattle.mail_wire.specs.Telling.{Telling}
+use Rattle.mail_wire.specs.Transcript.{IsLawful, taken_of, given_of}
+use Rattle.mail_wire.specs.Moves.{Moves}
+use Rattle.mail_store.specs.declared.limits.TheConstants.{MESSAGE_MAX}
+use Rattle.mail_store.specs.StoreState.{StoreState}
+use Rattle.pop_session.specs.Machine.{Part, ended}
+use Rattle.pop_session.specs.Replies.{reply_octets, AreFit}
+use Rattle.pop_session.specs.Session as pop
+use Rattle.mail_command.specs.declared.serving.Limits.{Limits}
+use Rattle.mail_command.specs.declared.serving.Desk.{Desk}
+use Rattle.mail_command.specs.declared.serving.Role.{Role}
+use Rattle.mail_command.specs.declared.serving.Role.TheVariants.{Pop}
+
+-- ---- what is served
+
+-- the limits under which a desk works
+pub record AreLimits (limits : Limits) : Type 0 where
+  pub message_bound : limits.message_max ≤ MESSAGE_MAX
+  pub session_longer : limits.message_max < limits.session_max
+  pub some_blocks : 0 < limits.pool_blocks
+  pub few_blocks : limits.pool_blocks ≤ 65536
+  pub some_entries : 0 < limits.cache_entries
+
+-- a desk that serves sessions: its store hasn't failed, and its limits are the store's
+pub record IsOpen (desk : Desk) : Type 0 where
+  pub limits : AreLimits desk.limits
+  pub agrees : desk.store.message_max ≡ desk.limits.message_max
+  pub works : desk.store.failed ≡ false
+
+-- ---- what a protocol's machine makes of a stream; `surrogate` gives surrogates
+
+-- the parts that it gives: the greeting, and the replies to the whole commands up to the end
+abbrev pub parts_to : (List ℕ → List ℕ) → Role → StoreState → List ℕ → List Part
+parts_to surrogate Pop store octets = pop.parts_to surrogate store octets
+
+-- these parts in octets
+abbrev pub replies_to : (List ℕ → List ℕ) → Role → StoreState → List ℕ → List ℕ
+replies_to surrogate role store octets = reply_octets surrogate (parts_to surrogate role store octets)
+
+-- the store that the commands leave
+abbrev pub store_after : (List ℕ → List ℕ) → Role → StoreState → List ℕ → StoreState
+store_after surrogate Pop store octets = pop.store_after surrogate store octets
+
+-- the commands end the session
+abbrev pub EndsBy : (List ℕ → List ℕ) → Role → StoreState → List ℕ → Type 0
+EndsBy surrogate Pop store octets = (pop.turns_of surrogate (pop.start_of store) octets).after.state ≡ ended
+
+-- ---- the promise
+
+-- What a session is sent of a stream of client octets: the replies of its protocol's machine over one surrogate per message.
+-- No octet of a reply line is above 127, sizes and offsets are those of what is served, and what a session that has not
+-- enabled UTF-8 is shown is a range of the surrogate: its header is ASCII, and every field stands for the original's. An
+-- enabled session is shown the stored octets.
+pub record IsSent (surrogate : List ℕ → List ℕ) (role : Role) (store after : StoreState) (octets given : List ℕ) : Type 0 where
+  pub replies : given ≡ replies_to surrogate role store octets
+  pub fit : AreFit surrogate (parts_to surrogate role store octets)
+  pub store_is : after ≡ store_after surrogate role store octets
+
+-- ---- what the call does
+
+abbrev pub IsPrefixOf : List ℕ → List ℕ → Type 0
+IsPrefixOf front whole = (rest : List ℕ) × (whole ≡ front ++ rest)
+
+-- Before each take all that was taken was answered, and nothing was given but a prefix of the replies to what was left.
+pub record ServesLawfully (surrogate : List ℕ → List ℕ) (role : Role) (store : StoreState) (before now : Telling) : Type 0 where
+  pub entries : List Entry
+  pub moves : Moves before now entries
+  pub lawful : IsLawful (replies_to surrogate role store) entries
+  pub begun : IfSome before.left (λ octets. IsPrefixOf (given_of entries) (replies_to surrogate role store octets))
+
+-- The session was sent what is due for all that was left, and has ended, or nothing is left.
+pub record ServesAll (surrogate : List ℕ → List ℕ) (role : Role) (store after : StoreState) (max : ℕ) (before now : Telling) : Type 0 where
+  pub entries : List Entry
+  pub moves : Moves before now entries
+  pub lawful : IsLawful (replies_to surrogate role store) entries
+  pub sent : IsSent surrogate role store after (taken_of entries) (given_of entries)
+  pub whole : IfSome before.left (λ octets. IsSent surrogate role store after octets (given_of entries))
+  pub end : EndsBy surrogate role store (taken_of entries) ⊎ (IsAtEnd now.left × (length (taken_of entries) < max))
+
+-- As many octets were taken as a session may take. It was sent what is due for these, and has not ended.
+pub record ServesUpTo (surrogate : List ℕ → List ℕ) (role : Role) (store after : StoreState) (max : ℕ) (before now : Telling) : Type 0 where
+  pub entries : List Entry
+  pub moves : Moves before now entries
+  pub lawful : IsLawful (replies_to surrogate role store) entries
+  pub sent : IsSent surrogate role store after (taken_of entries) (given_of entries)
+  pub full : length (taken_of entries) ≡ max
+  pub goes_on : ¬ EndsBy surrogate role store (taken_of entries)

@@ -1,0 +1,169 @@
+//! Serves one session over a wire, from its greeting to its end.
+ghost use Rattle.std.specs.Prelude.{◌≡◌, ℕ, ◌≤◌, ◌<◌, List, Ok, Err, IfOk, IfErr, IfSome, OnErr, IsTrue, true, false, length};
+ghost use Rattle.mail_wire.specs.Moves.{HasWireCause};
+ghost use Rattle.mail_wire.specs.Keeping.{HasKeeperCause};
+ghost use Rattle.mail_store.specs.Answers.{IsFold, OpensTo, IsJournalFault, LeavesRecords};
+ghost use Rattle.mail_store.specs.StoreState.{StoreState};
+ghost use Rattle.surrogate_cache.specs.Served.{WithSurrogates};
+ghost use Rattle.mail_command.specs.Serving.{AreLimits, IsOpen, ServesLawfully, ServesAll, ServesUpTo};
+ghost use Rattle.mail_command.specs.Served.{HasServedCause};
+
+use mail_store::opening::OpenFault;
+use mail_store::storing::Store;
+use mail_wire::keeping::Keeper;
+use mail_wire::outside::{Fault, Wire};
+use mail_wire::traffic::take_piece;
+use pop_session::session::PopSession;
+use std::alloc::Global;
+use surrogate_cache::cache::Cache;
+
+/// How much a desk serves: octets of a message and of a session, blocks and entries of the cache.
+#[derive(Clone, Copy, Debug, PartialEq, Eq)]
+pub struct Limits {
+    pub message_max: u32,
+    pub session_max: u64,
+    pub pool_blocks: u32,
+    pub cache_entries: u32,
+}
+
+/// The limits of the program: messages of 32 MiB, sessions that take 1 GiB.
+pub const LIMITS: Limits = Limits {
+    message_max: 33_554_432,
+    session_max: 1_073_741_824,
+    pool_blocks: 1024,
+    cache_entries: 256,
+};
+
+/// What sessions are served from.
+#[derive(Debug, Drop)]
+pub struct Desk {
+    pub store: Store,
+    pub cache: Cache,
+    pub limits: Limits,
+}
+
+/// The protocol of a session.
+#[derive(Clone, Copy, Debug, PartialEq, Eq)]
+pub enum Role {
+    Pop,
+}
+
+/// How a session came to its end.
+#[derive(Clone, Copy, Debug, PartialEq, Eq)]
+pub enum Served {
+    /// The session or its input ended.
+    Ended,
+    WireFault,
+    KeeperFault,
+    Memory,
+    /// As many octets were taken as a session may take.
+    Limit,
+}
+
+/// The desk over the journal of a keeper.
+pub fn open_desk<J: Keeper>(
+    alloc: Global,
+    keeper: &mut J,
+    limits: Limits,
+) -> Result<Desk, OpenFault>
+    requires { AreLimits limits }
+    // Its store is the fold of the whole records that were there, and the keeper holds them and nothing more.
+    ensures opens { IfOk result (λ desk. IfSome (J.tells keeper.old).octets (λ old. OpensTo old (J.tells keeper.new).octets desk.store.kept)) }
+    ensures fold { IfOk result (λ desk. IsFold desk.store.kept) }
+    ensures open { IfOk result IsOpen }
+    ensures limits { IfOk result (λ desk. desk.limits ≡ limits) }
+
+    ensures fault { IfErr result (λ fault. IfSome (J.tells keeper.old).octets (λ old. IsJournalFault old (J.tells keeper.new).octets fault)) }
+    ensures cause { HasKeeperCause (J.tells keeper.old) (J.tells keeper.new) result OpenFault.Keeper }
+    ensures leaves { LeavesRecords (J.tells keeper.old).octets (J.tells keeper.new).octets }
+{
+    let store = Store::open(alloc, keeper, limits.message_max)?;
+    Ok(Desk {
+        store,
+        cache: Cache::plain(),
+        limits,
+    })
+}
+
+// The greatest piece that is taken at a time.
+const PIECE: usize = 4096;
+
+// Serves a POP3 session. Whether it or the input ended before the limit.
+fn serve_pop<W: Wire, J: Keeper>(
+    alloc: Global,
+    desk: &mut Desk,
+    wire: &mut W,
+    keeper: &mut J,
+) -> Result<bool, Fault>
+    ensures lawful { WithSurrogates (λ surrogate. ServesLawfully surrogate Role.Pop desk.old.store (W.tells wire.old) (W.tells wire.new)) }
+    ensures ended { result ≡ Ok true → WithSurrogates (λ surrogate.
+        ServesAll surrogate Role.Pop desk.old.store desk.new.store desk.old.limits.session_max (W.tells wire.old) (W.tells wire.new)) }
+    ensures limit { result ≡ Ok false → WithSurrogates (λ surrogate.
+        ServesUpTo surrogate Role.Pop desk.old.store desk.new.store desk.old.limits.session_max (W.tells wire.old) (W.tells wire.new)) }
+    ensures cause { HasWireCause (W.tells wire.old) (W.tells wire.new) result Fault.Wire }
+    ensures keeper { ¬ (result ≡ Err Fault.Keeper) }
+    ensures kept { J.tells keeper.new ≡ J.tells keeper.old }
+    ensures limits { desk.new.limits ≡ desk.old.limits }
+    ensures same { desk.new.store ≡ desk.old.store }
+{
+    let max = desk.limits.session_max;
+    let mut session = PopSession::start(alloc, wire)?;
+    let mut piece = [0; PIECE];
+    let mut taken: u64 = 0;
+    while taken < max {
+        let room = (max - taken).min(PIECE as u64) as usize;
+        let count = take_piece(wire, &mut piece[..room])?;
+        if count == 0 {
+            return Ok(true);
+        }
+        taken += count as u64;
+        session = session.feed(
+            &piece[..count],
+            &mut desk.store,
+            &mut desk.cache,
+            wire,
+            keeper,
+        )?;
+        if session.ended() {
+            return Ok(true);
+        }
+    }
+    Ok(false)
+}
+
+/// Serves one session: gives the greeting, takes pieces of at most 4,096 octets, and answers each command as soon as it is
+/// whole.
+pub fn serve_one<W: Wire, J: Keeper>(
+    alloc: Global,
+    desk: &mut Desk,
+    role: Role,
+    wire: &mut W,
+    keeper: &mut J,
+) -> Served
+    requires { IsOpen desk.old }
+    // Before each take all that was taken was answered, and nothing else was ever given.
+    ensures lawful { WithSurrogates (λ surrogate. ServesLawfully surrogate role desk.old.store (W.tells wire.old) (W.tells wire.new)) }
+    // The session was sent what is due for all that was left, and has ended, or nothing is left.
+    ensures ended { result ≡ Served.Ended → WithSurrogates (λ surrogate.
+        ServesAll surrogate role desk.old.store desk.new.store desk.old.limits.session_max (W.tells wire.old) (W.tells wire.new)) }
+    // It was sent what is due for as many octets as a session may take, and has not ended.
+    ensures limit { result ≡ Served.Limit → WithSurrogates (λ surrogate.
+        ServesUpTo surrogate role desk.old.store desk.new.store desk.old.limits.session_max (W.tells wire.old) (W.tells wire.new)) }
+
+    ensures cause { HasServedCause (W.tells wire.old) (W.tells wire.new) (J.tells keeper.old) (J.tells keeper.new) result }
+    ensures open { IsOpen desk.new }
+    ensures limits { desk.new.limits ≡ desk.old.limits }
+    ensures store { desk.new.store ≡ desk.old.store }
+    ensures kept { J.tells keeper.new ≡ J.tells keeper.old }
+{
+    let served = match role {
+        Role::Pop => serve_pop(alloc, desk, wire, keeper),
+    };
+    match served {
+        Ok(true) => Served::Ended,
+        Ok(false) => Served::Limit,
+        Err(Fault::Wire) => Served::WireFault,
+        Err(Fault::Keeper) => Served::KeeperFault,
+        Err(Fault::Memory) => Served::Memory,
+    }
+}

@@ -1,0 +1,180 @@
+//! The rows of sessions, over wires and keepers in memory.
+use crate::command::run;
+use crate::serving::{Limits, Role, Served, open_desk, serve_one};
+use mail_wire::in_memory::{Failure, MemWire};
+use mail_wire::mem_keeper::MemKeeper;
+use mail_wire::outside::Entry;
+use mail_wire::values::{Memory, Octets};
+use mail_wire::words::Words;
+use std::alloc::Global;
+use std::test::Fail;
+
+// The domain `example.org`, the account `ann@example.org` with the password `pw`, and a message of 25 octets.
+const JOURNAL: &[u8] = b"MAILJNL1\
+\0\0\0\x10\x02\0\0\0\x0bexample.org\
+\0\0\0\x1a\x01\0\0\0\x0fann@example.org\0\0\0\x02pw\
+\0\0\0\x41\x04\0\0\0\0\0\0\0\0\x1a01-Jan-1970 00:00:00 +0000\0\0\0\x19Subject: caf\xc3\xa9 bar\r\n\r\nx\r\n";
+
+// How many octets of the journal stand before the message.
+const WITHOUT_MESSAGE: usize = 58;
+
+const LEGACY: &[u8] = b"USER ann@example.org\r\nPASS pw\r\nUTF8\r\nSTAT\r\nLIST 1\r\nQUIT\r\n";
+
+const LEGACY_REPLIES: &[u8] =
+    b"+OK ready\r\n+OK\r\n+OK\r\n-ERR out of order\r\n+OK 1 44\r\n+OK 1 44\r\n+OK bye\r\n";
+
+fn wire_of(
+    alloc: Global,
+    input: &[u8],
+    sizes: &[usize],
+    failures: &[Failure],
+) -> Result<MemWire, Memory> {
+    Ok(MemWire::new(
+        alloc,
+        Octets::from_slice(alloc, input)?,
+        Vec::from_slice(alloc, sizes)?,
+        Vec::from_slice(alloc, failures)?,
+    ))
+}
+
+fn keeper_of(alloc: Global, journal: &[u8], failures: &[Failure]) -> Result<MemKeeper, Memory> {
+    Ok(MemKeeper::new(
+        Octets::from_slice(alloc, journal)?,
+        Vec::from_slice(alloc, failures)?,
+    ))
+}
+
+fn given(alloc: Global, wire: &MemWire) -> Result<Octets, Memory> {
+    let mut given = Octets::new(alloc);
+    for entry in wire.entries() {
+        if let Entry::Given(octets) = entry {
+            given.push_slice(octets.as_slice())?;
+        }
+    }
+    Ok(given)
+}
+
+// The status of `pop`.
+fn pop(alloc: Global, wire: &mut MemWire, keeper: &mut MemKeeper) -> Result<u8, Memory> {
+    let mut words = Words::none(alloc);
+    words.push("pop")?;
+    Ok(run(alloc, &words, wire, keeper))
+}
+
+#[test]
+fn rows_of_pop(rt: HostRuntime) -> Result<(), Fail> {
+    let alloc = rt.alloc();
+    let empty = &JOURNAL[..WITHOUT_MESSAGE];
+    let cut = &JOURNAL[..10];
+    let begun = &JOURNAL[..8];
+    for (journal, input, status, replies, left) in [
+        (JOURNAL, LEGACY, 0, LEGACY_REPLIES, JOURNAL),
+        (
+            JOURNAL,
+            b"UTF8\r\nUSER ann@example.org\r\nPASS pw\r\nSTAT\r\nQUIT\r\nQUIT\r\n".as_slice(),
+            0,
+            b"+OK ready\r\n+OK\r\n+OK\r\n+OK\r\n+OK 1 25\r\n+OK bye\r\n".as_slice(),
+            JOURNAL,
+        ),
+        (JOURNAL, b"NOO", 0, b"+OK ready\r\n", JOURNAL),
+        (
+            empty,
+            b"USER ann@example.org\r\nPASS pw\r\nSTAT\r\n",
+            0,
+            b"+OK ready\r\n+OK\r\n+OK\r\n+OK 0 0\r\n",
+            empty,
+        ),
+        (cut, b"", 0, b"+OK ready\r\n", begun),
+        (b"", b"", 0, b"+OK ready\r\n", begun),
+        (
+            b"MAILJNL1\0\0\0\x01\x03",
+            b"",
+            10,
+            b"not built at 8\r\n",
+            b"MAILJNL1\0\0\0\x01\x03",
+        ),
+        (
+            b"MAILJNL1\0\0\0\x01\x09",
+            b"",
+            5,
+            b"bad journal at 8\r\n",
+            b"MAILJNL1\0\0\0\x01\x09",
+        ),
+    ] {
+        let mut wire = wire_of(alloc, input, &[], &[])?;
+        let mut keeper = keeper_of(alloc, journal, &[])?;
+        assert_eq!(rt; pop(alloc, &mut wire, &mut keeper)?, status, "at {input:?}");
+        assert!(rt; given(alloc, &wire)?.as_slice() == replies, "at {input:?}");
+        assert!(rt; keeper.octets() == left, "at {input:?}");
+    }
+    Ok(())
+}
+
+#[test]
+fn the_replies_are_the_same_in_every_single_cut(rt: HostRuntime) -> Result<(), Fail> {
+    let alloc = rt.alloc();
+    for at in 0..LEGACY.len() {
+        let sizes = if at == 0 {
+            Vec::from_elem(alloc, 1, LEGACY.len())?
+        } else {
+            Vec::from_slice(alloc, &[at])?
+        };
+        let mut wire = wire_of(alloc, LEGACY, &sizes, &[])?;
+        let mut keeper = keeper_of(alloc, JOURNAL, &[])?;
+        assert_eq!(rt; pop(alloc, &mut wire, &mut keeper)?, 0, "at {at}");
+        assert!(rt;
+            given(alloc, &wire)?.as_slice() == LEGACY_REPLIES,
+            "at {at}"
+        );
+    }
+    Ok(())
+}
+
+#[test]
+fn each_failing_call_breaks_the_session_off(rt: HostRuntime) -> Result<(), Fail> {
+    let alloc = rt.alloc();
+    // The wire's calls are the greeting, one take and the six replies; the keeper's are one for the length and the reads.
+    for call in 0..8 {
+        let mut wire = wire_of(alloc, LEGACY, &[], &[Failure { call, kept: 2 }])?;
+        let mut keeper = keeper_of(alloc, JOURNAL, &[])?;
+        assert_eq!(rt; pop(alloc, &mut wire, &mut keeper)?, 1, "at {call}");
+        let given = given(alloc, &wire)?;
+        assert!(rt; LEGACY_REPLIES.starts_with(given.as_slice()), "at {call}");
+    }
+    for call in 0..8 {
+        let mut wire = wire_of(alloc, LEGACY, &[], &[])?;
+        let mut keeper = keeper_of(alloc, JOURNAL, &[Failure { call, kept: 0 }])?;
+        assert_eq!(rt; pop(alloc, &mut wire, &mut keeper)?, 2, "at {call}");
+        assert!(rt; given(alloc, &wire)?.is_empty(), "at {call}");
+        assert!(rt; keeper.octets() == JOURNAL, "at {call}");
+    }
+    Ok(())
+}
+
+// How a session ends that may take so many octets, and what it was given.
+fn served_up_to(alloc: Global, session_max: u64) -> Result<(Served, Octets), Fail> {
+    let mut keeper = keeper_of(alloc, JOURNAL, &[])?;
+    let limits = Limits {
+        message_max: 25,
+        session_max: session_max.max(26),
+        pool_blocks: 1,
+        cache_entries: 1,
+    };
+    let Ok(mut desk) = open_desk(alloc, &mut keeper, limits) else {
+        return Err(Fail::from("the journal isn't opened"));
+    };
+    let mut wire = wire_of(alloc, LEGACY, &[], &[])?;
+    let served = serve_one(alloc, &mut desk, Role::Pop, &mut wire, &mut keeper);
+    Ok((served, given(alloc, &wire)?))
+}
+
+#[test]
+fn a_session_takes_no_more_than_its_limit(rt: HostRuntime) -> Result<(), Fail> {
+    let (limit, two_replies) = served_up_to(rt.alloc(), 33)?;
+    assert_eq!(rt; limit, Served::Limit);
+    assert!(rt; two_replies.as_slice() == b"+OK ready\r\n+OK\r\n+OK\r\n".as_slice());
+    let (ended, all) = served_up_to(rt.alloc(), LEGACY.len() as u64)?;
+    assert_eq!(rt; ended, Served::Ended);
+    assert!(rt; all.as_slice() == LEGACY_REPLIES);
+    Ok(())
+}
