@@ -1,6 +1,7 @@
 -- A POP3 session over a wire, between two takes and at its end.
 use Rattle.std.proofs.Common.{◌≡◌, ℕ, ◌+◌, ◌<◌, ◌≤◌, List, [], ◌++◌, length, take, refl, sym, ap, ◌∙◌, append-nil, append_assoc, arith, inl, inr, subst, length-append}
 use Rattle.std.proofs.lemmas.List.{length-take-le}
+use Rattle.std.proofs.lemmas.Option.{IfSome_then}
 use Rattle.std.proofs.lemmas.Grind.{flat_map-append}
 use Rattle.mail_wire.specs.Telling.{Telling}
 use Rattle.mail_wire.specs.Turns.{Turn, stay, behind}
@@ -16,7 +17,7 @@ use Rattle.pop_session.specs.Session.{Machine, next_turn, turns_of, greeting, st
 use Rattle.pop_session.proofs.FeedLemmas.{next_turn-framed, turns_of-ended}
 use Rattle.mail_command.specs.declared.serving.Role.TheVariants.{Pop}
 use Rattle.mail_command.specs.Serving.{replies_to, EndsBy, IsSent, IsPrefixOf, ServesLawfully, ServesAll, ServesUpTo}
-use Rattle.mail_command.proofs.ServingLemmas.{Grows, Serving, Halfway, Halfway-of, Serving-of, Halfway-first, Halfway-take, Halfway-give, Serving-nothing, map_some, left_begins, left_all, begins_answer}
+use Rattle.mail_command.proofs.ServingLemmas.{Grows, Serving, Halfway, Halfway-of, Serving-of, Halfway-first, Halfway-take, Halfway-give, Serving-nothing, left_begins, left_all, begins_answer}
 
 -- the turns of a stream
 abbrev pub turn_of : (List ℕ → List ℕ) → StoreState → List ℕ → Turn Machine Part
@@ -120,7 +121,6 @@ pub goes_on : (surrogate : List ℕ → List ℕ) (store : StoreState) (a b c d 
     → StandsFor next last (piece_turn surrogate store so_far.octets (take n into))
     → Goes surrogate store a d next last (taken + n)
 goes_on surrogate store a b c d session next after last taken n into so_far piece low gives fit stands =
-    let answer : List ℕ → List ℕ = replies_to surrogate Pop store in
     let turn = piece_turn surrogate store so_far.octets (take n into) in
     let both = turn_of-append surrogate store so_far.octets (take n into) in
     record {
@@ -191,7 +191,6 @@ sent_of surrogate store a b session after taken so_far =
 pub input_ends : (surrogate : List ℕ → List ℕ) (store : StoreState) (a b c : Telling) (session : PopSession) (after : StoreState) (taken max n : ℕ) (into : List ℕ)
     → Goes surrogate store a b session after taken → TakesPiece b c n into → n ≡ 0 → taken < max → ServesAll surrogate Pop store after max a c
 input_ends surrogate store a b c session after taken max n into so_far piece none low =
-    let answer : List ℕ → List ℕ = replies_to surrogate Pop store in
     let half = Halfway-take (replies_to surrogate Pop store) a b c so_far.octets into n so_far.serving piece in
     let same : so_far.octets ++ take n into ≡ so_far.octets = rw none (append-nil so_far.octets) in
     let is = sent surrogate store a b session after taken so_far in
@@ -201,9 +200,9 @@ input_ends surrogate store a b c session after taken max n into so_far piece non
       moves = half.moves;
       lawful = half.lawful;
       sent = rw (taken_is, half.given_is) is;
-      whole = rw half.given_is (map_some a.left (λ octets. so_far.octets ++ take n into ≡ octets) _
-          (λ octets all. subst (λ xs. IsSent surrogate Pop store after xs (replies_to surrogate Pop store so_far.octets)) (sym same ∙ all) is)
-          (left_all (replies_to surrogate Pop store) a c (so_far.octets ++ take n into) (replies_to surrogate Pop store so_far.octets) half (piece.end none)));
+      whole = rw half.given_is (IfSome_then a.left {P = λ octets. so_far.octets ++ take n into ≡ octets}
+          (left_all (replies_to surrogate Pop store) a c (so_far.octets ++ take n into) (replies_to surrogate Pop store so_far.octets) half (piece.end none))
+          (λ octets all. subst (λ xs. IsSent surrogate Pop store after xs (replies_to surrogate Pop store so_far.octets)) (sym same ∙ all) is));
       end = inr (piece.end none, rw taken_is (omega (arith, so_far.count)));
     }
 
@@ -240,10 +239,10 @@ session_ends surrogate store a b session after taken max so_far is =
       moves = so_far.serving.moves;
       lawful = so_far.serving.lawful;
       sent = sent_of surrogate store a b session after taken so_far;
-      whole = rw so_far.serving.answered (map_some a.left (λ octets. IsPrefixOf so_far.octets octets) _
-          (λ octets front. rw front.1 (sent_more surrogate store after so_far.octets (replies_to surrogate Pop store so_far.octets) front.0 ends due))
+      whole = rw so_far.serving.answered (IfSome_then a.left {P = λ octets. IsPrefixOf so_far.octets octets}
           (left_begins (replies_to surrogate Pop store) a b so_far.octets (replies_to surrogate Pop store so_far.octets)
-          (Halfway-of (replies_to surrogate Pop store) a b so_far.octets so_far.serving)));
+          (Halfway-of (replies_to surrogate Pop store) a b so_far.octets so_far.serving))
+          (λ octets front. rw front.1 (sent_more surrogate store after so_far.octets (replies_to surrogate Pop store so_far.octets) front.0 ends due)));
       end = inl (rw so_far.serving.taken_is ends);
     }
 

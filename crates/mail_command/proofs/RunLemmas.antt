@@ -2,6 +2,7 @@
 use Rattle.std.proofs.Common.{◌≡◌, ℕ, ◌≤◌, inl, inr, List, [], ◌∷◌, ◌++◌, length, Option, Some, None, refl, sym, ap, ◌∙◌, arith, append-nil, subst, length-append}
 use Rattle.std.specs.Prelude.{◌⊎◌, IfSome, IfOk, OnErr, Result, Ok, Err}
 use Rattle.std.specs.Io.KnownBytes.{Consumes, IsAtEnd}
+use Rattle.std.proofs.lemmas.Option.{IfSome_then}
 use Rattle.mail_wire.specs.declared.outside.Entry.{Entry}
 use Rattle.mail_wire.specs.declared.outside.Entry.TheVariants.{Taken, Given}
 use Rattle.mail_wire.specs.Telling.{Telling}
@@ -56,10 +57,6 @@ enough_by (Some l) (Some m) taken consumes end = record {
   whole = λ fits. consumes ∙ ap (λ more. taken ++ more) (end fits) ∙ append-nil taken;
 }
 
-map_some : (l : Option (List ℕ)) (P Q : List ℕ → Type 0) → IfSome l P → ((octets : List ℕ) → P octets → Q octets) → IfSome l Q
-map_some None P Q some step = tt
-map_some (Some l) P Q some step = step l some
-
 some_of : (l : Option (List ℕ)) (P : List ℕ → Type 0) → ((octets : List ℕ) → P octets) → IfSome l P
 some_of None P each = tt
 some_of (Some l) P each = each l
@@ -98,8 +95,8 @@ downgrades a b c taken given status takes outcome gives =
       moves = both.moves;
       quiet = both.quiet;
       outcome = rw (both.taken_is, both.given_is) outcome;
-      whole = rw both.given_is (map_some a.left (λ octets. IsEnough octets taken) _ (enough a b taken takes) (λ octets all. downgrade_whole octets taken status given all outcome));
-      all_taken = rw both.taken_is (map_some a.left (λ octets. IsEnough octets taken) _ (enough a b taken takes) (λ octets all fits. all_of octets taken all fits));
+      whole = rw both.given_is (IfSome_then a.left {P = λ octets. IsEnough octets taken} (enough a b taken takes) (λ octets all. downgrade_whole octets taken status given all outcome));
+      all_taken = rw both.taken_is (IfSome_then a.left {P = λ octets. IsEnough octets taken} (enough a b taken takes) (λ octets all fits. all_of octets taken all fits));
     }
 
 -- a message was taken, and its outcome given in part
@@ -108,7 +105,7 @@ pub downgrades_partly : (a b c : Telling) (taken given : List ℕ) (status : ℕ
 downgrades_partly a b c taken given status takes outcome gives =
     let begins : IsPrefixOf gives.given given = (gives.missing, sym gives.whole) in
     breaks_by a c taken gives.given (takes_and_gives a b c taken gives.given takes.takes gives.gives) (prefix_of_each taken status gives.given given outcome begins)
-    (map_some a.left (λ octets. IsEnough octets taken) _ (enough a b taken takes)
+    (IfSome_then a.left {P = λ octets. IsEnough octets taken} (enough a b taken takes)
     (λ octets all. prefix_of_each octets status gives.given given (downgrade_whole octets taken status given all outcome) begins))
 
 -- nothing was given yet
@@ -120,7 +117,7 @@ takes_partly a b taken takes =
 -- the answer is the status of each outcome that the octets have
 pub exact_by : (a c : Telling) (status : ℕ) → Answers a c status → IsExact a status
 exact_by a c status answers =
-    map_some a.left (λ octets. DowngradeOutcome octets status (given_of answers.entries)) _ answers.whole
+    IfSome_then a.left {P = λ octets. DowngradeOutcome octets status (given_of answers.entries)} answers.whole
     (λ octets outcome other others also. inl (downgrade_once octets status other (given_of answers.entries) others outcome also).status_is)
 
 -- `downgrade`, by the answer of the function that runs it

@@ -2,6 +2,7 @@
 use Rattle.std.proofs.Common.{◌≡◌, ℕ, List, [], ◌∷◌, ◌++◌, Option, Some, None, refl, sym, ap, ◌∙◌, append-nil, append_assoc, take}
 use Rattle.std.specs.Prelude.{IfSome}
 use Rattle.std.specs.Io.KnownBytes.{Consumes, IsAtEnd}
+use Rattle.std.proofs.lemmas.Option.{IfSome_then}
 use Rattle.mail_wire.specs.declared.outside.Entry.{Entry}
 use Rattle.mail_wire.specs.declared.outside.Entry.TheVariants.{Taken}
 use Rattle.mail_wire.specs.Telling.{Telling}
@@ -93,10 +94,6 @@ all_by None m taken consumes end = tt
 all_by (Some l) None taken consumes end = absurd consumes
 all_by (Some l) (Some m) taken consumes end = sym (consumes ∙ (rw end (append-nil taken)))
 
-pub map_some : (l : Option (List ℕ)) (P Q : List ℕ → Type 0) → ((octets : List ℕ) → P octets → Q octets) → IfSome l P → IfSome l Q
-map_some None P Q step some = tt
-map_some (Some l) P Q step some = step l some
-
 -- it began with what was taken
 pub left_begins : (answer : List ℕ → List ℕ) (a b : Telling) (taken given : List ℕ) → Halfway answer a b taken given → IfSome a.left (λ octets. IsPrefixOf taken octets)
 left_begins answer a b taken given half = begun_by a.left b.left taken (rw half.taken_is at half.moves.left)
@@ -112,5 +109,5 @@ prefix_trans xs ys zs one two = (one.0 ++ two.0, two.1 ∙ ap (λ front. front +
 pub begins_answer : (answer : List ℕ → List ℕ) (a b : Telling) (taken given : List ℕ) → Grows answer → Halfway answer a b taken given → IsPrefixOf given (answer taken)
     → IfSome a.left (λ octets. IsPrefixOf given (answer octets))
 begins_answer answer a b taken given grows half begun =
-    map_some a.left (λ octets. IsPrefixOf taken octets) _ (λ octets front.
-    prefix_trans given (answer taken) (answer octets) begun (rw (← front.1) at (grows taken front.0))) (left_begins answer a b taken given half)
+    IfSome_then a.left {P = λ octets. IsPrefixOf taken octets} (left_begins answer a b taken given half)
+    (λ octets front. prefix_trans given (answer taken) (answer octets) begun (rw (← front.1) at (grows taken front.0)))
