@@ -5,7 +5,7 @@ use crate::storing::Store;
 use crate::writing::push_record;
 use mail_wire::in_memory::Failure;
 use mail_wire::mem_keeper::MemKeeper;
-use mail_wire::values::Octets;
+use mail_wire::values::{Memory, Octets};
 use std::alloc::Global;
 use std::test::Fail;
 
@@ -99,41 +99,44 @@ fn each_failing_call_is_told(rt: HostRuntime) -> Result<(), Fail> {
     Ok(())
 }
 
-#[test]
-fn written_records_are_opened(rt: HostRuntime) -> Result<(), Fail> {
-    let alloc = rt.alloc();
-    let domain = Record::Domain {
-        name: Octets::from_slice(alloc, b"example.org")?,
-    };
-    let account = Record::Account {
-        address: Octets::from_slice(alloc, b"ann@example.org")?,
-        password: Octets::from_slice(alloc, b"pw")?,
-    };
+fn push_domain(alloc: Global, journal: &mut Octets) -> Result<(), Memory> {
+    let name = Octets::from_slice(alloc, b"example.org")?;
+    push_record(journal, &Record::Domain { name })
+}
+
+fn push_account(alloc: Global, journal: &mut Octets) -> Result<(), Memory> {
+    let address = Octets::from_slice(alloc, b"ann@example.org")?;
+    let password = Octets::from_slice(alloc, b"pw")?;
+    push_record(journal, &Record::Account { address, password })
+}
+
+fn push_message(alloc: Global, journal: &mut Octets) -> Result<(), Memory> {
     let message = Record::Message {
         folder: 0,
         flags: 0,
         date: Octets::from_slice(alloc, b"01-Jan-1970 00:00:00 +0000")?,
         octets: Octets::from_slice(alloc, &SUBJECT)?,
     };
-    let mut journal = Octets::from_slice(alloc, b"MAILJNL1")?;
-    push_record(&mut journal, &domain)?;
-    push_record(&mut journal, &account)?;
-    push_record(&mut journal, &message)?;
-    let mut keeper = MemKeeper::new(journal, Vec::new(alloc));
-    let store = Store::open(alloc, &mut keeper, 1000)?;
-    assert!(rt; store.name() == "example.org" && store.message_count() == 1);
-    let written = keeper_of(
-        alloc,
-        &[b"MAILJNL1", &DOMAIN, &ACCOUNT, &MESSAGE],
-        Vec::new(alloc),
-    )?;
-    assert!(rt; keeper.octets() == written.octets());
-    Ok(())
+    push_record(journal, &message)
 }
 
 #[test]
-fn later_kinds_are_written(rt: HostRuntime) -> Result<(), Fail> {
+fn written_records_are_opened(rt: HostRuntime) -> Result<(), Fail> {
     let alloc = rt.alloc();
+    let mut journal = Octets::from_slice(alloc, b"MAILJNL1")?;
+    push_domain(alloc, &mut journal)?;
+    push_account(alloc, &mut journal)?;
+    push_message(alloc, &mut journal)?;
+    let parts = [b"MAILJNL1".as_slice(), &DOMAIN, &ACCOUNT, &MESSAGE];
+    let written = keeper_of(alloc, &parts, Vec::new(alloc))?;
+    assert!(rt; journal.as_slice() == written.octets());
+    let mut keeper = MemKeeper::new(journal, Vec::new(alloc));
+    let store = Store::open(alloc, &mut keeper, 1000)?;
+    assert!(rt; store.name() == "example.org" && store.message_count() == 1);
+    Ok(())
+}
+
+fn push_queue(alloc: Global, journal: &mut Octets) -> Result<(), Fail> {
     let mut addresses = Vec::new(alloc);
     addresses.push(Octets::from_slice(alloc, b"b")?)?;
     addresses.push(Octets::from_slice(alloc, b"cd")?)?;
@@ -142,6 +145,13 @@ fn later_kinds_are_written(rt: HostRuntime) -> Result<(), Fail> {
         addresses: Texts::from_vec(addresses),
         octets: Octets::from_slice(alloc, b"x")?,
     };
+    push_record(journal, &queue)?;
+    Ok(())
+}
+
+#[test]
+fn later_kinds_are_written(rt: HostRuntime) -> Result<(), Fail> {
+    let alloc = rt.alloc();
     let folder = Record::Folder {
         account: 258,
         name: Octets::from_slice(alloc, b"f")?,
@@ -156,7 +166,7 @@ fn later_kinds_are_written(rt: HostRuntime) -> Result<(), Fail> {
         },
     )?;
     push_record(&mut journal, &Record::Expunge { message: 2 })?;
-    push_record(&mut journal, &queue)?;
+    push_queue(alloc, &mut journal)?;
     push_record(&mut journal, &Record::Settle { entry: 0, index: 1 })?;
     let text =
         b"\0\0\0\x0a\x03\0\0\x01\x02\0\0\0\x01f\0\0\0\x06\x05\0\0\0\x01\x03\0\0\0\x05\x06\0\0\0\x02\0\0\0\x19\x07\0\0\0\0\0\0\0\x02\0\0\0\x01b\0\0\0\x02cd\0\0\0\x01x\0\0\0\x09\x08\0\0\0\0\0\0\0\x01";
