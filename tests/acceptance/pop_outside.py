@@ -4,6 +4,7 @@ import os
 import subprocess
 import sys
 import tempfile
+import threading
 import time
 
 import paths
@@ -81,6 +82,9 @@ def run_long(program, line, count, last):
     with tempfile.TemporaryDirectory(dir=program.folder.name) as folder, tempfile.TemporaryFile(dir=folder) as out:
         how = {"stdin": subprocess.PIPE, "stdout": out, "cwd": folder}
         with subprocess.Popen([program.path, b"pop"], **how) as running:
+            # one that takes nothing more would hold us up for ever
+            watch = threading.Timer(4 * LIMIT_SECONDS, running.kill)
+            watch.start()
             try:
                 for _ in range(count):
                     running.stdin.write(line)
@@ -88,6 +92,8 @@ def run_long(program, line, count, last):
                 running.stdin.close()
             except BrokenPipeError:
                 pass
+            running.wait()
+            watch.cancel()
         out.seek(0)
         return running.returncode, out.read()
 
