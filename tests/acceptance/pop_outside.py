@@ -71,7 +71,8 @@ def of_the_limit(program, tally):
     def one(case):
         _, last, status, reply = case
         wanted = b"+OK ready\r\n" + b"-ERR syntax\r\n" * (most // len(line)) + reply
-        return differs("answer", run_long(program, line, most // len(line), last), (status, wanted))
+        found, given = run_long(program, line, most // len(line), last)
+        return differs("status", found, status) + differs("octets", given, wanted)
 
     for case, faults in zip(cases, in_lanes(one, cases)):
         tally.note(f"POP3: {case[0]}", faults)
