@@ -1,5 +1,7 @@
 //! A session over a wire.
-ghost use Rattle.std.specs.Prelude.{◌≡◌, ℕ, ◌++◌, List, None, Some, IfOk, Err, IsTrue, ◌↔◌, length, ◌⊎◌, ◌≤◌, []};
+ghost use Rattle.std.specs.Prelude.{◌≡◌, ℕ, ◌++◌, List, None, Some, IfOk, IfSome, MatchOption, Err, IsTrue, ◌↔◌, length, take, drop, ◌⊎◌, ◌<◌, ◌≤◌, ◌-◌, true, false, []};
+ghost use Rattle.mail_wire.specs.Lines.{first_line};
+ghost use Rattle.pop_session.specs.declared.session.TheConstants.{LINE_MAX};
 ghost use Rattle.std.specs.Option.{option_copied};
 ghost use Rattle.mail_wire.specs.Moves.{GivesOrFails, HasWireCause};
 ghost use Rattle.mail_store.specs.StoreState.{StoreState};
@@ -244,6 +246,25 @@ pub enum PopSession {
     Ended,
 }
 
+// Where in the rest the line ends that the kept octets begin.
+fn next_end(kept: &Octets, rest: &[u8]) -> Option<usize>
+    requires { first_line kept.now ≡ None }
+    ensures bound { IfSome result (λ end. (0 < end) × (end ≤ length rest.now)) }
+    ensures line { MatchOption result (first_line (kept.now ++ rest.now) ≡ None)
+        (λ end. first_line (kept.now ++ rest.now) ≡ Some (record { line = kept.now ++ take end rest.now; rest = drop end rest.now })) }
+{
+    line_end(kept.as_slice(), rest)
+}
+
+// Whether a line has no room for so many octets behind those that were kept.
+fn is_too_long(kept: &Octets, more: usize) -> bool
+    requires { length kept.now ≤ LINE_MAX }
+    ensures long { result ≡ true → LINE_MAX - length kept.now < more }
+    ensures short { result ≡ false → more ≤ LINE_MAX - length kept.now }
+{
+    LINE_MAX - kept.len() < more
+}
+
 // The next piece of a session that has not ended.
 fn feed_open<W: Wire>(
     reading: Reading,
@@ -269,8 +290,8 @@ fn feed_open<W: Wire>(
         mut state,
     } = reading;
     let mut rest = piece;
-    while let Some(end) = line_end(kept.as_slice(), rest) {
-        if LINE_MAX - kept.len() < end {
+    while let Some(end) = next_end(&kept, rest) {
+        if is_too_long(&kept, end) {
             give_all(wire, TOO_LONG)?;
             return Ok(PopSession::Ended);
         }
@@ -283,7 +304,7 @@ fn feed_open<W: Wire>(
         kept.clear();
         rest = others;
     }
-    if LINE_MAX - kept.len() < rest.len() {
+    if is_too_long(&kept, rest.len()) {
         give_all(wire, TOO_LONG)?;
         return Ok(PopSession::Ended);
     }

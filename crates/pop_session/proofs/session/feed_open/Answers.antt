@@ -1,4 +1,4 @@
-use Rattle.std.proofs.Common.{◌≡◌, ◌++◌, take, drop, arith, sym, ◌∙◌, ap, refl}
+use Rattle.std.proofs.Common.{◌≡◌, ◌++◌, length, take, drop, arith, sym, ◌∙◌, ap, refl}
 use Rattle.std.proofs.lemmas.Result.{err_from_is_err_and}
 use Rattle.mail_wire.specs.declared.outside.Fault.TheVariants as fault
 use Rattle.mail_wire.proofs.Moving.{GoesOn-nil, GoesOn-of, GoesOn-trans}
@@ -25,40 +25,40 @@ pub returns-in_err-give_all-clause-gives : goal.returns-in_err-give_all-clause-g
 returns-in_err-give_all-clause-gives g c =
     let failed = err_from_is_err_and c.from_residual.result c.from_residual.ensures.1 in
     rw failed.1 (λ surrogate gives.
-    let ends : LineEndsAt c.as_slice.result.now c.loop-end.rest.now c.in-Some.end = record { fits = c.in-Some.ensures.bound.1; line = c.in-Some.ensures.line } in
-    let turn = long_line surrogate c.loop-end.state c.args.store.now c.as_slice.result.now c.loop-end.kept c.loop-end.rest.now c.in-Some.end c.len.result
-    c.as_slice.ensures ends c.len.ensures (omega (arith, c.len.ensures)) c.if-len-end.true in
+    let ends : LineEndsAt c.loop-end.kept c.loop-end.rest.now c.in-Some.end = record { fits = c.in-Some.ensures.bound.1; line = c.in-Some.ensures.line } in
+    let turn = long_line surrogate c.loop-end.state c.args.store.now c.loop-end.kept c.loop-end.kept c.loop-end.rest.now c.in-Some.end (length c.loop-end.kept)
+    refl ends refl c.loop-end.invariant.short (c.is_too_long.ensures.long c.if-is_too_long.true) in
     FedSoFar-fails (feed_of surrogate) (g.W.Wire.tells c.args.wire.now) (g.W.Wire.tells c.loop-end.wire) (g.W.Wire.tells c.give_all.new.wire) (machine_at c.args.reading.state c.args.store.now) (machine_at c.loop-end.state c.args.store.now) (c.args.reading.kept ++ c.args.piece.now) (c.loop-end.kept ++ c.loop-end.rest.now) line_too_long _
     (c.loop-end.invariant.fed surrogate gives) turn c.in_err-give_all.ensures.gives)
 
-pub returns-then-len-end-clause-gives : goal.returns-then-len-end-clause-gives
-returns-then-len-end-clause-gives g c =
+pub returns-then-is_too_long-clause-gives : goal.returns-then-is_too_long-clause-gives
+returns-then-is_too_long-clause-gives g c =
     λ surrogate gives.
-    let ends : LineEndsAt c.as_slice.result.now c.loop-end.rest.now c.in-Some.end = record { fits = c.in-Some.ensures.bound.1; line = c.in-Some.ensures.line } in
-    let turn = long_line surrogate c.loop-end.state c.args.store.now c.as_slice.result.now c.loop-end.kept c.loop-end.rest.now c.in-Some.end c.len.result
-    c.as_slice.ensures ends c.len.ensures (omega (arith, c.len.ensures)) c.if-len-end.true in
+    let ends : LineEndsAt c.loop-end.kept c.loop-end.rest.now c.in-Some.end = record { fits = c.in-Some.ensures.bound.1; line = c.in-Some.ensures.line } in
+    let turn = long_line surrogate c.loop-end.state c.args.store.now c.loop-end.kept c.loop-end.kept c.loop-end.rest.now c.in-Some.end (length c.loop-end.kept)
+    refl ends refl c.loop-end.invariant.short (c.is_too_long.ensures.long c.if-is_too_long.true) in
     let on = GoesOn-of (g.W.Wire.tells c.loop-end.wire) (g.W.Wire.tells c.give_all.new.wire) c.give_all.result fault.Wire c.give_all.ensures.cause in
     let all = FedSoFar-ends (feed_of surrogate) (g.W.Wire.tells c.args.wire.now) (g.W.Wire.tells c.loop-end.wire) (g.W.Wire.tells c.give_all.new.wire) (machine_at c.args.reading.state c.args.store.now) (machine_at c.loop-end.state c.args.store.now) (record { state = ended; store = c.args.store.now }) (c.args.reading.kept ++ c.args.piece.now) (c.loop-end.kept ++ c.loop-end.rest.now)
     (drop LINE_MAX (c.loop-end.kept ++ c.loop-end.rest.now)) line_too_long (c.loop-end.invariant.fed surrogate gives) turn c.in_ok-give_all.ensures.gives (refl, tt) on in
     all.gives
 
-pub returns-then-len-end-clause-fit : goal.returns-then-len-end-clause-fit
-returns-then-len-end-clause-fit g c =
+pub returns-then-is_too_long-clause-fit : goal.returns-then-is_too_long-clause-fit
+returns-then-is_too_long-clause-fit g c =
     λ surrogate gives.
-    let ends : LineEndsAt c.as_slice.result.now c.loop-end.rest.now c.in-Some.end = record { fits = c.in-Some.ensures.bound.1; line = c.in-Some.ensures.line } in
-    let turn = long_line surrogate c.loop-end.state c.args.store.now c.as_slice.result.now c.loop-end.kept c.loop-end.rest.now c.in-Some.end c.len.result
-    c.as_slice.ensures ends c.len.ensures (omega (arith, c.len.ensures)) c.if-len-end.true in
+    let ends : LineEndsAt c.loop-end.kept c.loop-end.rest.now c.in-Some.end = record { fits = c.in-Some.ensures.bound.1; line = c.in-Some.ensures.line } in
+    let turn = long_line surrogate c.loop-end.state c.args.store.now c.loop-end.kept c.loop-end.kept c.loop-end.rest.now c.in-Some.end (length c.loop-end.kept)
+    refl ends refl c.loop-end.invariant.short (c.is_too_long.ensures.long c.if-is_too_long.true) in
     let on = GoesOn-of (g.W.Wire.tells c.loop-end.wire) (g.W.Wire.tells c.give_all.new.wire) c.give_all.result fault.Wire c.give_all.ensures.cause in
     let all = FedSoFar-ends (feed_of surrogate) (g.W.Wire.tells c.args.wire.now) (g.W.Wire.tells c.loop-end.wire) (g.W.Wire.tells c.give_all.new.wire) (machine_at c.args.reading.state c.args.store.now) (machine_at c.loop-end.state c.args.store.now) (record { state = ended; store = c.args.store.now }) (c.args.reading.kept ++ c.args.piece.now) (c.loop-end.kept ++ c.loop-end.rest.now)
     (drop LINE_MAX (c.loop-end.kept ++ c.loop-end.rest.now)) line_too_long (c.loop-end.invariant.fed surrogate gives) turn c.in_ok-give_all.ensures.gives (refl, tt) on in
     all.fit
 
-pub returns-then-len-end-clause-stands : goal.returns-then-len-end-clause-stands
-returns-then-len-end-clause-stands g c =
+pub returns-then-is_too_long-clause-stands : goal.returns-then-is_too_long-clause-stands
+returns-then-is_too_long-clause-stands g c =
     λ surrogate gives.
-    let ends : LineEndsAt c.as_slice.result.now c.loop-end.rest.now c.in-Some.end = record { fits = c.in-Some.ensures.bound.1; line = c.in-Some.ensures.line } in
-    let turn = long_line surrogate c.loop-end.state c.args.store.now c.as_slice.result.now c.loop-end.kept c.loop-end.rest.now c.in-Some.end c.len.result
-    c.as_slice.ensures ends c.len.ensures (omega (arith, c.len.ensures)) c.if-len-end.true in
+    let ends : LineEndsAt c.loop-end.kept c.loop-end.rest.now c.in-Some.end = record { fits = c.in-Some.ensures.bound.1; line = c.in-Some.ensures.line } in
+    let turn = long_line surrogate c.loop-end.state c.args.store.now c.loop-end.kept c.loop-end.kept c.loop-end.rest.now c.in-Some.end (length c.loop-end.kept)
+    refl ends refl c.loop-end.invariant.short (c.is_too_long.ensures.long c.if-is_too_long.true) in
     let on = GoesOn-of (g.W.Wire.tells c.loop-end.wire) (g.W.Wire.tells c.give_all.new.wire) c.give_all.result fault.Wire c.give_all.ensures.cause in
     let all = FedSoFar-ends (feed_of surrogate) (g.W.Wire.tells c.args.wire.now) (g.W.Wire.tells c.loop-end.wire) (g.W.Wire.tells c.give_all.new.wire) (machine_at c.args.reading.state c.args.store.now) (machine_at c.loop-end.state c.args.store.now) (record { state = ended; store = c.args.store.now }) (c.args.reading.kept ++ c.args.piece.now) (c.loop-end.kept ++ c.loop-end.rest.now)
     (drop LINE_MAX (c.loop-end.kept ++ c.loop-end.rest.now)) line_too_long (c.loop-end.invariant.fed surrogate gives) turn c.in_ok-give_all.ensures.gives (refl, tt) on in
@@ -66,66 +66,66 @@ returns-then-len-end-clause-stands g c =
 
 pub answer-requires-clause-line : goal.answer-requires-clause-line
 answer-requires-clause-line g c =
-    let ends : LineEndsAt c.as_slice.result.now c.loop-end.rest.now c.in-Some.end = record { fits = c.in-Some.ensures.bound.1; line = c.in-Some.ensures.line } in
-    let line_is : c.as_slice-in-Some.result.now ≡ c.loop-end.kept ++ take c.in-Some.end c.loop-end.rest.now =
-    c.as_slice-in-Some.ensures ∙ c.in_ok-push_slice.ensures.ok ∙ ap (λ front. c.loop-end.kept ++ front) c.split_at.ensures.front in
-    line_has_end c.as_slice.result.now c.loop-end.kept c.loop-end.rest.now c.as_slice-in-Some.result.now c.in-Some.end c.as_slice.ensures ends line_is
+    let ends : LineEndsAt c.loop-end.kept c.loop-end.rest.now c.in-Some.end = record { fits = c.in-Some.ensures.bound.1; line = c.in-Some.ensures.line } in
+    let line_is : c.as_slice.result.now ≡ c.loop-end.kept ++ take c.in-Some.end c.loop-end.rest.now =
+    c.as_slice.ensures ∙ c.in_ok-push_slice.ensures.ok ∙ ap (λ front. c.loop-end.kept ++ front) c.split_at.ensures.front in
+    line_has_end c.loop-end.kept c.loop-end.kept c.loop-end.rest.now c.as_slice.result.now c.in-Some.end refl ends line_is
 
 pub returns-in_err-next-clause-gives : goal.returns-in_err-next-clause-gives
 returns-in_err-next-clause-gives g c =
     let failed = err_from_is_err_and c.from_residual-in_err-next.result c.from_residual-in_err-next.ensures.1 in
     rw failed.1 (λ surrogate gives.
-    let ends : LineEndsAt c.as_slice.result.now c.loop-end.rest.now c.in-Some.end = record { fits = c.in-Some.ensures.bound.1; line = c.in-Some.ensures.line } in
-    let line_is : c.as_slice-in-Some.result.now ≡ c.loop-end.kept ++ take c.in-Some.end c.loop-end.rest.now =
-    c.as_slice-in-Some.ensures ∙ c.in_ok-push_slice.ensures.ok ∙ ap (λ front. c.loop-end.kept ++ front) c.split_at.ensures.front in
-    let turn = short_line surrogate c.loop-end.state c.args.store.now c.as_slice.result.now c.loop-end.kept c.loop-end.rest.now c.as_slice-in-Some.result.now c.in-Some.end c.len.result
-    c.as_slice.ensures ends c.len.ensures (omega (arith, c.len.ensures)) c.if-len-end.false line_is in
+    let ends : LineEndsAt c.loop-end.kept c.loop-end.rest.now c.in-Some.end = record { fits = c.in-Some.ensures.bound.1; line = c.in-Some.ensures.line } in
+    let line_is : c.as_slice.result.now ≡ c.loop-end.kept ++ take c.in-Some.end c.loop-end.rest.now =
+    c.as_slice.ensures ∙ c.in_ok-push_slice.ensures.ok ∙ ap (λ front. c.loop-end.kept ++ front) c.split_at.ensures.front in
+    let turn = short_line surrogate c.loop-end.state c.args.store.now c.loop-end.kept c.loop-end.kept c.loop-end.rest.now c.as_slice.result.now c.in-Some.end (length c.loop-end.kept)
+    refl ends refl c.loop-end.invariant.short (c.is_too_long.ensures.short c.if-is_too_long.false) line_is in
     FedSoFar-fails (feed_of surrogate) (g.W.Wire.tells c.args.wire.now) (g.W.Wire.tells c.loop-end.wire) (g.W.Wire.tells c.answer.new.wire) (machine_at c.args.reading.state c.args.store.now) (machine_at c.loop-end.state c.args.store.now) (c.args.reading.kept ++ c.args.piece.now) (c.loop-end.kept ++ c.loop-end.rest.now)
-    (stepped surrogate c.loop-end.state c.args.store.now c.as_slice-in-Some.result.now).reply _ (c.loop-end.invariant.fed surrogate gives) turn (c.in_err-next.ensures.gives surrogate gives))
+    (stepped surrogate c.loop-end.state c.args.store.now c.as_slice.result.now).reply _ (c.loop-end.invariant.fed surrogate gives) turn (c.in_err-next.ensures.gives surrogate gives))
 
 pub returns-in_default-2-clause-gives : goal.returns-in_default-2-clause-gives
 returns-in_default-2-clause-gives g c =
     λ surrogate gives.
-    let ends : LineEndsAt c.as_slice.result.now c.loop-end.rest.now c.in-Some.end = record { fits = c.in-Some.ensures.bound.1; line = c.in-Some.ensures.line } in
-    let line_is : c.as_slice-in-Some.result.now ≡ c.loop-end.kept ++ take c.in-Some.end c.loop-end.rest.now =
-    c.as_slice-in-Some.ensures ∙ c.in_ok-push_slice.ensures.ok ∙ ap (λ front. c.loop-end.kept ++ front) c.split_at.ensures.front in
-    let turn = short_line surrogate c.loop-end.state c.args.store.now c.as_slice.result.now c.loop-end.kept c.loop-end.rest.now c.as_slice-in-Some.result.now c.in-Some.end c.len.result
-    c.as_slice.ensures ends c.len.ensures (omega (arith, c.len.ensures)) c.if-len-end.false line_is in
-    let last = line_ends surrogate c.loop-end.state c.args.store.now c.loop-end.kept c.loop-end.rest.now c.as_slice-in-Some.result.now c.in-Some.end _ turn
+    let ends : LineEndsAt c.loop-end.kept c.loop-end.rest.now c.in-Some.end = record { fits = c.in-Some.ensures.bound.1; line = c.in-Some.ensures.line } in
+    let line_is : c.as_slice.result.now ≡ c.loop-end.kept ++ take c.in-Some.end c.loop-end.rest.now =
+    c.as_slice.ensures ∙ c.in_ok-push_slice.ensures.ok ∙ ap (λ front. c.loop-end.kept ++ front) c.split_at.ensures.front in
+    let turn = short_line surrogate c.loop-end.state c.args.store.now c.loop-end.kept c.loop-end.kept c.loop-end.rest.now c.as_slice.result.now c.in-Some.end (length c.loop-end.kept)
+    refl ends refl c.loop-end.invariant.short (c.is_too_long.ensures.short c.if-is_too_long.false) line_is in
+    let last = line_ends surrogate c.loop-end.state c.args.store.now c.loop-end.kept c.loop-end.rest.now c.as_slice.result.now c.in-Some.end _ turn
     (c.in_ok-next.ensures.next surrogate gives) c.in_default-2.is in
     let on = GoesOn-of (g.W.Wire.tells c.loop-end.wire) (g.W.Wire.tells c.answer.new.wire) c.answer.result fault.Wire c.answer.ensures.cause in
     let all = FedSoFar-ends (feed_of surrogate) (g.W.Wire.tells c.args.wire.now) (g.W.Wire.tells c.loop-end.wire) (g.W.Wire.tells c.answer.new.wire) (machine_at c.args.reading.state c.args.store.now) (machine_at c.loop-end.state c.args.store.now) (record { state = ended; store = c.args.store.now }) (c.args.reading.kept ++ c.args.piece.now) (c.loop-end.kept ++ c.loop-end.rest.now)
-    (drop c.in-Some.end c.loop-end.rest.now) (stepped surrogate c.loop-end.state c.args.store.now c.as_slice-in-Some.result.now).reply (c.loop-end.invariant.fed surrogate gives) last (c.in_ok-next.ensures.gives surrogate gives) (c.in_ok-next.ensures.fit surrogate gives) on in
+    (drop c.in-Some.end c.loop-end.rest.now) (stepped surrogate c.loop-end.state c.args.store.now c.as_slice.result.now).reply (c.loop-end.invariant.fed surrogate gives) last (c.in_ok-next.ensures.gives surrogate gives) (c.in_ok-next.ensures.fit surrogate gives) on in
     all.gives
 
 pub returns-in_default-2-clause-fit : goal.returns-in_default-2-clause-fit
 returns-in_default-2-clause-fit g c =
     λ surrogate gives.
-    let ends : LineEndsAt c.as_slice.result.now c.loop-end.rest.now c.in-Some.end = record { fits = c.in-Some.ensures.bound.1; line = c.in-Some.ensures.line } in
-    let line_is : c.as_slice-in-Some.result.now ≡ c.loop-end.kept ++ take c.in-Some.end c.loop-end.rest.now =
-    c.as_slice-in-Some.ensures ∙ c.in_ok-push_slice.ensures.ok ∙ ap (λ front. c.loop-end.kept ++ front) c.split_at.ensures.front in
-    let turn = short_line surrogate c.loop-end.state c.args.store.now c.as_slice.result.now c.loop-end.kept c.loop-end.rest.now c.as_slice-in-Some.result.now c.in-Some.end c.len.result
-    c.as_slice.ensures ends c.len.ensures (omega (arith, c.len.ensures)) c.if-len-end.false line_is in
-    let last = line_ends surrogate c.loop-end.state c.args.store.now c.loop-end.kept c.loop-end.rest.now c.as_slice-in-Some.result.now c.in-Some.end _ turn
+    let ends : LineEndsAt c.loop-end.kept c.loop-end.rest.now c.in-Some.end = record { fits = c.in-Some.ensures.bound.1; line = c.in-Some.ensures.line } in
+    let line_is : c.as_slice.result.now ≡ c.loop-end.kept ++ take c.in-Some.end c.loop-end.rest.now =
+    c.as_slice.ensures ∙ c.in_ok-push_slice.ensures.ok ∙ ap (λ front. c.loop-end.kept ++ front) c.split_at.ensures.front in
+    let turn = short_line surrogate c.loop-end.state c.args.store.now c.loop-end.kept c.loop-end.kept c.loop-end.rest.now c.as_slice.result.now c.in-Some.end (length c.loop-end.kept)
+    refl ends refl c.loop-end.invariant.short (c.is_too_long.ensures.short c.if-is_too_long.false) line_is in
+    let last = line_ends surrogate c.loop-end.state c.args.store.now c.loop-end.kept c.loop-end.rest.now c.as_slice.result.now c.in-Some.end _ turn
     (c.in_ok-next.ensures.next surrogate gives) c.in_default-2.is in
     let on = GoesOn-of (g.W.Wire.tells c.loop-end.wire) (g.W.Wire.tells c.answer.new.wire) c.answer.result fault.Wire c.answer.ensures.cause in
     let all = FedSoFar-ends (feed_of surrogate) (g.W.Wire.tells c.args.wire.now) (g.W.Wire.tells c.loop-end.wire) (g.W.Wire.tells c.answer.new.wire) (machine_at c.args.reading.state c.args.store.now) (machine_at c.loop-end.state c.args.store.now) (record { state = ended; store = c.args.store.now }) (c.args.reading.kept ++ c.args.piece.now) (c.loop-end.kept ++ c.loop-end.rest.now)
-    (drop c.in-Some.end c.loop-end.rest.now) (stepped surrogate c.loop-end.state c.args.store.now c.as_slice-in-Some.result.now).reply (c.loop-end.invariant.fed surrogate gives) last (c.in_ok-next.ensures.gives surrogate gives) (c.in_ok-next.ensures.fit surrogate gives) on in
+    (drop c.in-Some.end c.loop-end.rest.now) (stepped surrogate c.loop-end.state c.args.store.now c.as_slice.result.now).reply (c.loop-end.invariant.fed surrogate gives) last (c.in_ok-next.ensures.gives surrogate gives) (c.in_ok-next.ensures.fit surrogate gives) on in
     all.fit
 
 pub returns-in_default-2-clause-stands : goal.returns-in_default-2-clause-stands
 returns-in_default-2-clause-stands g c =
     λ surrogate gives.
-    let ends : LineEndsAt c.as_slice.result.now c.loop-end.rest.now c.in-Some.end = record { fits = c.in-Some.ensures.bound.1; line = c.in-Some.ensures.line } in
-    let line_is : c.as_slice-in-Some.result.now ≡ c.loop-end.kept ++ take c.in-Some.end c.loop-end.rest.now =
-    c.as_slice-in-Some.ensures ∙ c.in_ok-push_slice.ensures.ok ∙ ap (λ front. c.loop-end.kept ++ front) c.split_at.ensures.front in
-    let turn = short_line surrogate c.loop-end.state c.args.store.now c.as_slice.result.now c.loop-end.kept c.loop-end.rest.now c.as_slice-in-Some.result.now c.in-Some.end c.len.result
-    c.as_slice.ensures ends c.len.ensures (omega (arith, c.len.ensures)) c.if-len-end.false line_is in
-    let last = line_ends surrogate c.loop-end.state c.args.store.now c.loop-end.kept c.loop-end.rest.now c.as_slice-in-Some.result.now c.in-Some.end _ turn
+    let ends : LineEndsAt c.loop-end.kept c.loop-end.rest.now c.in-Some.end = record { fits = c.in-Some.ensures.bound.1; line = c.in-Some.ensures.line } in
+    let line_is : c.as_slice.result.now ≡ c.loop-end.kept ++ take c.in-Some.end c.loop-end.rest.now =
+    c.as_slice.ensures ∙ c.in_ok-push_slice.ensures.ok ∙ ap (λ front. c.loop-end.kept ++ front) c.split_at.ensures.front in
+    let turn = short_line surrogate c.loop-end.state c.args.store.now c.loop-end.kept c.loop-end.kept c.loop-end.rest.now c.as_slice.result.now c.in-Some.end (length c.loop-end.kept)
+    refl ends refl c.loop-end.invariant.short (c.is_too_long.ensures.short c.if-is_too_long.false) line_is in
+    let last = line_ends surrogate c.loop-end.state c.args.store.now c.loop-end.kept c.loop-end.rest.now c.as_slice.result.now c.in-Some.end _ turn
     (c.in_ok-next.ensures.next surrogate gives) c.in_default-2.is in
     let on = GoesOn-of (g.W.Wire.tells c.loop-end.wire) (g.W.Wire.tells c.answer.new.wire) c.answer.result fault.Wire c.answer.ensures.cause in
     let all = FedSoFar-ends (feed_of surrogate) (g.W.Wire.tells c.args.wire.now) (g.W.Wire.tells c.loop-end.wire) (g.W.Wire.tells c.answer.new.wire) (machine_at c.args.reading.state c.args.store.now) (machine_at c.loop-end.state c.args.store.now) (record { state = ended; store = c.args.store.now }) (c.args.reading.kept ++ c.args.piece.now) (c.loop-end.kept ++ c.loop-end.rest.now)
-    (drop c.in-Some.end c.loop-end.rest.now) (stepped surrogate c.loop-end.state c.args.store.now c.as_slice-in-Some.result.now).reply (c.loop-end.invariant.fed surrogate gives) last (c.in_ok-next.ensures.gives surrogate gives) (c.in_ok-next.ensures.fit surrogate gives) on in
+    (drop c.in-Some.end c.loop-end.rest.now) (stepped surrogate c.loop-end.state c.args.store.now c.as_slice.result.now).reply (c.loop-end.invariant.fed surrogate gives) last (c.in_ok-next.ensures.gives surrogate gives) (c.in_ok-next.ensures.fit surrogate gives) on in
     record { machine = all.state_is; rest = tt }
 
 pub loop-end-preserved : goal.loop-end-preserved
@@ -134,15 +134,15 @@ loop-end-preserved g c =
     rw c.clear.ensures
     (record {
       fed = λ surrogate gives.
-          let ends : LineEndsAt c.as_slice.result.now c.loop-end.rest.now c.in-Some.end = record { fits = c.in-Some.ensures.bound.1; line = c.in-Some.ensures.line } in
-          let line_is : c.as_slice-in-Some.result.now ≡ c.loop-end.kept ++ take c.in-Some.end c.loop-end.rest.now =
-          c.as_slice-in-Some.ensures ∙ c.in_ok-push_slice.ensures.ok ∙ ap (λ front. c.loop-end.kept ++ front) c.split_at.ensures.front in
-          let turn = short_line surrogate c.loop-end.state c.args.store.now c.as_slice.result.now c.loop-end.kept c.loop-end.rest.now c.as_slice-in-Some.result.now c.in-Some.end c.len.result
-          c.as_slice.ensures ends c.len.ensures (omega (arith, c.len.ensures)) c.if-len-end.false line_is in
-          let goes = line_goes surrogate c.loop-end.state c.in-Some-2.next c.args.store.now c.loop-end.kept c.loop-end.rest.now c.as_slice-in-Some.result.now c.split_at.result.1.now c.in-Some.end _ turn
+          let ends : LineEndsAt c.loop-end.kept c.loop-end.rest.now c.in-Some.end = record { fits = c.in-Some.ensures.bound.1; line = c.in-Some.ensures.line } in
+          let line_is : c.as_slice.result.now ≡ c.loop-end.kept ++ take c.in-Some.end c.loop-end.rest.now =
+          c.as_slice.ensures ∙ c.in_ok-push_slice.ensures.ok ∙ ap (λ front. c.loop-end.kept ++ front) c.split_at.ensures.front in
+          let turn = short_line surrogate c.loop-end.state c.args.store.now c.loop-end.kept c.loop-end.kept c.loop-end.rest.now c.as_slice.result.now c.in-Some.end (length c.loop-end.kept)
+          refl ends refl c.loop-end.invariant.short (c.is_too_long.ensures.short c.if-is_too_long.false) line_is in
+          let goes = line_goes surrogate c.loop-end.state c.in-Some-2.next c.args.store.now c.loop-end.kept c.loop-end.rest.now c.as_slice.result.now c.split_at.result.1.now c.in-Some.end _ turn
           (c.in_ok-next.ensures.next surrogate gives) c.in-Some-2.is c.split_at.ensures.back in
           FedSoFar-more (feed_of surrogate) (g.W.Wire.tells c.args.wire.now) (g.W.Wire.tells c.loop-end.wire) (g.W.Wire.tells c.answer.new.wire) (machine_at c.args.reading.state c.args.store.now) (machine_at c.loop-end.state c.args.store.now) (machine_at c.in-Some-2.next c.args.store.now) (c.args.reading.kept ++ c.args.piece.now) (c.loop-end.kept ++ c.loop-end.rest.now)
-          c.split_at.result.1.now (stepped surrogate c.loop-end.state c.args.store.now c.as_slice-in-Some.result.now).reply (c.loop-end.invariant.fed surrogate gives) goes (c.in_ok-next.ensures.gives surrogate gives) (c.in_ok-next.ensures.fit surrogate gives) on;
+          c.split_at.result.1.now (stepped surrogate c.loop-end.state c.args.store.now c.as_slice.result.now).reply (c.loop-end.invariant.fed surrogate gives) goes (c.in_ok-next.ensures.gives surrogate gives) (c.in_ok-next.ensures.fit surrogate gives) on;
       on = GoesOn-trans (g.W.Wire.tells c.args.wire.now) (g.W.Wire.tells c.loop-end.wire) (g.W.Wire.tells c.answer.new.wire) c.loop-end.invariant.on on;
       none = first_line-nil;
       short = omega arith;
@@ -153,46 +153,46 @@ pub returns-in_err-give_all-2-clause-gives : goal.returns-in_err-give_all-2-clau
 returns-in_err-give_all-2-clause-gives g c =
     let failed = err_from_is_err_and c.from_residual-in_err-give_all-2.result c.from_residual-in_err-give_all-2.ensures.1 in
     rw failed.1 (λ surrogate gives.
-    let turn = long_rest surrogate c.loop-end.state c.args.store.now c.as_slice.result.now c.loop-end.kept c.loop-end.rest.now c.len-2.result c.as_slice.ensures c.in_default.ensures.line c.len-2.ensures
-    (omega (arith, c.len-2.ensures)) c.if-len-rest.true in
-    FedSoFar-fails (feed_of surrogate) (g.W.Wire.tells c.args.wire.now) (g.W.Wire.tells c.loop-end.wire) (g.W.Wire.tells c.give_all-then-len-rest.new.wire) (machine_at c.args.reading.state c.args.store.now) (machine_at c.loop-end.state c.args.store.now) (c.args.reading.kept ++ c.args.piece.now) (c.loop-end.kept ++ c.loop-end.rest.now) line_too_long _
+    let turn = long_rest surrogate c.loop-end.state c.args.store.now c.loop-end.kept c.loop-end.kept c.loop-end.rest.now (length c.loop-end.kept) refl c.in_default.ensures.line refl
+    c.loop-end.invariant.short (c.is_too_long-2.ensures.long c.if-is_too_long-2.true) in
+    FedSoFar-fails (feed_of surrogate) (g.W.Wire.tells c.args.wire.now) (g.W.Wire.tells c.loop-end.wire) (g.W.Wire.tells c.give_all-then-is_too_long-2.new.wire) (machine_at c.args.reading.state c.args.store.now) (machine_at c.loop-end.state c.args.store.now) (c.args.reading.kept ++ c.args.piece.now) (c.loop-end.kept ++ c.loop-end.rest.now) line_too_long _
     (c.loop-end.invariant.fed surrogate gives) turn c.in_err-give_all-2.ensures.gives)
 
-pub returns-then-len-rest-clause-gives : goal.returns-then-len-rest-clause-gives
-returns-then-len-rest-clause-gives g c =
+pub returns-then-is_too_long-2-clause-gives : goal.returns-then-is_too_long-2-clause-gives
+returns-then-is_too_long-2-clause-gives g c =
     λ surrogate gives.
-    let turn = long_rest surrogate c.loop-end.state c.args.store.now c.as_slice.result.now c.loop-end.kept c.loop-end.rest.now c.len-2.result c.as_slice.ensures c.in_default.ensures.line c.len-2.ensures
-    (omega (arith, c.len-2.ensures)) c.if-len-rest.true in
-    let on = GoesOn-of (g.W.Wire.tells c.loop-end.wire) (g.W.Wire.tells c.give_all-then-len-rest.new.wire) c.give_all-then-len-rest.result fault.Wire c.give_all-then-len-rest.ensures.cause in
-    let all = FedSoFar-ends (feed_of surrogate) (g.W.Wire.tells c.args.wire.now) (g.W.Wire.tells c.loop-end.wire) (g.W.Wire.tells c.give_all-then-len-rest.new.wire) (machine_at c.args.reading.state c.args.store.now) (machine_at c.loop-end.state c.args.store.now) (record { state = ended; store = c.args.store.now }) (c.args.reading.kept ++ c.args.piece.now) (c.loop-end.kept ++ c.loop-end.rest.now)
+    let turn = long_rest surrogate c.loop-end.state c.args.store.now c.loop-end.kept c.loop-end.kept c.loop-end.rest.now (length c.loop-end.kept) refl c.in_default.ensures.line refl
+    c.loop-end.invariant.short (c.is_too_long-2.ensures.long c.if-is_too_long-2.true) in
+    let on = GoesOn-of (g.W.Wire.tells c.loop-end.wire) (g.W.Wire.tells c.give_all-then-is_too_long-2.new.wire) c.give_all-then-is_too_long-2.result fault.Wire c.give_all-then-is_too_long-2.ensures.cause in
+    let all = FedSoFar-ends (feed_of surrogate) (g.W.Wire.tells c.args.wire.now) (g.W.Wire.tells c.loop-end.wire) (g.W.Wire.tells c.give_all-then-is_too_long-2.new.wire) (machine_at c.args.reading.state c.args.store.now) (machine_at c.loop-end.state c.args.store.now) (record { state = ended; store = c.args.store.now }) (c.args.reading.kept ++ c.args.piece.now) (c.loop-end.kept ++ c.loop-end.rest.now)
     (drop LINE_MAX (c.loop-end.kept ++ c.loop-end.rest.now)) line_too_long (c.loop-end.invariant.fed surrogate gives) turn c.in_ok-give_all-2.ensures.gives (refl, tt) on in
     all.gives
 
-pub returns-then-len-rest-clause-fit : goal.returns-then-len-rest-clause-fit
-returns-then-len-rest-clause-fit g c =
+pub returns-then-is_too_long-2-clause-fit : goal.returns-then-is_too_long-2-clause-fit
+returns-then-is_too_long-2-clause-fit g c =
     λ surrogate gives.
-    let turn = long_rest surrogate c.loop-end.state c.args.store.now c.as_slice.result.now c.loop-end.kept c.loop-end.rest.now c.len-2.result c.as_slice.ensures c.in_default.ensures.line c.len-2.ensures
-    (omega (arith, c.len-2.ensures)) c.if-len-rest.true in
-    let on = GoesOn-of (g.W.Wire.tells c.loop-end.wire) (g.W.Wire.tells c.give_all-then-len-rest.new.wire) c.give_all-then-len-rest.result fault.Wire c.give_all-then-len-rest.ensures.cause in
-    let all = FedSoFar-ends (feed_of surrogate) (g.W.Wire.tells c.args.wire.now) (g.W.Wire.tells c.loop-end.wire) (g.W.Wire.tells c.give_all-then-len-rest.new.wire) (machine_at c.args.reading.state c.args.store.now) (machine_at c.loop-end.state c.args.store.now) (record { state = ended; store = c.args.store.now }) (c.args.reading.kept ++ c.args.piece.now) (c.loop-end.kept ++ c.loop-end.rest.now)
+    let turn = long_rest surrogate c.loop-end.state c.args.store.now c.loop-end.kept c.loop-end.kept c.loop-end.rest.now (length c.loop-end.kept) refl c.in_default.ensures.line refl
+    c.loop-end.invariant.short (c.is_too_long-2.ensures.long c.if-is_too_long-2.true) in
+    let on = GoesOn-of (g.W.Wire.tells c.loop-end.wire) (g.W.Wire.tells c.give_all-then-is_too_long-2.new.wire) c.give_all-then-is_too_long-2.result fault.Wire c.give_all-then-is_too_long-2.ensures.cause in
+    let all = FedSoFar-ends (feed_of surrogate) (g.W.Wire.tells c.args.wire.now) (g.W.Wire.tells c.loop-end.wire) (g.W.Wire.tells c.give_all-then-is_too_long-2.new.wire) (machine_at c.args.reading.state c.args.store.now) (machine_at c.loop-end.state c.args.store.now) (record { state = ended; store = c.args.store.now }) (c.args.reading.kept ++ c.args.piece.now) (c.loop-end.kept ++ c.loop-end.rest.now)
     (drop LINE_MAX (c.loop-end.kept ++ c.loop-end.rest.now)) line_too_long (c.loop-end.invariant.fed surrogate gives) turn c.in_ok-give_all-2.ensures.gives (refl, tt) on in
     all.fit
 
-pub returns-then-len-rest-clause-stands : goal.returns-then-len-rest-clause-stands
-returns-then-len-rest-clause-stands g c =
+pub returns-then-is_too_long-2-clause-stands : goal.returns-then-is_too_long-2-clause-stands
+returns-then-is_too_long-2-clause-stands g c =
     λ surrogate gives.
-    let turn = long_rest surrogate c.loop-end.state c.args.store.now c.as_slice.result.now c.loop-end.kept c.loop-end.rest.now c.len-2.result c.as_slice.ensures c.in_default.ensures.line c.len-2.ensures
-    (omega (arith, c.len-2.ensures)) c.if-len-rest.true in
-    let on = GoesOn-of (g.W.Wire.tells c.loop-end.wire) (g.W.Wire.tells c.give_all-then-len-rest.new.wire) c.give_all-then-len-rest.result fault.Wire c.give_all-then-len-rest.ensures.cause in
-    let all = FedSoFar-ends (feed_of surrogate) (g.W.Wire.tells c.args.wire.now) (g.W.Wire.tells c.loop-end.wire) (g.W.Wire.tells c.give_all-then-len-rest.new.wire) (machine_at c.args.reading.state c.args.store.now) (machine_at c.loop-end.state c.args.store.now) (record { state = ended; store = c.args.store.now }) (c.args.reading.kept ++ c.args.piece.now) (c.loop-end.kept ++ c.loop-end.rest.now)
+    let turn = long_rest surrogate c.loop-end.state c.args.store.now c.loop-end.kept c.loop-end.kept c.loop-end.rest.now (length c.loop-end.kept) refl c.in_default.ensures.line refl
+    c.loop-end.invariant.short (c.is_too_long-2.ensures.long c.if-is_too_long-2.true) in
+    let on = GoesOn-of (g.W.Wire.tells c.loop-end.wire) (g.W.Wire.tells c.give_all-then-is_too_long-2.new.wire) c.give_all-then-is_too_long-2.result fault.Wire c.give_all-then-is_too_long-2.ensures.cause in
+    let all = FedSoFar-ends (feed_of surrogate) (g.W.Wire.tells c.args.wire.now) (g.W.Wire.tells c.loop-end.wire) (g.W.Wire.tells c.give_all-then-is_too_long-2.new.wire) (machine_at c.args.reading.state c.args.store.now) (machine_at c.loop-end.state c.args.store.now) (record { state = ended; store = c.args.store.now }) (c.args.reading.kept ++ c.args.piece.now) (c.loop-end.kept ++ c.loop-end.rest.now)
     (drop LINE_MAX (c.loop-end.kept ++ c.loop-end.rest.now)) line_too_long (c.loop-end.invariant.fed surrogate gives) turn c.in_ok-give_all-2.ensures.gives (refl, tt) on in
     record { machine = all.state_is; rest = tt }
 
 pub returns-clause-gives : goal.returns-clause-gives
 returns-clause-gives g c =
     λ surrogate gives.
-    let waiting = kept_waits c.as_slice.result.now c.loop-end.kept c.loop-end.rest.now c.len-2.result c.as_slice.ensures c.in_default.ensures.line c.len-2.ensures
-    (omega (arith, c.len-2.ensures)) c.if-len-rest.false in
+    let waiting = kept_waits c.loop-end.kept c.loop-end.kept c.loop-end.rest.now (length c.loop-end.kept) refl c.in_default.ensures.line refl
+    c.loop-end.invariant.short (c.is_too_long-2.ensures.short c.if-is_too_long-2.false) in
     let all = FedSoFar-all (feed_of surrogate) (g.W.Wire.tells c.args.wire.now) (g.W.Wire.tells c.loop-end.wire) (machine_at c.args.reading.state c.args.store.now) (machine_at c.loop-end.state c.args.store.now) (c.args.reading.kept ++ c.args.piece.now) (c.loop-end.kept ++ c.loop-end.rest.now) (c.loop-end.invariant.fed surrogate gives)
     (turns_of-waiting surrogate c.loop-end.state c.args.store.now _ waiting) in
     all.gives
@@ -200,8 +200,8 @@ returns-clause-gives g c =
 pub returns-clause-fit : goal.returns-clause-fit
 returns-clause-fit g c =
     λ surrogate gives.
-    let waiting = kept_waits c.as_slice.result.now c.loop-end.kept c.loop-end.rest.now c.len-2.result c.as_slice.ensures c.in_default.ensures.line c.len-2.ensures
-    (omega (arith, c.len-2.ensures)) c.if-len-rest.false in
+    let waiting = kept_waits c.loop-end.kept c.loop-end.kept c.loop-end.rest.now (length c.loop-end.kept) refl c.in_default.ensures.line refl
+    c.loop-end.invariant.short (c.is_too_long-2.ensures.short c.if-is_too_long-2.false) in
     let all = FedSoFar-all (feed_of surrogate) (g.W.Wire.tells c.args.wire.now) (g.W.Wire.tells c.loop-end.wire) (machine_at c.args.reading.state c.args.store.now) (machine_at c.loop-end.state c.args.store.now) (c.args.reading.kept ++ c.args.piece.now) (c.loop-end.kept ++ c.loop-end.rest.now) (c.loop-end.invariant.fed surrogate gives)
     (turns_of-waiting surrogate c.loop-end.state c.args.store.now _ waiting) in
     all.fit
@@ -209,8 +209,8 @@ returns-clause-fit g c =
 pub returns-clause-stands : goal.returns-clause-stands
 returns-clause-stands g c =
     λ surrogate gives.
-    let waiting = kept_waits c.as_slice.result.now c.loop-end.kept c.loop-end.rest.now c.len-2.result c.as_slice.ensures c.in_default.ensures.line c.len-2.ensures
-    (omega (arith, c.len-2.ensures)) c.if-len-rest.false in
+    let waiting = kept_waits c.loop-end.kept c.loop-end.kept c.loop-end.rest.now (length c.loop-end.kept) refl c.in_default.ensures.line refl
+    c.loop-end.invariant.short (c.is_too_long-2.ensures.short c.if-is_too_long-2.false) in
     let all = FedSoFar-all (feed_of surrogate) (g.W.Wire.tells c.args.wire.now) (g.W.Wire.tells c.loop-end.wire) (machine_at c.args.reading.state c.args.store.now) (machine_at c.loop-end.state c.args.store.now) (c.args.reading.kept ++ c.args.piece.now) (c.loop-end.kept ++ c.loop-end.rest.now) (c.loop-end.invariant.fed surrogate gives)
     (turns_of-waiting surrogate c.loop-end.state c.args.store.now _ waiting) in
     record { machine = all.state_is; rest = sym all.rest_is ∙ sym c.in_ok-push_slice-2.ensures.ok }
