@@ -71,34 +71,35 @@ goes_first surrogate store before now session gives machine rest =
 
 -- ---- faults
 
-lawfully : (surrogate : List ℕ → List ℕ) (store : StoreState) (a b : Telling) (taken given : List ℕ) → (half : Halfway (replies_to surrogate Pop store) a b taken given)
-    → IsPrefixOf given (replies_to surrogate Pop store taken) → ServesLawfully surrogate Pop store a b
-lawfully surrogate store a b taken given half begun = record {
+lawfully : (surrogate : List ℕ → List ℕ) (store : StoreState) (max : ℕ) (a b : Telling) (taken given : List ℕ) → length taken ≤ max → (half : Halfway (replies_to surrogate Pop store) a b taken given)
+    → IsPrefixOf given (replies_to surrogate Pop store taken) → ServesLawfully surrogate Pop store max a b
+lawfully surrogate store max a b taken given few half begun = record {
   entries = half.entries;
   moves = half.moves;
   lawful = half.lawful;
+  few = rw half.taken_is few;
   begun = rw half.given_is (begins_answer (replies_to surrogate Pop store) a b taken given (grows surrogate store) half begun);
 }
 
 -- the greeting, or a prefix of it
-pub greeting_fails : (surrogate : List ℕ → List ℕ) (store : StoreState) (a b : Telling) → GivesPrefix a b (reply_octets surrogate greeting) → ServesLawfully surrogate Pop store a b
-greeting_fails surrogate store a b gives =
+pub greeting_fails : (surrogate : List ℕ → List ℕ) (store : StoreState) (max : ℕ) (a b : Telling) → GivesPrefix a b (reply_octets surrogate greeting) → ServesLawfully surrogate Pop store max a b
+greeting_fails surrogate store max a b gives =
     let more : List ℕ = reply_octets surrogate (turn_of surrogate store []).parts in
-    lawfully surrogate store a b [] gives.given (Halfway-first (replies_to surrogate Pop store) a b gives.given gives.gives) (
+    lawfully surrogate store max a b [] gives.given (omega arith) (Halfway-first (replies_to surrogate Pop store) a b gives.given gives.gives) (
       gives.missing ++ more,
       flat_map-append (part_octets surrogate) greeting (turn_of surrogate store []).parts ∙ ap (λ front. front ++ more) (sym gives.whole) ∙ append_assoc gives.given gives.missing more,
     )
 
-pub goes_lawfully : (surrogate : List ℕ → List ℕ) (store : StoreState) (a b : Telling) (session : PopSession) (after : StoreState) (taken : ℕ) → Goes surrogate store a b session after taken
-    → ServesLawfully surrogate Pop store a b
-goes_lawfully surrogate store a b session after taken so_far =
-    lawfully surrogate store a b so_far.octets (replies_to surrogate Pop store so_far.octets) (Halfway-of (replies_to surrogate Pop store) a b so_far.octets so_far.serving)
+pub goes_lawfully : (surrogate : List ℕ → List ℕ) (store : StoreState) (max : ℕ) (a b : Telling) (session : PopSession) (after : StoreState) (taken : ℕ) → taken ≤ max → Goes surrogate store a b session after taken
+    → ServesLawfully surrogate Pop store max a b
+goes_lawfully surrogate store max a b session after taken few so_far =
+    lawfully surrogate store max a b so_far.octets (replies_to surrogate Pop store so_far.octets) (rw so_far.count few) (Halfway-of (replies_to surrogate Pop store) a b so_far.octets so_far.serving)
     ([], sym (append-nil (replies_to surrogate Pop store so_far.octets)))
 
-pub take_fails : (surrogate : List ℕ → List ℕ) (store : StoreState) (a b c : Telling) (session : PopSession) (after : StoreState) (taken : ℕ) → Goes surrogate store a b session after taken
-    → TakesNothing b c → ServesLawfully surrogate Pop store a c
-take_fails surrogate store a b c session after taken so_far none =
-    goes_lawfully surrogate store a c session after taken (record {
+pub take_fails : (surrogate : List ℕ → List ℕ) (store : StoreState) (max : ℕ) (a b c : Telling) (session : PopSession) (after : StoreState) (taken : ℕ) → taken ≤ max → Goes surrogate store a b session after taken
+    → TakesNothing b c → ServesLawfully surrogate Pop store max a c
+take_fails surrogate store max a b c session after taken few so_far none =
+    goes_lawfully surrogate store max a c session after taken few (record {
       octets = so_far.octets;
       serving = Serving-nothing (replies_to surrogate Pop store) a b c so_far.octets so_far.serving none;
       stands = so_far.stands;
@@ -112,6 +113,9 @@ take_fails surrogate store a b c session after taken so_far none =
 pub at_rest : (surrogate : List ℕ → List ℕ) (P : Turn Machine Part → Type 0) (session : PopSession) (after : StoreState) (turn : Turn Machine Part) (p q : List ℕ) → StandsFor session after turn → q ≡ p
     → ((rest : List ℕ) → HasRest session rest → P (turns_of surrogate (machine_of session after) (rest ++ q))) → P (turns_of surrogate turn.after (turn.rest ++ p))
 at_rest surrogate P session after turn p q stands same fed = rw (← stands.machine, ← same) (fed turn.rest stands.rest)
+
+taken_more : (octets into : List ℕ) (taken n : ℕ) → length octets ≡ taken → n ≤ length into → length (octets ++ take n into) ≡ taken + n
+taken_more octets into taken n count low = length-append octets (take n into) ∙ (rw (count, length-take-le n into low) refl)
 
 -- the replies to a piece were given
 pub goes_on : (surrogate : List ℕ → List ℕ) (store : StoreState) (a b c d : Telling) (session next : PopSession) (after last : StoreState) (taken n : ℕ) (into : List ℕ)
@@ -131,16 +135,16 @@ goes_on surrogate store a b c d session next after last taken n into so_far piec
           (sym (replies_to-append surrogate store so_far.octets (take n into)));
       stands = rw both (record { machine = stands.machine; rest = stands.rest });
       fit = rw both (all-append (IsFit surrogate) (turn_of surrogate store so_far.octets).parts turn.parts so_far.fit fit);
-      count = length-append so_far.octets (take n into) ∙ (rw (so_far.count, length-take-le n into low) refl);
+      count = taken_more so_far.octets into taken n so_far.count low;
     }
 
 -- the replies to a piece failed
-pub feed_fails : (surrogate : List ℕ → List ℕ) (store : StoreState) (a b c d : Telling) (session : PopSession) (after : StoreState) (taken n : ℕ) (into : List ℕ)
-    → (so_far : Goes surrogate store a b session after taken) → TakesPiece b c n into
-    → GivesPrefix c d (reply_octets surrogate (piece_turn surrogate store so_far.octets (take n into)).parts) → ServesLawfully surrogate Pop store a d
-feed_fails surrogate store a b c d session after taken n into so_far piece gives =
+pub feed_fails : (surrogate : List ℕ → List ℕ) (store : StoreState) (max : ℕ) (a b c d : Telling) (session : PopSession) (after : StoreState) (taken n : ℕ) (into : List ℕ)
+    → taken + n ≤ max → n ≤ length into → (so_far : Goes surrogate store a b session after taken) → TakesPiece b c n into
+    → GivesPrefix c d (reply_octets surrogate (piece_turn surrogate store so_far.octets (take n into)).parts) → ServesLawfully surrogate Pop store max a d
+feed_fails surrogate store max a b c d session after taken n into few low so_far piece gives =
     let front = replies_to surrogate Pop store so_far.octets in
-    lawfully surrogate store a d (so_far.octets ++ take n into) (front ++ gives.given)
+    lawfully surrogate store max a d (so_far.octets ++ take n into) (front ++ gives.given) (rw (taken_more so_far.octets into taken n so_far.count low) few)
     (Halfway-give (replies_to surrogate Pop store) a c d (so_far.octets ++ take n into) front gives.given
     (Halfway-take (replies_to surrogate Pop store) a b c so_far.octets into n so_far.serving piece) gives.gives) (
       gives.missing,
@@ -162,13 +166,13 @@ fed surrogate store a b c d session next after last taken n into piece so_far to
     (at_rest surrogate (λ t. StandsFor next last t) session after turn (take n into) piece so_far.stands same stands)
 
 -- `feed` failed at the piece
-pub not_fed : (surrogate : List ℕ → List ℕ) (store : StoreState) (a b c d : Telling) (session : PopSession) (after : StoreState) (taken n : ℕ) (into piece : List ℕ)
-    → Goes surrogate store a b session after taken → TakesPiece b c n into → piece ≡ take n into
+pub not_fed : (surrogate : List ℕ → List ℕ) (store : StoreState) (max : ℕ) (a b c d : Telling) (session : PopSession) (after : StoreState) (taken n : ℕ) (into piece : List ℕ)
+    → taken + n ≤ max → Goes surrogate store a b session after taken → TakesPiece b c n into → n ≤ length into → piece ≡ take n into
     → ((rest : List ℕ) → HasRest session rest → GivesPrefix c d (reply_octets surrogate (turns_of surrogate (machine_of session after) (rest ++ piece)).parts))
-    → ServesLawfully surrogate Pop store a d
-not_fed surrogate store a b c d session after taken n into piece so_far took same gives =
+    → ServesLawfully surrogate Pop store max a d
+not_fed surrogate store max a b c d session after taken n into piece few so_far took low same gives =
     let turn : Turn Machine Part = turn_of surrogate store so_far.octets in
-    feed_fails surrogate store a b c d session after taken n into so_far took
+    feed_fails surrogate store max a b c d session after taken n into few low so_far took
     (at_rest surrogate (λ t. GivesPrefix c d (reply_octets surrogate t.parts)) session after turn (take n into) piece so_far.stands same gives)
 
 -- ---- the ends
@@ -199,6 +203,7 @@ input_ends surrogate store a b c session after taken max n into so_far piece non
       entries = half.entries;
       moves = half.moves;
       lawful = half.lawful;
+      few = rw taken_is (omega (arith, so_far.count));
       sent = rw (taken_is, half.given_is) is;
       whole = rw half.given_is (IfSome_then a.left {P = λ octets. so_far.octets ++ take n into ≡ octets}
           (left_all (replies_to surrogate Pop store) a c (so_far.octets ++ take n into) (replies_to surrogate Pop store so_far.octets) half (piece.end none))
@@ -229,15 +234,16 @@ sent_more surrogate store after octets given more ends is =
     }
 
 -- the session has ended
-pub session_ends : (surrogate : List ℕ → List ℕ) (store : StoreState) (a b : Telling) (session : PopSession) (after : StoreState) (taken max : ℕ) → Goes surrogate store a b session after taken
+pub session_ends : (surrogate : List ℕ → List ℕ) (store : StoreState) (a b : Telling) (session : PopSession) (after : StoreState) (taken max : ℕ) → taken ≤ max → Goes surrogate store a b session after taken
     → session_state session ≡ ended → ServesAll surrogate Pop store after max a b
-session_ends surrogate store a b session after taken max so_far is =
+session_ends surrogate store a b session after taken max few so_far is =
     let ends : EndsBy surrogate Pop store so_far.octets = sym (ap (λ (machine : Machine). machine.state) so_far.stands.machine) ∙ is in
     let due = sent surrogate store a b session after taken so_far in
     record {
       entries = so_far.serving.entries;
       moves = so_far.serving.moves;
       lawful = so_far.serving.lawful;
+      few = rw (so_far.serving.taken_is, so_far.count) few;
       sent = sent_of surrogate store a b session after taken so_far;
       whole = rw so_far.serving.answered (IfSome_then a.left {P = λ octets. IsPrefixOf so_far.octets octets}
           (left_begins (replies_to surrogate Pop store) a b so_far.octets (replies_to surrogate Pop store so_far.octets)
@@ -263,8 +269,8 @@ pub starts_open : (session : PopSession) (store : StoreState) → machine_of ses
 starts_open session store machine is = let state = ap (λ (machine : Machine). machine.state) machine in let apart = sym is ∙ state in cc
 
 -- the last take found nothing, and all was answered
-pub input_lawfully : (surrogate : List ℕ → List ℕ) (store : StoreState) (a b c : Telling) (session : PopSession) (after : StoreState) (taken n : ℕ) (into : List ℕ)
-    → Goes surrogate store a b session after taken → TakesPiece b c n into → ServesLawfully surrogate Pop store a c
-input_lawfully surrogate store a b c session after taken n into so_far piece =
-    lawfully surrogate store a c (so_far.octets ++ take n into) (replies_to surrogate Pop store so_far.octets)
+pub input_lawfully : (surrogate : List ℕ → List ℕ) (store : StoreState) (max : ℕ) (a b c : Telling) (session : PopSession) (after : StoreState) (taken n : ℕ) (into : List ℕ)
+    → taken + n ≤ max → n ≤ length into → Goes surrogate store a b session after taken → TakesPiece b c n into → ServesLawfully surrogate Pop store max a c
+input_lawfully surrogate store max a b c session after taken n into few low so_far piece =
+    lawfully surrogate store max a c (so_far.octets ++ take n into) (replies_to surrogate Pop store so_far.octets) (rw (taken_more so_far.octets into taken n so_far.count low) few)
     (Halfway-take (replies_to surrogate Pop store) a b c so_far.octets into n so_far.serving piece) (grows surrogate store so_far.octets (take n into))

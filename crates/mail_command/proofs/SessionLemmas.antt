@@ -1,5 +1,5 @@
 -- What the command of a session does, exit by exit.
-use Rattle.std.proofs.Common.{◌≡◌, ℕ, List, Option, Some, None, Result, Err, refl, ap, ◌∙◌, ◌⊎◌, inl, inr}
+use Rattle.std.proofs.Common.{◌≡◌, ℕ, List, Option, Some, None, Result, Err, refl, ap, ◌∙◌, inl, inr}
 use Rattle.std.specs.Prelude.{IfSome}
 use Rattle.mail_wire.specs.declared.outside.Fault.{Fault}
 use Rattle.mail_wire.specs.declared.outside.Fault.TheVariants as fault
@@ -7,16 +7,19 @@ use Rattle.mail_wire.specs.Telling.{Telling}
 use Rattle.mail_wire.specs.Moves.{Gives, GivesPrefix}
 use Rattle.mail_wire.proofs.Moving.{Gives-nil}
 use Rattle.mail_store.specs.declared.opening.OpenFault.{OpenFault}
+use Rattle.mail_store.specs.declared.opening.OpenFault.TheVariants as faults
 use Rattle.mail_store.specs.declared.records.Record.{Record}
 use Rattle.mail_store.specs.Answers.{IsFold, OpensTo, IsJournalFault, LeavesRecords}
 use Rattle.mail_store.specs.Kept.{nothing}
 use Rattle.mail_store.specs.Opening.{HasRecords}
 use Rattle.mail_store.specs.Records.{AreRecords}
 use Rattle.mail_store.specs.StoreState.{StoreState}
+use Rattle.mail_store.specs.Unbuilt.{IsUnbuiltAt}
+use Rattle.mail_store.proofs.Readings.{records_not_bad, records_not_unbuilt}
 use Rattle.mail_command.specs.declared.serving.Role.{Role}
 use Rattle.mail_command.specs.declared.serving.Role.TheVariants.{Pop}
 use Rattle.mail_command.specs.Serving.{ServesLawfully, ServesAll, ServesUpTo}
-use Rattle.mail_command.specs.Running.{IsBrokenOff, HoldsStore, IsToldBy, InJournal, InLine, InSession, RunsSession, Ended, Limit, Unopened, Broken}
+use Rattle.mail_command.specs.Running.{BreaksSessionOff, OpensStore, HoldsStore, IsToldBy, IsExactJournal, InJournal, InLine, InSession, RunsSession, Ended, Limit, Unopened, Broken}
 use Rattle.mail_command.specs.Statuses.{status_of}
 
 some_eq : (a b : List ℕ) → Some a ≡ Some b → a ≡ b
@@ -38,14 +41,14 @@ holds_by (Some o) (Some n) store after leaves opens same =
     (opens.all, records_of o opens.all opens.had, some_eq n _ opens.holds, ap (λ (s : StoreState). s.kept) same ∙ opens.kept_is)
 
 -- each fault breaks a command off
-pub broken_by : (result : Result ℕ Fault) (met : Fault) → result ≡ Err met → IsBrokenOff (status_of result) ⊎ (status_of result ≡ 2)
+pub broken_by : (result : Result ℕ Fault) (met : Fault) → result ≡ Err met → BreaksSessionOff (status_of result)
 broken_by result fault.Wire is = rw is (inl (inl refl))
 broken_by result fault.Keeper is = rw is (inr refl)
 broken_by result fault.Memory is = rw is (inl (inr refl))
 
 -- the journal wasn't opened, and no line tells why
 pub not_opened : (surrogate : List ℕ → List ℕ) (role : Role) (max : ℕ) (old new : Option (List ℕ)) (a : Telling) (status : ℕ) → LeavesRecords old new
-    → IsBrokenOff status ⊎ (status ≡ 2) → RunsSession surrogate role max old new a a status
+    → BreaksSessionOff status → RunsSession surrogate role max old new a a status
 not_opened surrogate role max old new a status leaves broken = Broken broken (InJournal (Gives-nil a)) leaves
 
 -- a line tells why
@@ -55,7 +58,7 @@ told surrogate role max old new a b met status line is tells gives = Unopened li
 
 -- the line was broken off
 pub told_partly : (surrogate : List ℕ → List ℕ) (role : Role) (max : ℕ) (old new : Option (List ℕ)) (a b : Telling) (met : OpenFault) (told status : ℕ) (line : List ℕ) → LeavesRecords old new
-    → IfSome old (λ octets. IsJournalFault octets new met) → IsToldBy met told line → GivesPrefix a b line → IsBrokenOff status ⊎ (status ≡ 2)
+    → IfSome old (λ octets. IsJournalFault octets new met) → IsToldBy met told line → GivesPrefix a b line → BreaksSessionOff status
     → RunsSession surrogate role max old new a b status
 told_partly surrogate role max old new a b met told status line leaves is tells gives broken =
     Broken broken (InLine told line (record { fault = met; told = tells; is = is }) gives) leaves
@@ -72,10 +75,52 @@ served_up_to surrogate role max old new a b store after leaves fold opens same a
     Limit store after (record { fold = fold; opens = opens }) all (holds_by old new store after leaves opens same) refl
 
 pub served_partly : (surrogate : List ℕ → List ℕ) (role : Role) (max : ℕ) (old new : Option (List ℕ)) (a b : Telling) (store : StoreState) (status : ℕ) → LeavesRecords old new → IsFold store.kept
-    → IfSome old (λ octets. OpensTo octets new store.kept) → ServesLawfully surrogate role store a b → IsBrokenOff status ⊎ (status ≡ 2) → RunsSession surrogate role max old new a b status
+    → IfSome old (λ octets. OpensTo octets new store.kept) → ServesLawfully surrogate role store max a b → BreaksSessionOff status → RunsSession surrogate role max old new a b status
 served_partly surrogate role max old new a b store status leaves fold opens so_far broken =
     Broken broken (InSession store (record { fold = fold; opens = opens }) so_far) leaves
 
 -- the one role is POP3's
 pub at_pop : (P : Role → Type 0) (role : Role) → P role → P Pop
 at_pop P Pop is = is
+
+-- ---- the answer is exact for the journal
+
+bad_by : (octets : List ℕ) (new : Option (List ℕ)) (met : OpenFault) (status : ℕ) (line : List ℕ) (at : ℕ) → IsToldBy met status line → IsJournalFault octets new met
+    → ((place : ℕ) → ¬ IsUnbuiltAt octets place) → status ≡ 5
+bad_by octets new (faults.BadJournal place) status line at told is built = told.0
+bad_by octets new (faults.NotBuilt place) status line at told is built = absurd (built place is.0)
+bad_by octets new faults.Keeper status line at told is built = absurd told
+bad_by octets new faults.Memory status line at told is built = absurd told
+
+not_built_by : (octets : List ℕ) (new : Option (List ℕ)) (met : OpenFault) (status : ℕ) (line : List ℕ) (at : ℕ) → IsToldBy met status line → IsJournalFault octets new met
+    → IsUnbuiltAt octets at → status ≡ 10
+not_built_by octets new (faults.BadJournal place) status line at told is unbuilt = absurd (is.1 at unbuilt)
+not_built_by octets new (faults.NotBuilt place) status line at told is unbuilt = told.0
+not_built_by octets new faults.Keeper status line at told is unbuilt = absurd told
+not_built_by octets new faults.Memory status line at told is unbuilt = absurd told
+
+-- a journal that was opened is neither
+opened_exact : (octets : List ℕ) (new : Option (List ℕ)) (store : StoreState) (status : ℕ) → OpensStore (Some octets) new store → IsExactJournal octets status
+opened_exact octets new store status opens = record {
+  bad = λ at bad built. absurd (records_not_bad octets opens.opens.all at opens.opens.had bad);
+  not_built = λ at unbuilt. absurd (records_not_unbuilt octets opens.opens.all at opens.opens.had opens.opens.are_read unbuilt);
+}
+
+exact_at : (surrogate : List ℕ → List ℕ) (role : Role) (max : ℕ) (octets : List ℕ) (new : Option (List ℕ)) (a b : Telling) (status : ℕ)
+    → RunsSession surrogate role max (Some octets) new a b status → IsExactJournal octets status
+exact_at surrogate role max octets new a b status (Ended store after opens served holds is) = opened_exact octets new store status opens
+exact_at surrogate role max octets new a b status (Limit store after opens served holds is) = opened_exact octets new store status opens
+exact_at surrogate role max octets new a b status (Unopened line unopened gives) = record {
+  bad = λ at bad built. inl (bad_by octets new unopened.fault status line at unopened.told unopened.is built);
+  not_built = λ at unbuilt. inl (not_built_by octets new unopened.fault status line at unopened.told unopened.is unbuilt);
+}
+exact_at surrogate role max octets new a b status (Broken broken partly leaves) = record {
+  bad = λ at bad built. inr broken;
+  not_built = λ at unbuilt. inr broken;
+}
+
+-- whatever the octets told
+pub exact_journal : (surrogate : List ℕ → List ℕ) (role : Role) (max : ℕ) (old new : Option (List ℕ)) (a b : Telling) (status : ℕ) → RunsSession surrogate role max old new a b status
+    → IfSome old (λ octets. IsExactJournal octets status)
+exact_journal surrogate role max None new a b status runs = tt
+exact_journal surrogate role max (Some octets) new a b status runs = exact_at surrogate role max octets new a b status runs

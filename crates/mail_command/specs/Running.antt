@@ -12,9 +12,11 @@ use Rattle.mail_store.specs.declared.opening.OpenFault.TheVariants as faults
 use Rattle.mail_store.specs.declared.records.Record.{Record}
 use Rattle.mail_store.specs.Answers.{IsFold, OpensTo, IsJournalFault, LeavesRecords}
 use Rattle.mail_store.specs.Kept.{nothing, store_of}
+use Rattle.mail_store.specs.Opening.{IsBadAt}
 use Rattle.mail_store.specs.Records.{AreRecords}
 use Rattle.mail_store.specs.Spelling.{journal}
 use Rattle.mail_store.specs.StoreState.{StoreState}
+use Rattle.mail_store.specs.Unbuilt.{IsUnbuiltAt}
 use Rattle.mail_command.specs.declared.serving.Role.{Role}
 use Rattle.mail_command.specs.Outcome.{DowngradeOutcome, message_max}
 use Rattle.mail_command.specs.Serving.{IsPrefixOf, ServesLawfully, ServesAll, ServesUpTo}
@@ -92,13 +94,17 @@ pub record IsUnopened (old new : Option (List ℕ)) (status : ℕ) (line : List 
   pub told : IsToldBy fault status line
   pub is : IfSome old (λ octets. IsJournalFault octets new fault)
 
+-- a fault of the wire, of the keeper, or want of memory
+abbrev pub BreaksSessionOff : ℕ → Type 0
+BreaksSessionOff status = IsBrokenOff status ⊎ (status ≡ 2)
+
 -- how far a session's command came that was broken off
-pub data BreaksSession (surrogate : List ℕ → List ℕ) (role : Role) (old new : Option (List ℕ)) (before now : Telling) : Type 0 where
+pub data BreaksSession (surrogate : List ℕ → List ℕ) (role : Role) (max : ℕ) (old new : Option (List ℕ)) (before now : Telling) : Type 0 where
   -- the journal wasn't opened
-  InJournal : Gives before now [] → BreaksSession surrogate role old new before now
+  InJournal : Gives before now [] → BreaksSession surrogate role max old new before now
   -- the line that tells why it can't be
-  InLine : (status : ℕ) (line : List ℕ) → IsUnopened old new status line → GivesPrefix before now line → BreaksSession surrogate role old new before now
-  InSession : (store : StoreState) → OpensStore old new store → ServesLawfully surrogate role store before now → BreaksSession surrogate role old new before now
+  InLine : (status : ℕ) (line : List ℕ) → IsUnopened old new status line → GivesPrefix before now line → BreaksSession surrogate role max old new before now
+  InSession : (store : StoreState) → OpensStore old new store → ServesLawfully surrogate role store max before now → BreaksSession surrogate role max old new before now
 
 -- What the command of a session does, by its status. `surrogate` gives surrogates, and `max` is how many octets a session may
 -- take.
@@ -111,9 +117,14 @@ pub data RunsSession (surrogate : List ℕ → List ℕ) (role : Role) (max : �
       → RunsSession surrogate role max old new before now status
   -- the journal was told to be bad, or not to be built yet
   Unopened : (line : List ℕ) → IsUnopened old new status line → Gives before now line → RunsSession surrogate role max old new before now status
-  -- a fault of the wire, of the keeper, or want of memory; the keeper's records stay
-  Broken : IsBrokenOff status ⊎ (status ≡ 2) → BreaksSession surrogate role old new before now → LeavesRecords old new
+  -- it was broken off; the keeper's records stay
+  Broken : BreaksSessionOff status → BreaksSession surrogate role max old new before now → LeavesRecords old new
       → RunsSession surrogate role max old new before now status
+
+-- A journal that is bad is answered 5, and one with a record that isn't read yet 10, unless the command was broken off.
+pub record IsExactJournal (octets : List ℕ) (status : ℕ) : Type 0 where
+  pub bad : (at : ℕ) → IsBadAt octets at → ((place : ℕ) → ¬ IsUnbuiltAt octets place) → (status ≡ 5) ⊎ BreaksSessionOff status
+  pub not_built : (at : ℕ) → IsUnbuiltAt octets at → (status ≡ 10) ⊎ BreaksSessionOff status
 
 -- ---- causes
 

@@ -65,11 +65,13 @@ pub record IsSent (surrogate : List ℕ → List ℕ) (role : Role) (store after
 abbrev pub IsPrefixOf : List ℕ → List ℕ → Type 0
 IsPrefixOf front whole = (rest : List ℕ) × (whole ≡ front ++ rest)
 
--- Before each take all that was taken was answered, and nothing was given but a prefix of the replies to what was left.
-pub record ServesLawfully (surrogate : List ℕ → List ℕ) (role : Role) (store : StoreState) (before now : Telling) : Type 0 where
+-- Before each take all that was taken was answered, and nothing was given but a prefix of the replies to what was left. No
+-- more was taken than a session may take.
+pub record ServesLawfully (surrogate : List ℕ → List ℕ) (role : Role) (store : StoreState) (max : ℕ) (before now : Telling) : Type 0 where
   pub entries : List Entry
   pub moves : Moves before now entries
   pub lawful : IsLawful (replies_to surrogate role store) entries
+  pub few : length (taken_of entries) ≤ max
   pub begun : IfSome before.left (λ octets. IsPrefixOf (given_of entries) (replies_to surrogate role store octets))
 
 -- The session was sent what is due for all that was left, and has ended, or nothing is left.
@@ -77,6 +79,7 @@ pub record ServesAll (surrogate : List ℕ → List ℕ) (role : Role) (store af
   pub entries : List Entry
   pub moves : Moves before now entries
   pub lawful : IsLawful (replies_to surrogate role store) entries
+  pub few : length (taken_of entries) ≤ max
   pub sent : IsSent surrogate role store after (taken_of entries) (given_of entries)
   pub whole : IfSome before.left (λ octets. IsSent surrogate role store after octets (given_of entries))
   pub end : EndsBy surrogate role store (taken_of entries) ⊎ (IsAtEnd now.left × (length (taken_of entries) < max))

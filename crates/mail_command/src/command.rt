@@ -1,9 +1,9 @@
 //! Runs a command over a wire and a keeper.
-ghost use Rattle.std.specs.Prelude.{◌≡◌, [], ◌∷◌, Err, IfOk};
+ghost use Rattle.std.specs.Prelude.{◌≡◌, [], ◌∷◌, Err, IfOk, IfSome};
 ghost use Rattle.mail_wire.specs.Moves.{HasWireCause};
 ghost use Rattle.surrogate_cache.specs.Served.{WithSurrogates};
 ghost use Rattle.mail_command.specs.Words.{Names, IsNoCommand, IsDowngrade, IsPop};
-ghost use Rattle.mail_command.specs.Running.{RefusesWords, RunsDowngrade, RunsSession, HasStatusCause};
+ghost use Rattle.mail_command.specs.Running.{RefusesWords, RunsDowngrade, RunsSession, IsExactJournal, HasStatusCause};
 ghost use Rattle.mail_command.specs.Statuses.{status_of};
 ghost use Rattle.mail_command.specs.declared.serving.TheConstants.{LIMITS};
 
@@ -66,6 +66,7 @@ fn work<W: Wire, J: Keeper>(
     ensures downgrade { IsDowngrade words.now → RunsDowngrade (W.tells wire.old) (W.tells wire.new) (status_of result) }
     ensures pop { IsPop words.now → WithSurrogates (λ surrogate. RunsSession surrogate Role.Pop LIMITS.session_max
         (J.tells keeper.old).octets (J.tells keeper.new).octets (W.tells wire.old) (W.tells wire.new) (status_of result)) }
+    ensures journal { IsPop words.now → IfSome (J.tells keeper.old).octets (λ octets. IsExactJournal octets (status_of result)) }
     ensures untouched { ¬ IsPop words.now → J.tells keeper.new ≡ J.tells keeper.old }
     ensures cause { HasStatusCause (W.tells wire.old) (W.tells wire.new) (J.tells keeper.old) (J.tells keeper.new) (status_of result) }
 {
@@ -85,6 +86,8 @@ pub fn run<W: Wire, J: Keeper>(alloc: Global, words: &Words, wire: &mut W, keepe
     ensures downgrade { IsDowngrade words.now → RunsDowngrade (W.tells wire.old) (W.tells wire.new) result }
     ensures pop { IsPop words.now → WithSurrogates (λ surrogate. RunsSession surrogate Role.Pop LIMITS.session_max
         (J.tells keeper.old).octets (J.tells keeper.new).octets (W.tells wire.old) (W.tells wire.new) result) }
+    // A bad journal is told, and one that can't be read yet.
+    ensures journal { IsPop words.now → IfSome (J.tells keeper.old).octets (λ octets. IsExactJournal octets result) }
     // Only a session opens the journal.
     ensures untouched { ¬ IsPop words.now → J.tells keeper.new ≡ J.tells keeper.old }
     ensures cause { HasStatusCause (W.tells wire.old) (W.tells wire.new) (J.tells keeper.old) (J.tells keeper.new) result }

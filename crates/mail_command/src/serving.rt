@@ -95,7 +95,7 @@ fn serve_pop<W: Wire, J: Keeper>(
     wire: &mut W,
     keeper: &mut J,
 ) -> Result<bool, Fault>
-    ensures lawful { WithSurrogates (λ surrogate. ServesLawfully surrogate Role.Pop desk.old.store (W.tells wire.old) (W.tells wire.new)) }
+    ensures lawful { WithSurrogates (λ surrogate. ServesLawfully surrogate Role.Pop desk.old.store desk.old.limits.session_max (W.tells wire.old) (W.tells wire.new)) }
     ensures ended { result ≡ Ok true → WithSurrogates (λ surrogate.
         ServesAll surrogate Role.Pop desk.old.store desk.new.store desk.old.limits.session_max (W.tells wire.old) (W.tells wire.new)) }
     ensures limit { result ≡ Ok false → WithSurrogates (λ surrogate.
@@ -141,8 +141,8 @@ pub fn serve_one<W: Wire, J: Keeper>(
     keeper: &mut J,
 ) -> Served
     requires { IsOpen desk.old }
-    // Before each take all that was taken was answered, and nothing else was ever given.
-    ensures lawful { WithSurrogates (λ surrogate. ServesLawfully surrogate role desk.old.store (W.tells wire.old) (W.tells wire.new)) }
+    // Before each take all that was taken was answered, nothing else was ever given, and no more was taken than the limit.
+    ensures lawful { WithSurrogates (λ surrogate. ServesLawfully surrogate role desk.old.store desk.old.limits.session_max (W.tells wire.old) (W.tells wire.new)) }
     // The session was sent what is due for all that was left, and has ended, or nothing is left.
     ensures ended { result ≡ Served.Ended → WithSurrogates (λ surrogate.
         ServesAll surrogate role desk.old.store desk.new.store desk.old.limits.session_max (W.tells wire.old) (W.tells wire.new)) }

@@ -11,7 +11,7 @@ not_both b is apart = cc
 
 pub returns-in_err-session-clause-lawful : goal.returns-in_err-session-clause-lawful
 returns-in_err-session-clause-lawful g c surrogate is =
-    greeting_fails surrogate c.args.desk.now.store (g.W.Wire.tells c.args.wire.now) (g.W.Wire.tells c.start.new.wire) (c.in_err-session.ensures.gives surrogate)
+    greeting_fails surrogate c.args.desk.now.store c.args.desk.now.limits.session_max (g.W.Wire.tells c.args.wire.now) (g.W.Wire.tells c.start.new.wire) (c.in_err-session.ensures.gives surrogate)
 
 pub loop-taken-init : goal.loop-taken-init
 loop-taken-init g c = record {
@@ -28,13 +28,14 @@ loop-taken-init g c = record {
 
 pub returns-in_err-count-clause-lawful : goal.returns-in_err-count-clause-lawful
 returns-in_err-count-clause-lawful g c surrogate is =
-    take_fails surrogate c.args.desk.now.store (g.W.Wire.tells c.args.wire.now) (g.W.Wire.tells c.loop-taken.wire) (g.W.Wire.tells c.take_piece.new.wire) c.loop-taken.session
-    c.loop-taken.desk.store c.loop-taken.taken (c.loop-taken.invariant.goes surrogate is) c.in_err-count.ensures.fails
+    take_fails surrogate c.args.desk.now.store c.args.desk.now.limits.session_max (g.W.Wire.tells c.args.wire.now) (g.W.Wire.tells c.loop-taken.wire) (g.W.Wire.tells c.take_piece.new.wire) c.loop-taken.session
+    c.loop-taken.desk.store c.loop-taken.taken c.loop-taken.invariant.low (c.loop-taken.invariant.goes surrogate is) c.in_err-count.ensures.fails
 
 pub returns-then-count-eq0-clause-lawful : goal.returns-then-count-eq0-clause-lawful
 returns-then-count-eq0-clause-lawful g c surrogate is =
-    input_lawfully surrogate c.args.desk.now.store (g.W.Wire.tells c.args.wire.now) (g.W.Wire.tells c.loop-taken.wire) (g.W.Wire.tells c.take_piece.new.wire) c.loop-taken.session
-    c.loop-taken.desk.store c.loop-taken.taken c.in_ok-count.count c.take_piece.new.into (c.loop-taken.invariant.goes surrogate is) c.in_ok-count.ensures.takes
+    input_lawfully surrogate c.args.desk.now.store c.args.desk.now.limits.session_max (g.W.Wire.tells c.args.wire.now) (g.W.Wire.tells c.loop-taken.wire) (g.W.Wire.tells c.take_piece.new.wire) c.loop-taken.session
+    c.loop-taken.desk.store c.loop-taken.taken c.in_ok-count.count c.take_piece.new.into
+    (omega (arith, c.loop-taken.invariant.low, c.in_ok-count.ensures.bound, c.min-room.ensures, c.take_piece.auto.into, length-take {A = ℕ})) c.in_ok-count.ensures.bound (c.loop-taken.invariant.goes surrogate is) c.in_ok-count.ensures.takes
 
 pub returns-then-count-eq0-clause-ended : goal.returns-then-count-eq0-clause-ended
 returns-then-count-eq0-clause-ended g c ok surrogate is =
@@ -44,13 +45,15 @@ returns-then-count-eq0-clause-ended g c ok surrogate is =
 
 pub returns-in_err-session-2-clause-lawful : goal.returns-in_err-session-2-clause-lawful
 returns-in_err-session-2-clause-lawful g c surrogate is =
-    not_fed surrogate c.args.desk.now.store (g.W.Wire.tells c.args.wire.now) (g.W.Wire.tells c.loop-taken.wire) (g.W.Wire.tells c.take_piece.new.wire) (g.W.Wire.tells c.feed.new.wire)
-    c.loop-taken.session c.loop-taken.desk.store c.loop-taken.taken c.in_ok-count.count c.take_piece.new.into _ (c.loop-taken.invariant.goes surrogate is) c.in_ok-count.ensures.takes
+    not_fed surrogate c.args.desk.now.store c.args.desk.now.limits.session_max (g.W.Wire.tells c.args.wire.now) (g.W.Wire.tells c.loop-taken.wire) (g.W.Wire.tells c.take_piece.new.wire) (g.W.Wire.tells c.feed.new.wire)
+    c.loop-taken.session c.loop-taken.desk.store c.loop-taken.taken c.in_ok-count.count c.take_piece.new.into _
+    (omega (arith, c.loop-taken.invariant.low, c.in_ok-count.ensures.bound, c.min-room.ensures, c.take_piece.auto.into, length-take {A = ℕ})) (c.loop-taken.invariant.goes surrogate is) c.in_ok-count.ensures.takes c.in_ok-count.ensures.bound
     (take-append-le c.in_ok-count.count c.take_piece.new.into (drop c.min-room.result c.loop-taken.piece) c.in_ok-count.ensures.bound) (c.in_err-session-2.ensures.gives surrogate is)
 
 pub returns-then-ended-clause-lawful : goal.returns-then-ended-clause-lawful
 returns-then-ended-clause-lawful g c surrogate is =
-    goes_lawfully surrogate c.args.desk.now.store (g.W.Wire.tells c.args.wire.now) (g.W.Wire.tells c.feed.new.wire) c.in_ok-session-2.session c.feed.new.store _
+    goes_lawfully surrogate c.args.desk.now.store c.args.desk.now.limits.session_max (g.W.Wire.tells c.args.wire.now) (g.W.Wire.tells c.feed.new.wire) c.in_ok-session-2.session c.feed.new.store _
+    (omega (arith, c.loop-taken.invariant.low, c.in_ok-count.ensures.bound, c.min-room.ensures, c.take_piece.auto.into, length-take {A = ℕ}))
     (fed surrogate c.args.desk.now.store (g.W.Wire.tells c.args.wire.now) (g.W.Wire.tells c.loop-taken.wire) (g.W.Wire.tells c.take_piece.new.wire) (g.W.Wire.tells c.feed.new.wire)
     c.loop-taken.session c.in_ok-session-2.session c.loop-taken.desk.store c.feed.new.store c.loop-taken.taken c.in_ok-count.count c.take_piece.new.into _
     (c.loop-taken.invariant.goes surrogate is) c.in_ok-count.ensures.takes c.in_ok-count.ensures.bound
@@ -60,6 +63,7 @@ returns-then-ended-clause-lawful g c surrogate is =
 pub returns-then-ended-clause-ended : goal.returns-then-ended-clause-ended
 returns-then-ended-clause-ended g c ok surrogate is =
     session_ends surrogate c.args.desk.now.store (g.W.Wire.tells c.args.wire.now) (g.W.Wire.tells c.feed.new.wire) c.in_ok-session-2.session c.feed.new.store _ c.args.desk.now.limits.session_max
+    (omega (arith, c.loop-taken.invariant.low, c.in_ok-count.ensures.bound, c.min-room.ensures, c.take_piece.auto.into, length-take {A = ℕ}))
     (fed surrogate c.args.desk.now.store (g.W.Wire.tells c.args.wire.now) (g.W.Wire.tells c.loop-taken.wire) (g.W.Wire.tells c.take_piece.new.wire) (g.W.Wire.tells c.feed.new.wire)
     c.loop-taken.session c.in_ok-session-2.session c.loop-taken.desk.store c.feed.new.store c.loop-taken.taken c.in_ok-count.count c.take_piece.new.into _
     (c.loop-taken.invariant.goes surrogate is) c.in_ok-count.ensures.takes c.in_ok-count.ensures.bound
@@ -88,8 +92,8 @@ loop-taken-preserved g c = record {
 
 pub returns-clause-lawful : goal.returns-clause-lawful
 returns-clause-lawful g c surrogate is =
-    goes_lawfully surrogate c.args.desk.now.store (g.W.Wire.tells c.args.wire.now) (g.W.Wire.tells c.loop-taken.wire) c.loop-taken.session c.loop-taken.desk.store c.loop-taken.taken
-    (c.loop-taken.invariant.goes surrogate is)
+    goes_lawfully surrogate c.args.desk.now.store c.args.desk.now.limits.session_max (g.W.Wire.tells c.args.wire.now) (g.W.Wire.tells c.loop-taken.wire) c.loop-taken.session c.loop-taken.desk.store c.loop-taken.taken
+    c.loop-taken.invariant.low (c.loop-taken.invariant.goes surrogate is)
 
 pub returns-clause-limit : goal.returns-clause-limit
 returns-clause-limit g c ok surrogate is =

@@ -35,16 +35,16 @@ pub returns-in-WireFault-clause-runs : goal.returns-in-WireFault-clause-runs
 returns-in-WireFault-clause-runs g c surrogate is =
     rw (ap (λ (t : KeeperTelling). t.octets) c.serve_one.ensures.kept)
     (served_partly surrogate c.args.role 1073741824 (g.J.Keeper.tells c.args.keeper.now).octets (g.J.Keeper.tells c.open_desk.new.keeper).octets (g.W.Wire.tells c.args.wire.now) (g.W.Wire.tells c.serve_one.new.wire)
-    c.in-Ok.desk.store 1 c.open_desk.ensures.leaves c.in-Ok.ensures.fold c.in-Ok.ensures.opens (c.serve_one.ensures.lawful surrogate is) (inl (inl refl)))
+    c.in-Ok.desk.store 1 c.open_desk.ensures.leaves c.in-Ok.ensures.fold c.in-Ok.ensures.opens (rw c.in-Ok.ensures.limits at (c.serve_one.ensures.lawful surrogate is)) (inl (inl refl)))
 
 pub returns-in-KeeperFault-clause-runs : goal.returns-in-KeeperFault-clause-runs
 returns-in-KeeperFault-clause-runs g c surrogate is =
     rw (ap (λ (t : KeeperTelling). t.octets) c.serve_one.ensures.kept)
     (served_partly surrogate c.args.role 1073741824 (g.J.Keeper.tells c.args.keeper.now).octets (g.J.Keeper.tells c.open_desk.new.keeper).octets (g.W.Wire.tells c.args.wire.now) (g.W.Wire.tells c.serve_one.new.wire)
-    c.in-Ok.desk.store 2 c.open_desk.ensures.leaves c.in-Ok.ensures.fold c.in-Ok.ensures.opens (c.serve_one.ensures.lawful surrogate is) (inr refl))
+    c.in-Ok.desk.store 2 c.open_desk.ensures.leaves c.in-Ok.ensures.fold c.in-Ok.ensures.opens (rw c.in-Ok.ensures.limits at (c.serve_one.ensures.lawful surrogate is)) (inr refl))
 
 pub returns-clause-runs : goal.returns-clause-runs
 returns-clause-runs g c surrogate is =
     rw (ap (λ (t : KeeperTelling). t.octets) c.serve_one.ensures.kept)
     (served_partly surrogate c.args.role 1073741824 (g.J.Keeper.tells c.args.keeper.now).octets (g.J.Keeper.tells c.open_desk.new.keeper).octets (g.W.Wire.tells c.args.wire.now) (g.W.Wire.tells c.serve_one.new.wire)
-    c.in-Ok.desk.store 3 c.open_desk.ensures.leaves c.in-Ok.ensures.fold c.in-Ok.ensures.opens (c.serve_one.ensures.lawful surrogate is) (inl (inr refl)))
+    c.in-Ok.desk.store 3 c.open_desk.ensures.leaves c.in-Ok.ensures.fold c.in-Ok.ensures.opens (rw c.in-Ok.ensures.limits at (c.serve_one.ensures.lawful surrogate is)) (inl (inr refl)))
