@@ -1,11 +1,11 @@
 -- Every text has units.
-use Rattle.std.proofs.Common.{◌≡◌, ℕ, true, not, List, [], ◌∷◌, ◌++◌, map, Option, refl, ap, arith, inl, inr}
-use Rattle.std.proofs.lemmas.Bool.{and_from, cases_Bool}
-use Rattle.std.specs.List.{AllByRecursion, list_all, list_any, flat_map}
+use Rattle.std.proofs.Common.{◌≡◌, ◌==◌, ℕ, true, not, List, [], ◌∷◌, ◌++◌, map, Option, refl, sym, ap, ◌∙◌, arith, inl, inr}
+use Rattle.std.proofs.lemmas.Bool.{and_from, cases_Bool, eqb-true, eq-eqb, true≢false}
+use Rattle.std.specs.List.{list_all, list_any, flat_map}
 use Rattle.mail_wire.specs.Octets.{is_white, is_black}
 use Rattle.encoded_words.specs.Words.{UnitValue, Text, SaysWhere}
 use Rattle.encoded_words.specs.Units.{Place, Divides, ArePlaces, HasUnits, place_octets, raw_units, merged}
-use Rattle.encoded_words.specs.CommentUnits.{TextItem, IsTextItem, item_spelling, item_octet, is_pair, is_white_item, CommentWord, word_items, ItemsDivide, AreCommentWords, comment_places, HasCommentUnits}
+use Rattle.encoded_words.specs.CommentUnits.{TextItem, Plain, Pair, AreTextItems, item_spelling, item_octet, has_backslash, is_white_item, CommentWord, word_items, ItemsDivide, AreCommentWords, comment_places, HasCommentUnits}
 use Rattle.encoded_words.specs.PhraseUnits.{PhraseItem, PhraseWord, phrase_words, ArePhrasePlaces, HasPhraseUnits}
 use Rattle.encoded_words.proofs.Deciding.{decide_says, decide_where}
 
@@ -88,8 +88,8 @@ white_item_more i items is d = record {
 }
 
 -- what the word of these items says
-said : (items : List TextItem) → (says : Option UnitValue) × SaysWhere (not (list_any is_pair items)) (map item_octet items) says
-said items = decide_where (not (list_any is_pair items)) (map item_octet items)
+said : (items : List TextItem) → (says : Option UnitValue) × SaysWhere (not (list_any has_backslash items)) (map item_octet items) says
+said items = decide_where (not (list_any has_backslash items)) (map item_octet items)
 
 black_item_more : (i : TextItem) (items lead : List TextItem) (ws : List CommentWord) → not (is_white_item i) ≡ true → list_all is_white_item lead ≡ true → AreCommentWords ws
     → items ≡ lead ++ flat_map word_items ws → ItemsDivided (i ∷ items)
@@ -128,17 +128,38 @@ items_divided (i ∷ items) =
       | inr fails ↦ black_item_more i items d.lead d.words (ap not fails) d.white d.are d.whole
     ]
 
-pub HasCommentUnits-some : (items : List TextItem) → AllByRecursion IsTextItem items → (units : List UnitValue) × HasCommentUnits (flat_map item_spelling items) units
-HasCommentUnits-some items all =
-    let d = items_divided items in (
+-- a text is spelled by items
+record Spelled (text : List ℕ) : Type 0 where
+  items : List TextItem
+  are : AreTextItems items
+  whole : text ≡ flat_map item_spelling items
+
+octet_more : (x : ℕ) (text : List ℕ) → (x ≡ 92 → ⊥) → Spelled text → Spelled (x ∷ text)
+octet_more x text other s = record { items = Plain x ∷ s.items; are = ((λ e. absurd (other e)), s.are); whole = ap (λ t. x ∷ t) s.whole }
+
+pair_more : (x y : ℕ) (text : List ℕ) → x ≡ 92 → Spelled text → Spelled (x ∷ y ∷ text)
+pair_more x y text is s = record { items = Pair y ∷ s.items; are = s.are; whole = rw is (ap (λ t. 92 ∷ y ∷ t) s.whole) }
+
+spelled : (text : List ℕ) → Spelled text
+spelled [] = record { items = []; are = tt; whole = refl }
+spelled (x ∷ []) = record { items = Plain x ∷ []; are = ((λ e. refl), tt); whole = refl }
+spelled (x ∷ y ∷ text) = elim (cases_Bool (x == 92)) [
+  | inl is ↦ pair_more x y text (eqb-true x 92 is) (spelled text)
+  | inr other ↦ octet_more x (y ∷ text) (λ e. true≢false (sym (eq-eqb x 92 e) ∙ other)) (spelled (y ∷ text))
+]
+
+pub HasCommentUnits-some : (text : List ℕ) → (units : List UnitValue) × HasCommentUnits text units
+HasCommentUnits-some text =
+    let s = spelled text in
+    let d = items_divided s.items in (
       merged (raw_units (comment_places d.words)),
       record {
         lead = d.lead;
         words = d.words;
         white = d.white;
         are_words = d.are;
-        are_items = rw (← d.whole) all;
-        whole = ap (flat_map item_spelling) d.whole;
+        are_items = rw (← d.whole) s.are;
+        whole = s.whole ∙ ap (flat_map item_spelling) d.whole;
         says = refl;
       },
     )

@@ -2,31 +2,39 @@
 use Rattle.std.proofs.Common.{◌≡◌, ℕ, ◌<◌, Bool, true, false, not, List, [], ◌∷◌, ◌++◌, length, map, Option, refl, sym, ap, ◌∙◌, subst, arith}
 use Rattle.std.proofs.lemmas.Bool.{and_parts, not-true, not_from_true, both_ways}
 use Rattle.std.proofs.lemmas.List.{append_assoc}
-use Rattle.std.specs.List.{AllByRecursion, list_all, list_any, flat_map}
+use Rattle.std.specs.List.{list_all, list_any, flat_map}
 use Rattle.encoded_words.specs.Words.{UnitValue, SaysWhere}
 use Rattle.encoded_words.specs.Units.{raw_units, merged}
-use Rattle.encoded_words.specs.CommentUnits.{TextItem, Plain, Pair, IsTextItem, item_spelling, item_octet, is_pair, is_white_item, CommentWord, word_items, ItemsDivide, AreCommentWords, comment_places, HasCommentUnits}
+use Rattle.encoded_words.specs.CommentUnits.{TextItem, Plain, Pair, AreTextItems, item_spelling, item_octet, has_backslash, is_white_item, CommentWord, word_items, ItemsDivide, AreCommentWords, comment_places, HasCommentUnits}
 use Rattle.encoded_words.proofs.PhraseLemmas.{says_where_once}
-
--- no item begins another
-item_once : (i j : TextItem) (x y : List ℕ) → IsTextItem i → IsTextItem j → item_spelling i ++ x ≡ item_spelling j ++ y → (i ≡ j) × (x ≡ y)
-item_once (Plain a) (Plain b) x y p q e = (cc e, cc e)
-item_once (Plain a) (Pair b) x y p q e = absurd (p (cc e))
-item_once (Pair a) (Plain b) x y p q e = absurd (q (sym (cc e)))
-item_once (Pair a) (Pair b) x y p q e = (cc e, cc e)
 
 no_item : (i : TextItem) (x : List ℕ) → item_spelling i ++ x ≡ [] → ⊥
 no_item (Plain a) x e = cc e
 no_item (Pair a) x e = cc e
 
-items_once : (xs ys : List TextItem) → AllByRecursion IsTextItem xs → AllByRecursion IsTextItem ys → flat_map item_spelling xs ≡ flat_map item_spelling ys → xs ≡ ys
+-- a backslash by itself isn't the beginning of a pair
+not_pair : (a b : ℕ) (xs : List TextItem) (ys : List ℕ) → (a ≡ 92 → xs ≡ []) → a ∷ flat_map item_spelling xs ≡ 92 ∷ b ∷ ys → ⊥
+not_pair a b xs ys lone e =
+    let none : xs ≡ [] = lone (cc e) in
+    let rest : flat_map item_spelling xs ≡ b ∷ ys = cc e in
+    cc (sym (ap (flat_map item_spelling) none) ∙ rest)
+
+-- a text is spelled by one list of items
+pub items_once : (xs ys : List TextItem) → AreTextItems xs → AreTextItems ys → flat_map item_spelling xs ≡ flat_map item_spelling ys → xs ≡ ys
 items_once [] [] a b e = refl
 items_once [] (y ∷ ys) a b e = absurd (no_item y (flat_map item_spelling ys) (sym e))
 items_once (x ∷ xs) [] a b e = absurd (no_item x (flat_map item_spelling xs) e)
-items_once (x ∷ xs) (y ∷ ys) a b e =
-    let once = item_once x y (flat_map item_spelling xs) (flat_map item_spelling ys) a.0 b.0 e in
-    let head : x ≡ y = once.0 in
-    let tail : xs ≡ ys = items_once xs ys a.1 b.1 once.1 in
+items_once (Plain x ∷ xs) (Plain y ∷ ys) a b e =
+    let head : x ≡ y = cc e in
+    let rest : flat_map item_spelling xs ≡ flat_map item_spelling ys = cc e in
+    let tail : xs ≡ ys = items_once xs ys a.1 b.1 rest in
+    cc
+items_once (Plain x ∷ xs) (Pair y ∷ ys) a b e = absurd (not_pair x y xs (flat_map item_spelling ys) a.0 e)
+items_once (Pair x ∷ xs) (Plain y ∷ ys) a b e = absurd (not_pair y x ys (flat_map item_spelling xs) b.0 (sym e))
+items_once (Pair x ∷ xs) (Pair y ∷ ys) a b e =
+    let head : x ≡ y = cc e in
+    let rest : flat_map item_spelling xs ≡ flat_map item_spelling ys = cc e in
+    let tail : xs ≡ ys = items_once xs ys a b rest in
     cc
 
 -- the list does not begin with an item that passes
@@ -92,8 +100,8 @@ words_once (w ∷ ws) (v ∷ vs) hw hv e =
     let fronts = front_once is_black_item w.items v.items (w.run ++ a) (v.run ++ b) hw.0.black hv.0.black
     (behind_word w.run ws hw.0.white hw.1) (behind_word v.run vs hv.0.white hv.1) whole in
     let runs = front_once is_white_item w.run v.run a b hw.0.white hv.0.white (begins_word ws hw.2) (begins_word vs hv.2) fronts.1 in
-    let at_v = subst (λ xs. SaysWhere (not (list_any is_pair xs)) (map item_octet xs) w.says) fronts.0 hw.0.says in
-    let says : w.says ≡ v.says = says_where_once (not (list_any is_pair v.items)) (map item_octet v.items) w.says v.says at_v hv.0.says in
+    let at_v = subst (λ xs. SaysWhere (not (list_any has_backslash xs)) (map item_octet xs) w.says) fronts.0 hw.0.says in
+    let says : w.says ≡ v.says = says_where_once (not (list_any has_backslash v.items)) (map item_octet v.items) w.says v.says at_v hv.0.says in
     let head : w ≡ v = made w.items v.items w.says v.says w.run v.run fronts.0 says runs.0 in
     let tail : ws ≡ vs = words_once ws vs hw.2 hv.2 runs.1 in
     cc

@@ -11,6 +11,8 @@ pub mod Once
 pub mod PhraseLemmas
 pub mod CommentLemmas
 pub mod EncodedOctets
+pub mod PlainItems
+pub mod CommentReading
 pub mod WrittenUnits
 pub mod Deciding
 pub mod AllUnits

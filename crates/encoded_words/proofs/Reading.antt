@@ -20,7 +20,7 @@ merged-onto (Text octets) us = refl
 merged-onto (Opaque charset octets) us = refl
 
 -- what a push of text means, whatever follows
-then_text : (old new : Merging) (text : List ℕ) (us : List UnitValue) → IsMerging new (done_values old) (old.text.items ++ text) → units_then new us ≡ units_then old (with_text text us)
+pub then_text : (old new : Merging) (text : List ℕ) (us : List UnitValue) → IsMerging new (done_values old) (old.text.items ++ text) → units_then new us ≡ units_then old (with_text text us)
 then_text old new text us is = rw (is.done_is, is.text_is, ← with_text-append old.text.items text us) refl
 
 then_unit : (old new : Merging) (u : UnitValue) (us : List UnitValue) → Adds old new u → units_then new us ≡ units_then old (onto u us)

@@ -11,7 +11,7 @@ use Rattle.mail_wire.specs.Octets.{is_white, is_black}
 use Rattle.mail_wire.specs.Spans.{Stops}
 use Rattle.encoded_words.specs.Words.{UnitValue, Text, Opaque, Says, SaysWhere, gives_text, unit_of}
 use Rattle.encoded_words.specs.Units.{Place, ArePlaces, HasUnits, place_octets, word_unit, begins_encoded, raw_units, with_text, merged}
-use Rattle.encoded_words.specs.CommentUnits.{TextItem, Plain, Pair, item_spelling, item_octet, is_pair, is_white_item, CommentWord, word_items, ItemsDivide, AreCommentWords, comment_places, HasCommentUnits}
+use Rattle.encoded_words.specs.CommentUnits.{TextItem, Plain, Pair, item_spelling, item_octet, has_backslash, is_white_item, CommentWord, word_items, ItemsDivide, AreCommentWords, comment_places, HasCommentUnits}
 use Rattle.encoded_words.specs.PhraseUnits.{PhraseItem, Atom, Content, Dot, Separator, IsUtf8Item, PhraseWord, phrase_words, ArePhrasePlaces, HasPhraseUnits, begins_free, has_word}
 use Rattle.encoded_words.specs.Written.{IsUtf8Unit, AreUtf8Units}
 use Rattle.encoded_words.proofs.BWords.{ascii_literal}
@@ -158,7 +158,7 @@ begins_run (Pair x ∷ run) ws white divides = cc white
 
 words_utf8 : (ws : List CommentWord) → AreCommentWords ws → IsUtf8 (octets_of (flat_map word_items ws)) → AllByRecursion IsUtf8Place (comment_places ws)
 words_utf8 [] are u = tt
-words_utf8 (w ∷ ws) are u = by ws are.2 (says_where_utf8 (not (list_any is_pair w.items)) (octets_of w.items) w.says are.0.says word.0) run.0 (words_utf8 ws are.2 run.1)
+words_utf8 (w ∷ ws) are u = by ws are.2 (says_where_utf8 (not (list_any has_backslash w.items)) (octets_of w.items) w.says are.0.says word.0) run.0 (words_utf8 ws are.2 run.1)
   where
     rest : List ℕ
     rest = octets_of (flat_map word_items ws)

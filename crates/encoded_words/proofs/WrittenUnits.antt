@@ -1,17 +1,18 @@
 -- Units that are written are read back.
-use Rattle.std.proofs.Common.{◌≡◌, ◌==◌, ℕ, ◌<◌, true, false, not, List, [], ◌∷◌, ◌++◌, length, map, Some, refl, sym, ap, ◌∙◌, subst, arith}
-use Rattle.std.proofs.lemmas.Bool.{and_parts, eq-eqb, not-true, true≢false}
+use Rattle.std.proofs.Common.{◌≡◌, ℕ, ◌<◌, true, not, List, [], ◌∷◌, ◌++◌, length, map, Some, refl, sym, ap, ◌∙◌, subst, arith}
+use Rattle.std.proofs.lemmas.Bool.{and_parts}
 use Rattle.std.proofs.lemmas.List.{append_assoc, append-nil, append_cancel_left, nil_from_length, map-append}
-use Rattle.std.specs.List.{AllByRecursion, list_all, list_any, flat_map, concat, join_with_byte}
+use Rattle.std.specs.List.{list_all, flat_map, concat, join_with_byte}
 use Rattle.std.specs.Str.{IsUtf8}
 use Rattle.mail_wire.specs.Octets.{is_white}
 use Rattle.encoded_words.specs.Words.{UnitValue, Text, Opaque, IsEncodedWord}
 use Rattle.encoded_words.specs.Units.{Place, ArePlaces, Divides, HasUnits, place_octets, raw_units, run_text, begins_encoded, merged, with_text}
-use Rattle.encoded_words.specs.CommentUnits.{Plain, IsTextItem, item_spelling, item_octet, is_pair, is_white_item, CommentWord, word_items, ItemsDivide, AreCommentWords, comment_places, HasCommentUnits}
+use Rattle.encoded_words.specs.CommentUnits.{Plain, is_white_item, CommentWord, word_items, ItemsDivide, AreCommentWords, comment_places, HasCommentUnits}
 use Rattle.encoded_words.specs.PhraseUnits.{has_word, separated, phrase_words, ArePhrasePlaces, HasPhraseUnits}
 use Rattle.encoded_words.specs.Pieces.{b_word, IsChunk, AreChunks, AreBWords, AreFirstBWords, AddsBWords, ReadBack, AreShort}
 use Rattle.encoded_words.specs.Written.{WriteAll, AreUnits, has_no_backslash}
 use Rattle.encoded_words.proofs.BWords.{b_word-says, chunk_utf8, AreShort-b_words}
+use Rattle.encoded_words.proofs.PlainItems.{plain_octets, plain_spelling, plain_items, plain_no_backslash, no_backslash_parts}
 use Rattle.encoded_words.proofs.EncodedOctets.{encoded_black, encoded_some}
 use Rattle.encoded_words.proofs.Reading.{merged-onto}
 use Rattle.encoded_words.proofs.WithText.{with_text-append}
@@ -124,18 +125,6 @@ pub HasUnits-written : (us : List UnitValue) (pieces : List (List ℕ)) → AreU
 HasUnits-written us pieces are writes = subst (HasUnits (join_with_byte 32 pieces)) are (HasUnits-merged us pieces writes)
 
 -- ... as the text of a comment.
-plain_octets : (xs : List ℕ) → map item_octet (map Plain xs) ≡ xs
-plain_octets [] = refl
-plain_octets (x ∷ xs) = ap (λ ys. x ∷ ys) (plain_octets xs)
-
-plain_spelling : (xs : List ℕ) → flat_map item_spelling (map Plain xs) ≡ xs
-plain_spelling [] = refl
-plain_spelling (x ∷ xs) = ap (λ ys. x ∷ ys) (plain_spelling xs)
-
-no_pair : (xs : List ℕ) → list_any is_pair (map Plain xs) ≡ false
-no_pair [] = refl
-no_pair (x ∷ xs) = no_pair xs
-
 plain_black : (xs : List ℕ) → list_all (λ x. not (is_white x)) xs ≡ true → list_all (λ i. not (is_white_item i)) (map Plain xs) ≡ true
 plain_black [] h = refl
 plain_black (x ∷ xs) h =
@@ -144,12 +133,6 @@ plain_black (x ∷ xs) h =
 plain_some : (xs : List ℕ) → 0 < length xs → 0 < length (map Plain xs)
 plain_some [] h = absurd (omega arith)
 plain_some (x ∷ xs) h = omega arith
-
-plain_items : (xs : List ℕ) → has_no_backslash xs ≡ true → AllByRecursion IsTextItem (map Plain xs)
-plain_items [] h = tt
-plain_items (x ∷ xs) h =
-    let parts = and_parts (not (x == 92)) (has_no_backslash xs) h in
-    ((λ e. true≢false (sym (eq-eqb x 92 e) ∙ not-true (x == 92) parts.0)), plain_items xs parts.1)
 
 abbrev words_of : List (List ℕ) → List UnitValue → List CommentWord
 words_of [] us = []
@@ -165,18 +148,25 @@ gap_items : (ws : List (List ℕ)) → list_all is_white_item (map Plain (gap ws
 gap_items [] = refl
 gap_items (w ∷ ws) = refl
 
-AreCommentWords-of : (ws : List (List ℕ)) (us : List UnitValue) → Say ws us → AreCommentWords (words_of ws us)
-AreCommentWords-of [] us say = tt
-AreCommentWords-of (w ∷ ws) [] say = tt
-AreCommentWords-of (w ∷ ws) (u ∷ us) say = (
+-- neither the first piece nor the others have a backslash
+quotes : (w : List ℕ) (ws : List (List ℕ)) → has_no_backslash (join_with_byte 32 (w ∷ ws)) ≡ true
+    → (has_no_backslash w ≡ true) × (has_no_backslash (join_with_byte 32 ws) ≡ true)
+quotes w [] none = (none, refl)
+quotes w (v ∷ ws) none =
+    let parts = no_backslash_parts w (32 ∷ join_with_byte 32 (v ∷ ws)) none in (parts.0, parts.1)
+
+AreCommentWords-of : (ws : List (List ℕ)) (us : List UnitValue) → has_no_backslash (join_with_byte 32 ws) ≡ true → Say ws us → AreCommentWords (words_of ws us)
+AreCommentWords-of [] us none say = tt
+AreCommentWords-of (w ∷ ws) [] none say = tt
+AreCommentWords-of (w ∷ ws) (u ∷ us) none say = (
   record {
     is_word = plain_some w (encoded_some w u say.0);
     black = plain_black w (encoded_black w u say.0);
     white = gap_items ws;
-    says = rw (no_pair w, plain_octets w) say.0;
+    says = rw (plain_no_backslash w (quotes w ws none).0, plain_octets w) say.0;
   },
   items_divide ws us,
-  AreCommentWords-of ws us say.1,
+  AreCommentWords-of ws us (quotes w ws none).1 say.1,
 )
 
 items-words_of : (ws : List (List ℕ)) (us : List UnitValue) → Say ws us → flat_map word_items (words_of ws us) ≡ map Plain (join_with_byte 32 ws)
@@ -203,7 +193,7 @@ HasCommentUnits-written us pieces are writes none =
       lead = [];
       words = words_of pieces s.says;
       white = refl;
-      are_words = AreCommentWords-of pieces s.says s.say;
+      are_words = AreCommentWords-of pieces s.says none s.say;
       are_items = rw items (plain_items text none);
       whole = rw items (sym (plain_spelling text));
       says = sym are ∙ sym s.same ∙ sym (merged-places_of pieces s.says s.say) ∙ ap (λ ps. merged (raw_units ps)) (sym (comment-places_of pieces s.says s.say));

@@ -1,6 +1,6 @@
 -- The units of a comment's text, which is what stands between two parentheses (RFC 5322, 3.2.2; RFC 2047, 5, rule 2).
-use Rattle.std.specs.Prelude.{◌≡◌, ◌≢◌, ℕ, ◌<◌, Bool, true, false, not, List, [], ◌∷◌, ◌++◌, length, map, Option, ⊤}
-use Rattle.std.specs.List.{AllByRecursion, flat_map, list_all, list_any}
+use Rattle.std.specs.Prelude.{◌≡◌, ℕ, ◌<◌, ◌==◌, Bool, true, false, not, List, [], ◌∷◌, ◌++◌, length, map, Option}
+use Rattle.std.specs.List.{flat_map, list_all, list_any}
 use Rattle.mail_wire.specs.Octets.{is_white}
 use Rattle.encoded_words.specs.Words.{UnitValue, SaysWhere}
 use Rattle.encoded_words.specs.Units.{Place, raw_units, merged}
@@ -11,9 +11,11 @@ pub data TextItem : Type 0 where
   Plain : ℕ → TextItem
   Pair : ℕ → TextItem
 
-abbrev pub IsTextItem : TextItem → Type 0
-IsTextItem (Plain x) = x ≢ 92
-IsTextItem (Pair x) = ⊤
+-- A backslash stands by itself only at the text's end, where there is nothing that it could quote.
+abbrev pub AreTextItems : List TextItem → Type 0
+AreTextItems [] = Unit {0}
+AreTextItems (Plain x ∷ items) = (x ≡ 92 → items ≡ []) × AreTextItems items
+AreTextItems (Pair x ∷ items) = AreTextItems items
 
 abbrev pub item_spelling : TextItem → List ℕ
 item_spelling (Plain x) = x ∷ []
@@ -23,9 +25,9 @@ abbrev pub item_octet : TextItem → ℕ
 item_octet (Plain x) = x
 item_octet (Pair x) = x
 
-abbrev pub is_pair : TextItem → Bool
-is_pair (Plain x) = false
-is_pair (Pair x) = true
+abbrev pub has_backslash : TextItem → Bool
+has_backslash (Plain x) = x == 92
+has_backslash (Pair x) = true
 
 -- white by itself; a quoted pair is never white
 abbrev pub is_white_item : TextItem → Bool
@@ -41,12 +43,12 @@ pub record CommentWord : Type 0 where
 abbrev pub word_items : CommentWord → List TextItem
 word_items w = w.items ++ w.run
 
--- a word with a quoted pair is no encoded word
+-- a word with a backslash is no encoded word
 pub record IsCommentWord (w : CommentWord) : Type 0 where
   pub is_word : 0 < length w.items
   pub black : list_all (λ i. not (is_white_item i)) w.items ≡ true
   pub white : list_all is_white_item w.run ≡ true
-  pub says : SaysWhere (not (list_any is_pair w.items)) (map item_octet w.items) w.says
+  pub says : SaysWhere (not (list_any has_backslash w.items)) (map item_octet w.items) w.says
 
 -- Words are the longest runs of items that are not white, so white stands between any two.
 abbrev pub ItemsDivide : List TextItem → List CommentWord → Type 0
@@ -72,6 +74,6 @@ pub record HasCommentUnits (text : List ℕ) (units : List UnitValue) : Type 0 w
   pub words : List CommentWord
   pub white : list_all is_white_item lead ≡ true
   pub are_words : AreCommentWords words
-  pub are_items : AllByRecursion IsTextItem (lead ++ flat_map word_items words)
+  pub are_items : AreTextItems (lead ++ flat_map word_items words)
   pub whole : text ≡ flat_map item_spelling (lead ++ flat_map word_items words)
   pub says : units ≡ merged (raw_units (comment_places words))

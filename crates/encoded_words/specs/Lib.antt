@@ -1,6 +1,8 @@
 pub mod Words
 pub mod Units
 pub mod CommentUnits
+pub mod CommentReading
+pub mod Contexts
 pub mod PhraseUnits
 pub mod Pieces
 pub mod Folding

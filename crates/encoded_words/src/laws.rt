@@ -1,9 +1,9 @@
 //! Laws of texts and their units.
 ghost use Rattle.std.specs.Prelude.{◌≡◌, ℕ, true, List, [], ◌∷◌, IsUtf8};
-ghost use Rattle.std.specs.List.{AllByRecursion, flat_map, join_with_byte};
+ghost use Rattle.std.specs.List.{AllByRecursion, join_with_byte};
 ghost use Rattle.encoded_words.specs.Words.{UnitValue};
 ghost use Rattle.encoded_words.specs.Units.{HasUnits};
-ghost use Rattle.encoded_words.specs.CommentUnits.{TextItem, IsTextItem, item_spelling, HasCommentUnits};
+ghost use Rattle.encoded_words.specs.CommentUnits.{HasCommentUnits};
 ghost use Rattle.encoded_words.specs.PhraseUnits.{PhraseItem, Content, IsUtf8Item, HasPhraseUnits, separated};
 ghost use Rattle.encoded_words.specs.Pieces.{AreBWords};
 ghost use Rattle.encoded_words.specs.Written.{AreUnits, AreUtf8Units, WriteAll, has_no_backslash};
@@ -16,11 +16,10 @@ pub fn units_are_one()
         → us ≡ vs }
 {}
 
-/// Every text and every phrase has units. (The text of a comment is spelled by items: it doesn't end within a quoted pair.)
+/// Every text and every phrase has units.
 pub fn units_are_there()
     ensures unstructured { (text : List ℕ) → (units : List UnitValue) × HasUnits text units }
-    ensures comment { (items : List TextItem) → AllByRecursion IsTextItem items
-        → (units : List UnitValue) × HasCommentUnits (flat_map item_spelling items) units }
+    ensures comment { (text : List ℕ) → (units : List UnitValue) × HasCommentUnits text units }
     ensures phrase { (items : List PhraseItem) → (units : List UnitValue) × HasPhraseUnits items units }
 {}
 

@@ -2,11 +2,15 @@
 #![tactic(auto)]
 
 pub mod b_words;
+pub mod comments;
+pub mod contexts;
 pub mod laws;
 pub mod units;
 pub mod word;
 
 pub use b_words::{push_words, write_words};
+pub use comments::read_comment;
+pub use contexts::read_units;
 use mail_wire::values::Octets;
 pub use units::read_unstructured;
 pub use word::read_word;
@@ -20,4 +24,13 @@ pub enum Unit {
         octets: Octets,
         source: Octets,
     },
+}
+
+/// Where a text stands.
+#[derive(Clone, Copy)]
+pub enum Context {
+    /// The value of an unstructured field, unfolded (RFC 5322, 3.6.5).
+    Unstructured,
+    /// What stands in a comment between two parentheses (RFC 5322, 3.2.2).
+    Comment,
 }

@@ -32,13 +32,13 @@ fn split_word(octets: &[u8]) -> (&[u8], &[u8])
 
 /// Units that are made one after another: those that are done, and text that may go on.
 #[derive(Drop)]
-struct Merging {
+pub struct Merging {
     done: Vec<Unit>,
     text: Vec<u8>,
 }
 
 impl Merging {
-    fn new(alloc: Global) -> Self
+    pub fn new(alloc: Global) -> Self
         ensures { IsMerging result [] [] }
     {
         Merging {
@@ -48,7 +48,7 @@ impl Merging {
     }
 
     /// Goes on with text.
-    fn push_text(&mut self, text: &[u8]) -> Result<(), Memory>
+    pub fn push_text(&mut self, text: &[u8]) -> Result<(), Memory>
         ensures units { OnOk result (IsMerging self.new (done_values self.old) (self.old.text.items ++ text.now)) }
         ensures done { self.new.done.items ≡ self.old.done.items }
     {
@@ -57,7 +57,7 @@ impl Merging {
     }
 
     /// Ends the text, if there is any.
-    fn end_text(&mut self, alloc: Global) -> Result<(), Memory>
+    pub fn end_text(&mut self, alloc: Global) -> Result<(), Memory>
         ensures units { OnOk result (IsMerging self.new (done_values self.old ++ with_text self.old.text.items []) []) }
         ensures sources { OnOk result (HaveSources self.old.done.items → HaveSources self.new.done.items) }
     {
@@ -92,7 +92,7 @@ impl Merging {
     }
 
     /// Takes the next word, and the run of white before it. Answers whether it is an encoded word.
-    fn push_word(
+    pub fn push_word(
         &mut self,
         alloc: Global,
         run: &[u8],
@@ -117,7 +117,7 @@ impl Merging {
     }
 
     /// The units that are done.
-    fn into_done(self) -> Vec<Unit>
+    pub fn into_done(self) -> Vec<Unit>
         ensures { result.items ≡ self.done.items }
     {
         self.done

@@ -1,0 +1,119 @@
+//! The reader of the units of a comment's text.
+ghost use Rattle.std.specs.Prelude.{◌≡◌, [], map, IfOk, OnOk, IfSome, IfNone};
+ghost use Rattle.mail_wire.specs.Octets.{is_black};
+ghost use Rattle.mail_wire.specs.Spans.{Stops};
+ghost use Rattle.encoded_words.specs.Values.{value_of, HaveSources};
+ghost use Rattle.encoded_words.specs.CommentUnits.{HasCommentUnits};
+ghost use Rattle.encoded_words.specs.CommentReading.{BeginsItem, BeginsBlack, SplitsWord, GivesOctets, TakesCommentWord};
+ghost use Rattle.encoded_words.specs.Written.{has_no_backslash as has_no_backslash_of};
+
+use crate::Unit;
+use crate::units::Merging;
+use mail_wire::text::{is_white, split_white};
+use mail_wire::values::Memory;
+use std::alloc::Global;
+
+/// The octet that the first octet or quoted pair gives, and what follows that.
+fn first_item(octets: &[u8]) -> Option<(u8, &[u8])>
+    ensures found { IfSome result (λ x. BeginsItem octets.now x.0 x.1.now) }
+    ensures none { IfNone result (octets.now ≡ []) }
+{
+    let [octet, after @ ..] = octets else {
+        return None;
+    };
+    if *octet == b'\\' {
+        let [quoted, behind @ ..] = after else {
+            return Some((*octet, after));
+        };
+        return Some((*quoted, behind));
+    }
+    Some((*octet, after))
+}
+
+/// What follows the first octet or quoted pair, where white doesn't come first.
+fn behind_black(octets: &[u8]) -> Option<&[u8]>
+    ensures found { IfSome result (λ rest. BeginsBlack octets.now rest.now) }
+    ensures none { IfNone result (Stops is_black octets.now) }
+{
+    let [octet, ..] = octets else {
+        return None;
+    };
+    if is_white(*octet) {
+        return None;
+    }
+    let Some((_, rest)) = first_item(octets) else {
+        return None;
+    };
+    Some(rest)
+}
+
+/// The longest front without white of its own, and what follows it. White of a quoted pair belongs to its word.
+fn split_word(octets: &[u8]) -> (&[u8], &[u8])
+    ensures { SplitsWord octets.now result.0.now result.1.now }
+{
+    let mut rest = octets;
+    while let Some(after) = behind_black(rest) {
+        rest = after;
+    }
+    octets.split_at(octets.len() - rest.len())
+}
+
+/// Whether there is no backslash.
+fn has_no_backslash(octets: &[u8]) -> bool
+    ensures { result ≡ has_no_backslash_of octets.now }
+{
+    octets.iter().all(|octet| *octet != b'\\')
+}
+
+/// The word without the backslashes of its quoted pairs.
+fn unquoted(alloc: Global, word: &[u8]) -> Result<Vec<u8>, Memory>
+    ensures { IfOk result (λ octets. GivesOctets word.now octets.items) }
+{
+    let mut octets = Vec::new(alloc);
+    let mut rest = word;
+    while let Some((octet, after)) = first_item(rest) {
+        octets.push(octet)?;
+        rest = after;
+    }
+    Ok(octets)
+}
+
+/// Takes the next word, and the run of white before it. Answers whether it is an encoded word.
+fn push_word(
+    alloc: Global,
+    units: &mut Merging,
+    run: &[u8],
+    after_encoded: bool,
+    word: &[u8],
+) -> Result<bool, Memory>
+    ensures units { IfOk result (TakesCommentWord units.old units.new run.now after_encoded word.now) }
+    ensures sources { OnOk result (HaveSources units.old.done.items → HaveSources units.new.done.items) }
+{
+    if has_no_backslash(word) {
+        return units.push_word(alloc, run, after_encoded, word);
+    }
+    let octets = unquoted(alloc, word)?;
+    units.push_text(run)?;
+    units.push_text(octets.as_slice())?;
+    Ok(false)
+}
+
+/// The units of what stands in a comment between two parentheses. White at either end says nothing.
+pub fn read_comment(alloc: Global, text: &[u8]) -> Result<Vec<Unit>, Memory>
+    ensures units { IfOk result (λ units. HasCommentUnits text.now (map value_of units.items)) }
+    ensures sources { IfOk result (λ units. HaveSources units.items) }
+{
+    let (_, mut rest) = split_white(text);
+    let mut units = Merging::new(alloc);
+    let mut run: &[u8] = &[];
+    let mut after_encoded = false;
+    while !rest.is_empty() {
+        let (word, after) = split_word(rest);
+        let (next_run, next_rest) = split_white(after);
+        after_encoded = push_word(alloc, &mut units, run, after_encoded, word)?;
+        run = next_run;
+        rest = next_rest;
+    }
+    units.end_text(alloc)?;
+    Ok(units.into_done())
+}
