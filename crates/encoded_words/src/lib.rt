@@ -29,7 +29,7 @@ pub enum Unit {
 /// Where a text stands.
 #[derive(Clone, Copy)]
 pub enum Context {
-    /// The value of an unstructured field, unfolded (RFC 5322, 3.6.5).
+    /// The value of an unstructured field, unfolded (RFC 5322, 2.2.1).
     Unstructured,
     /// What stands in a comment between two parentheses (RFC 5322, 3.2.2).
     Comment,
