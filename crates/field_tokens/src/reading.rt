@@ -41,7 +41,7 @@ fn opens_literal(style: Style, octet: u8) -> bool
 }
 
 /// Whether an octet may stand in an atom.
-fn is_atom_octet(style: Style, octet: u8) -> bool
+pub fn is_atom_octet(style: Style, octet: u8) -> bool
     ensures { result ≡ is_atom_octet_of style octet }
 {
     !is_white(octet) && !is_special(style, octet) && !is_mark(style, octet) && !is_control(octet)

@@ -1,0 +1,9 @@
+pub mod Positions
+pub mod LexemeLemmas
+pub mod DottedLemmas
+pub mod ContentLemmas
+pub mod AddressLemmas
+pub mod PathLemmas
+pub mod Utf8Lemmas
+pub mod SoundLemmas
+pub mod WritingLemmas

@@ -1,0 +1,10 @@
+use Rattle.std.proofs.Common.{length}
+use Rattle.address_lists.specs.Views.{values_of}
+use Rattle.address_lists.proofs.ContentLemmas.{Lexes}
+use Rattle.address_lists.proofs.lexemes.read_lexemes.Given as goal
+
+abbrev pub invariant-loop-token : goal.invariant-loop-token
+invariant-loop-token l = Lexes l.fn.text (values_of l.lexemes.items) l.left l.rest
+
+abbrev pub decreases-loop-token : goal.decreases-loop-token
+decreases-loop-token l = length l.left

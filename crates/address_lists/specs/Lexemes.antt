@@ -1,0 +1,127 @@
+-- What the grammar of addresses knows of tokens (RFC 5322, 3.2).
+use Rattle.std.specs.Prelude.{◌≡◌, ℕ, ◌-◌, ◌==◌, Bool, true, false, not, ◌&&◌, if◌then◌else◌, List, [], ◌∷◌, ◌++◌, length, take, drop, filter}
+use Rattle.std.specs.List.{flat_map, list_all}
+use Rattle.std.specs.Str.{bytes_eq}
+use Rattle.field_tokens.specs.declared.Style.TheVariants.{Mail}
+use Rattle.field_tokens.specs.declared.TokenKind.{TokenKind}
+use Rattle.field_tokens.specs.declared.TokenKind.TheVariants.{Atom, Quoted, Literal, Special, Gap, Comment}
+use Rattle.field_tokens.specs.Tokens.{TokenValue, IsLine, AreTokens}
+use Rattle.field_tokens.specs.Squeezed.{is_blank}
+
+-- the text is a line, and these are its tokens, by their octets
+pub record HasTokenValues (text : List ℕ) (tokens : List TokenValue) : Type 0 where
+  pub is_line : IsLine text
+  pub are_tokens : AreTokens Mail tokens text
+
+-- a gap or a comment, which may stand between any two tokens (RFC 5322, 3.2.2, CFWS)
+abbrev pub is_blank_token : TokenValue → Bool
+is_blank_token t = is_blank t.kind
+
+abbrev pub are_blank : List TokenValue → Bool
+are_blank tokens = list_all is_blank_token tokens
+
+-- the tokens but gaps and comments
+abbrev pub words_of : List TokenValue → List TokenValue
+words_of tokens = filter (λ t. not (is_blank_token t)) tokens
+
+abbrev pub is_special_kind : TokenKind → Bool
+is_special_kind Special = true
+is_special_kind Atom = false
+is_special_kind Quoted = false
+is_special_kind Literal = false
+is_special_kind Gap = false
+is_special_kind Comment = false
+
+-- the special of this octet
+abbrev pub is_mark : ℕ → TokenValue → Bool
+is_mark mark t = is_special_kind t.kind && bytes_eq t.octets (mark ∷ [])
+
+-- none of the tokens is that special
+abbrev pub lacks : ℕ → List TokenValue → Bool
+lacks mark tokens = list_all (λ t. not (is_mark mark t)) tokens
+
+-- what stands before the first special of this octet, and what stands behind it
+pub record SplitsAt (mark : ℕ) (tokens before after : List TokenValue) : Type 0 where
+  pub at : TokenValue
+  pub whole : tokens ≡ before ++ at ∷ after
+  pub is_at : is_mark mark at ≡ true
+  pub first : lacks mark before ≡ true
+
+abbrev pub is_atom_kind : TokenKind → Bool
+is_atom_kind Atom = true
+is_atom_kind Quoted = false
+is_atom_kind Literal = false
+is_atom_kind Special = false
+is_atom_kind Gap = false
+is_atom_kind Comment = false
+
+abbrev pub is_atom : TokenValue → Bool
+is_atom t = is_atom_kind t.kind
+
+-- an atom or a quoted string (RFC 5322, 3.2.5, word)
+abbrev pub is_word_kind : TokenKind → Bool
+is_word_kind Atom = true
+is_word_kind Quoted = true
+is_word_kind Literal = false
+is_word_kind Special = false
+is_word_kind Gap = false
+is_word_kind Comment = false
+
+abbrev pub is_word : TokenValue → Bool
+is_word t = is_word_kind t.kind
+
+-- what may stand between the dots of a domain, or where quoted strings are allowed of a local part
+abbrev pub is_part : Bool → TokenValue → Bool
+is_part true t = is_word t
+is_part false t = is_atom t
+
+abbrev pub is_literal_kind : TokenKind → Bool
+is_literal_kind Literal = true
+is_literal_kind Atom = false
+is_literal_kind Quoted = false
+is_literal_kind Special = false
+is_literal_kind Gap = false
+is_literal_kind Comment = false
+
+-- octets without the backslashes that quote what stands behind them (RFC 5322, 3.2.1), where one stands before them or
+-- does not
+abbrev pub unquoted : Bool → List ℕ → List ℕ
+unquoted is_quoted [] = []
+unquoted true (x ∷ octets) = x ∷ unquoted false octets
+unquoted false (x ∷ octets) = if x == 92 then unquoted true octets else x ∷ unquoted false octets
+
+-- what stands between the first octet and the last one
+abbrev pub inner_octets : List ℕ → List ℕ
+inner_octets octets = take (length octets - 2) (drop 1 octets)
+
+-- what a token says: a quoted string its content, gaps and comments nothing, and others their octets
+abbrev pub content_of : TokenKind → List ℕ → List ℕ
+content_of Quoted octets = unquoted false (inner_octets octets)
+content_of Gap octets = []
+content_of Comment octets = []
+content_of Atom octets = octets
+content_of Literal octets = octets
+content_of Special octets = octets
+
+abbrev pub content : TokenValue → List ℕ
+content t = content_of t.kind t.octets
+
+-- what tokens say, one behind another
+abbrev pub contents : List TokenValue → List ℕ
+contents tokens = flat_map content tokens
+
+-- one or more words that pass, with one dot between each two
+abbrev pub are_dotted : (TokenValue → Bool) → List TokenValue → Bool
+are_dotted p [] = false
+are_dotted p (word ∷ []) = p word
+are_dotted p (word ∷ dot ∷ words) = p word && (is_mark 46 dot && are_dotted p words)
+
+-- the first word passes, and rest stands behind it
+pub record BeginsSo (p : TokenValue → Bool) (tokens rest : List TokenValue) : Type 0 where
+  pub word : TokenValue
+  pub words : words_of tokens ≡ word ∷ words_of rest
+  pub passes : p word ≡ true
+
+-- the first word, if there is one, doesn't pass
+abbrev pub BeginsOther : (TokenValue → Bool) → List TokenValue → Type 0
+BeginsOther p tokens = (word : TokenValue) (words : List TokenValue) → words_of tokens ≡ word ∷ words → p word ≡ false

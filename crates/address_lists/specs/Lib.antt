@@ -1,0 +1,4 @@
+pub mod Lexemes
+pub mod Views
+pub mod Addresses
+pub mod Paths
