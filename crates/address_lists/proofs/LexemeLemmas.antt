@@ -123,3 +123,7 @@ cut_once m (h ∷ a) (k ∷ b) s t x y la lb is it e =
     let r = cut_once m a b s t x y (rest_lacks m h a la) (rest_lacks m k b lb) is it rest in
     let front : a ≡ b = r.front in
     record { front = cc; mark = r.mark; rest = r.rest }
+
+pub split_within : (mark : ℕ) (ls : List Lexeme) (i : ℕ) → position (λ l. is_mark mark (value_of l)) ls ≡ Some i → i < length ls
+split_within mark [] i e = cc e
+split_within mark (x ∷ xs) i e = (position_found (λ l. is_mark mark (value_of l)) (x ∷ xs) i x e).within

@@ -7,3 +7,10 @@ pub mod PathLemmas
 pub mod Utf8Lemmas
 pub mod SoundLemmas
 pub mod WritingLemmas
+pub mod PhraseReading
+pub mod WalkLemmas
+pub mod MailboxLemmas
+pub mod DividedLemmas
+pub mod ListLemmas
+pub mod ListSaying
+pub mod WholeLists

@@ -119,5 +119,5 @@ only_memory Malformed h = absurd (h refl)
 only_memory Memory h = refl
 
 -- an answer has one fault
-pub fault_is : (r : Result (Option Address) AddressFault) (f g : AddressFault) → r ≡ Err f → f ≡ g → r ≡ Err Malformed → g ≡ Malformed
+pub fault_is : {T : Type 0} (r : Result T AddressFault) (f g : AddressFault) → r ≡ Err f → f ≡ g → r ≡ Err Malformed → g ≡ Malformed
 fault_is r f g p q e = let same : f ≡ Malformed = cc (sym p ∙ e) in sym q ∙ same

@@ -2,3 +2,9 @@ pub mod Lexemes
 pub mod Views
 pub mod Addresses
 pub mod Paths
+pub mod Phrases
+pub mod AddressLists
+pub mod Walks
+pub mod ListViews
+pub mod PhraseSteps
+pub mod ListSteps

@@ -79,7 +79,7 @@ fn is_one_literal(lexemes: &[Lexeme<'_>]) -> bool
     matches!(word.kind, TokenKind::Literal) && first_word(after).is_none()
 }
 
-fn is_domain(lexemes: &[Lexeme<'_>]) -> bool
+pub fn is_domain(lexemes: &[Lexeme<'_>]) -> bool
     ensures { result ≡ is_domain_of (values_of lexemes.now) }
 {
     are_dotted(lexemes, false) || is_one_literal(lexemes)

@@ -1,12 +1,13 @@
 //! The tokens of a text, by their octets.
 ghost use Rattle.std.specs.Prelude.{◌≡◌, ◌<◌, ◌++◌, ◌∷◌, [], ℕ, true, not, false, Bool, List, length, position, IfOk, IfSome, IfNone, OnOk};
 ghost use Rattle.std.specs.List.{list_all};
-ghost use Rattle.field_tokens.specs.Tokens.{TokenValue};
-ghost use Rattle.address_lists.specs.Lexemes.{HasTokenValues, is_blank_token, words_of, are_blank as are_blank_of, is_mark as is_mark_of, lacks, is_atom as is_atom_of, is_word as is_word_of, unquoted, content, contents as contents_of, inner_octets as inner_octets_of, SplitsAt};
+ghost use Rattle.field_tokens.specs.Tokens.{TokenValue, HasTokens};
+ghost use Rattle.field_tokens.specs.declared.Style.TheVariants.{Mail};
+ghost use Rattle.address_lists.specs.Lexemes.{HasTokenValues, is_blank_token, words_of, are_blank as are_blank_of, is_mark as is_mark_of, lacks, is_atom as is_atom_of, is_word as is_word_of, unquoted, content as content_of, contents as contents_of, inner_octets as inner_octets_of, SplitsAt};
 ghost use Rattle.address_lists.specs.Views.{value_of, values_of};
 
 use crate::AddressFault;
-use field_tokens::{Style, TokenFault, TokenKind, tokens};
+use field_tokens::{Style, Token, TokenFault, TokenKind, tokens};
 use mail_wire::values::{Memory, Octets};
 use std::alloc::Global;
 
@@ -56,7 +57,7 @@ pub fn are_blank(lexemes: &[Lexeme<'_>]) -> bool
     all_blank(lexemes)
 }
 
-fn find_mark(lexemes: &[Lexeme<'_>], mark: u8) -> Option<usize>
+pub fn find_mark(lexemes: &[Lexeme<'_>], mark: u8) -> Option<usize>
     ensures { result ≡ position (λ l. is_mark_of mark (value_of l)) lexemes.now }
 {
     lexemes.iter().position(|lexeme| is_mark(*lexeme, mark))
@@ -86,6 +87,7 @@ pub fn split_at_mark<'a, 'b>(
     mark: u8,
 ) -> Option<(&'b [Lexeme<'a>], &'b [Lexeme<'a>])>
     ensures found { IfSome result (λ x. SplitsAt mark (values_of lexemes.now) (values_of x.0.now) (values_of x.1.now)) }
+    ensures shorter { IfSome result (λ x. length x.1.now < length lexemes.now) }
     ensures none { IfNone result (lacks mark (values_of lexemes.now) ≡ true) }
 {
     let Some(at) = find_mark(lexemes, mark) else {
@@ -94,30 +96,64 @@ pub fn split_at_mark<'a, 'b>(
     Some((&lexemes[..at], &lexemes[at + 1..]))
 }
 
-/// The tokens of a text.
+fn all_other(lexemes: &[Lexeme<'_>], mark: u8) -> bool
+    ensures { result ≡ list_all (λ l. not (is_mark_of mark (value_of l))) lexemes.now }
+{
+    lexemes.iter().all(|lexeme| !is_mark(*lexeme, mark))
+}
+
+/// Whether none of the tokens is the special of this octet.
+pub fn lacks_mark(lexemes: &[Lexeme<'_>], mark: u8) -> bool
+    ensures { result ≡ lacks mark (values_of lexemes.now) }
+{
+    all_other(lexemes, mark)
+}
+
+/// The tokens of a text, by their places.
+pub fn read_tokens(alloc: Global, text: &[u8]) -> Result<Vec<Token>, AddressFault>
+    ensures ok { IfOk result (λ tokens. HasTokens Mail text.now tokens.items) }
+    ensures malformed { result ≡ Err AddressFault.Malformed → (tokens : List TokenValue) → ¬ HasTokenValues text.now tokens }
+{
+    match tokens(alloc, Style::Mail, text) {
+        Ok(found) => Ok(found),
+        Err(TokenFault::Malformed) => Err(AddressFault::Malformed),
+        Err(TokenFault::Memory) => Err(AddressFault::Memory),
+    }
+}
+
+/// Tokens by their octets.
+pub fn lexemes_of<'a>(
+    alloc: Global,
+    text: &'a [u8],
+    tokens: &[Token],
+) -> Result<Vec<Lexeme<'a>>, Memory>
+    requires { HasTokens Mail text.now tokens.now }
+    ensures { IfOk result (λ lexemes. HasTokenValues text.now (values_of lexemes.items)) }
+{
+    let mut lexemes = Vec::new(alloc);
+    let mut left = tokens;
+    let mut rest = text;
+    while let Some((token, more)) = left.split_first() {
+        let (octets, after) = rest.split_at(token.span.len);
+        lexemes.push(Lexeme {
+            kind: token.kind,
+            octets,
+        })?;
+        left = more;
+        rest = after;
+    }
+    Ok(lexemes)
+}
+
+/// The tokens of a text, by their octets.
 pub fn read_lexemes<'a>(alloc: Global, text: &'a [u8]) -> Result<Vec<Lexeme<'a>>, AddressFault>
     ensures ok { IfOk result (λ lexemes. HasTokenValues text.now (values_of lexemes.items)) }
     ensures malformed { result ≡ Err AddressFault.Malformed → (tokens : List TokenValue) → ¬ HasTokenValues text.now tokens }
 {
-    let found = match tokens(alloc, Style::Mail, text) {
-        Ok(found) => found,
-        Err(TokenFault::Malformed) => return Err(AddressFault::Malformed),
-        Err(TokenFault::Memory) => return Err(AddressFault::Memory),
+    let found = read_tokens(alloc, text)?;
+    let Ok(lexemes) = lexemes_of(alloc, text, &found) else {
+        return Err(AddressFault::Memory);
     };
-    let mut lexemes = Vec::new(alloc);
-    let mut left = found.as_slice();
-    let mut rest = text;
-    while let Some((token, more)) = left.split_first() {
-        let (octets, after) = rest.split_at(token.span.len);
-        let Ok(()) = lexemes.push(Lexeme {
-            kind: token.kind,
-            octets,
-        }) else {
-            return Err(AddressFault::Memory);
-        };
-        left = more;
-        rest = after;
-    }
     Ok(lexemes)
 }
 
@@ -155,7 +191,7 @@ fn push_unquoted(made: &mut Octets, octets: &[u8]) -> Result<(), Memory>
 
 /// Puts what a token says last.
 fn push_content(made: &mut Octets, lexeme: Lexeme<'_>) -> Result<(), Memory>
-    ensures { OnOk result (made.new ≡ made.old ++ content (value_of lexeme.entry)) }
+    ensures { OnOk result (made.new ≡ made.old ++ content_of (value_of lexeme.entry)) }
 {
     match lexeme.kind {
         TokenKind::Quoted => push_unquoted(made, inner_octets(lexeme.octets)),
@@ -164,6 +200,15 @@ fn push_content(made: &mut Octets, lexeme: Lexeme<'_>) -> Result<(), Memory>
             made.push_slice(lexeme.octets)
         }
     }
+}
+
+/// What a token says.
+pub fn content(alloc: Global, lexeme: Lexeme<'_>) -> Result<Octets, Memory>
+    ensures { IfOk result (λ made. made ≡ content_of (value_of lexeme.entry)) }
+{
+    let mut made = Octets::new(alloc);
+    push_content(&mut made, lexeme)?;
+    Ok(made)
 }
 
 /// What tokens say, one behind another.

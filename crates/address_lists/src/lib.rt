@@ -4,18 +4,48 @@
 mod addresses;
 pub mod laws;
 mod lexemes;
+pub mod lists;
+mod mailboxes;
 pub mod paths;
+mod phrases;
+mod places;
+pub mod small_lists;
 #[cfg(test)]
 mod tests;
 
+use field_tokens::Comment;
+pub use lists::read_list;
 use mail_wire::values::Octets;
 pub use paths::{read_path, write_address};
+pub use small_lists::{Elements, Mailboxes, Units};
 
 /// An address: its local part without quoting, and its domain as it stands, each without gaps and comments.
 #[derive(Debug, Drop)]
 pub struct Address {
     pub local: Octets,
     pub domain: Octets,
+}
+
+/// An address, in angle brackets or not, and what the phrase before it says. There may be a phrase without any units.
+#[derive(Drop)]
+pub struct Mailbox {
+    pub phrase: bool,
+    pub display: Units,
+    pub angle: bool,
+    pub address: Address,
+}
+
+#[derive(Drop)]
+pub enum Element {
+    Mailbox(Mailbox),
+    Group { name: Units, members: Mailboxes },
+}
+
+/// The elements of a list, and all its comments in the order of their octets. The runs of comments are places in the text.
+#[derive(Drop)]
+pub struct AddressList {
+    pub elements: Elements,
+    pub comments: Vec<Comment>,
 }
 
 /// Why a text was not read.

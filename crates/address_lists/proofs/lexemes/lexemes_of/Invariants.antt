@@ -1,7 +1,7 @@
 use Rattle.std.proofs.Common.{length}
 use Rattle.address_lists.specs.Views.{values_of}
 use Rattle.address_lists.proofs.ContentLemmas.{Lexes}
-use Rattle.address_lists.proofs.lexemes.read_lexemes.Given as goal
+use Rattle.address_lists.proofs.lexemes.lexemes_of.Given as goal
 
 abbrev pub invariant-loop-token : goal.invariant-loop-token
 invariant-loop-token l = Lexes l.fn.text (values_of l.lexemes.items) l.left l.rest
