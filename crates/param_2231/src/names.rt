@@ -1,0 +1,167 @@
+//! The reader of names.
+ghost use Rattle.std.specs.Prelude.{◌≡◌, ◌≢◌, ◌↔◌, ℕ, Bool, true, List, [], ◌∷◌, ◌++◌, IsTrue, false, Option, position, ◌==◌, IfSome, IfNone};
+ghost use Rattle.std.specs.List.{list_all};
+ghost use Rattle.std.specs.Option.{option_copied};
+ghost use Rattle.encoded_words.specs.Parts.{lacks};
+ghost use Rattle.encoded_words.specs.Words.{language_suffix};
+ghost use Rattle.param_2231.specs.Names.{is_decimal_digit, leads_with_zero as leads_with_zero_of, IsNumber, NameParts, HasNameParts, HasSuffix, HasBehind, IsBase, star_suffix, parts_value};
+
+use mail_wire::text::is_ascii;
+
+/// A parameter's name by its parts.
+#[derive(Clone, Copy, Debug)]
+pub struct Name<'a> {
+    /// What the parameter is called.
+    pub base: &'a [u8],
+    /// The digits of its piece's number, where it is a piece.
+    pub number: Option<&'a [u8]>,
+    /// Whether the value has `%XX` for octets.
+    pub is_extended: bool,
+}
+
+/// The place of the first such byte.
+fn find_byte(octets: &[u8], byte: u8) -> Option<usize>
+    ensures { result ≡ position (λ x. x == byte) octets.now }
+{
+    octets.iter().position(|octet| *octet == byte)
+}
+
+/// What stands before the first such byte, and what stands behind it.
+pub(crate) fn split_at_byte(octets: &[u8], byte: u8) -> Option<(&[u8], &[u8])>
+    ensures found { IfSome result (λ x. (octets.now ≡ x.0.now ++ byte ∷ x.1.now) × (lacks byte x.0.now ≡ true)) }
+    ensures none { IfNone result (lacks byte octets.now ≡ true) }
+{
+    let Some(at) = find_byte(octets, byte) else {
+        return None;
+    };
+    Some((&octets[..at], &octets[at + 1..]))
+}
+
+/// What stands before the first star, and what stands behind it.
+fn cut_name(name: &[u8]) -> (&[u8], Option<&[u8]>)
+    ensures spelled { name.now ≡ result.0.now ++ language_suffix (option_copied result.1) }
+    ensures first { lacks 42 result.0.now ≡ true }
+{
+    match split_at_byte(name, b'*') {
+        Some((base, suffix)) => (base, Some(suffix)),
+        None => (name, None),
+    }
+}
+
+/// Whether each octet is a decimal digit.
+fn are_digits(octets: &[u8]) -> bool
+    ensures { result ≡ list_all is_decimal_digit octets.now }
+{
+    octets.iter().all(|octet| octet.is_ascii_digit())
+}
+
+/// Whether a zero stands before other digits.
+fn leads_with_zero(digits: &[u8]) -> bool
+    ensures { result ≡ leads_with_zero_of digits.now }
+{
+    matches!(digits, [b'0', _, ..])
+}
+
+/// Whether octets are the digits of a piece's number.
+fn is_number(octets: &[u8]) -> bool
+    ensures { IsTrue result ↔ IsNumber octets.now }
+{
+    !octets.is_empty() && are_digits(octets) && !leads_with_zero(octets)
+}
+
+/// What stands before a star at the end, and whether one stands there.
+fn cut_star(suffix: &[u8]) -> (&[u8], bool)
+    ensures spelled { suffix.now ≡ result.0.now ++ star_suffix result.1 }
+    ensures none { result.1 ≡ false → (front : List ℕ) → suffix.now ≢ front ++ 42 ∷ [] }
+{
+    match suffix {
+        [digits @ .., b'*'] => (digits, true),
+        _ => (suffix, false),
+    }
+}
+
+/// What stands behind a name's first star.
+fn read_suffix(suffix: &[u8]) -> Option<(Option<&[u8]>, bool)>
+    ensures found { IfSome result (λ x. HasSuffix suffix.now (option_copied x.0) x.1) }
+    ensures none { IfNone result ((number : Option (List ℕ)) (is_extended : Bool) → ¬ HasSuffix suffix.now number is_extended) }
+{
+    if suffix.is_empty() {
+        return Some((None, true));
+    }
+    let (digits, is_extended) = cut_star(suffix);
+    if !is_number(digits) {
+        return None;
+    }
+    Some((Some(digits), is_extended))
+}
+
+/// The number of a piece and the mark of extended values, as they stand behind a name's base.
+fn read_behind(behind: Option<&[u8]>) -> Option<(Option<&[u8]>, bool)>
+    ensures found { IfSome result (λ x. HasBehind (option_copied behind.entry) (option_copied x.0) x.1) }
+    ensures none { IfNone result ((number : Option (List ℕ)) (is_extended : Bool)
+        → ¬ HasBehind (option_copied behind.entry) number is_extended) }
+{
+    match behind {
+        Some(suffix) => read_suffix(suffix),
+        None => Some((None, false)),
+    }
+}
+
+/// Whether octets are what a parameter may be called.
+fn is_base(octets: &[u8]) -> bool
+    ensures { IsTrue result ↔ IsBase octets.now }
+{
+    !octets.is_empty() && octets.len() <= 60 && is_ascii(octets)
+}
+
+/// The parts of a name, and nothing exactly where it has none.
+pub fn read_name(name: &[u8]) -> Option<Name<'_>>
+    ensures found { IfSome result (λ p. HasNameParts name.now (parts_value p)) }
+    ensures none { IfNone result ((p : NameParts) → ¬ HasNameParts name.now p) }
+{
+    let (base, behind) = cut_name(name);
+    if !is_base(base) {
+        return None;
+    }
+    let Some((number, is_extended)) = read_behind(behind) else {
+        return None;
+    };
+    Some(Name {
+        base,
+        number,
+        is_extended,
+    })
+}
+
+#[cfg(test)]
+mod tests {
+    use super::*;
+    use std::test::Fail;
+
+    fn is_read(name: &[u8], base: &[u8], number: &[u8], is_extended: bool) -> bool {
+        match read_name(name) {
+            Some(parts) => {
+                parts.base == base
+                    && parts.number.unwrap_or(b"") == number
+                    && parts.is_extended == is_extended
+            }
+            None => false,
+        }
+    }
+
+    #[test]
+    fn names_are_read(rt: HostRuntime) -> Result<(), Fail> {
+        assert!(rt; is_read(b"a", b"a", b"", false));
+        assert!(rt; is_read(b"a*", b"a", b"", true));
+        assert!(rt; is_read(b"a*0", b"a", b"0", false));
+        assert!(rt; is_read(b"a*10*", b"a", b"10", true));
+        assert!(rt; read_name(b"*").is_none());
+        assert!(rt; read_name(b"a*01").is_none());
+        assert!(rt; read_name(b"a**").is_none());
+        assert!(rt; read_name(b"a*1*1").is_none());
+        assert!(rt;
+            read_name(b"aaaaaaaaaaaaaaaaaaaaaaaaaaaaaaaaaaaaaaaaaaaaaaaaaaaaaaaaaaaaa").is_none()
+        );
+        Ok(())
+    }
+}
