@@ -1,8 +1,8 @@
 -- The units of a comment's text are read word by word.
 use Rattle.std.proofs.Common.{◌≡◌, ◌==◌, ℕ, ◌<◌, ◌≤◌, ◌-◌, Bool, true, false, ◌&&◌, ◌||◌, cond, not, List, [], ◌∷◌, ◌++◌, length, map, take, drop, is_some, None, Result, Ok, Err, IfOk, refl, sym, ap, ◌∙◌, subst, arith}
-use Rattle.std.proofs.lemmas.Bool.{and_parts, and_from, true≢false}
 use Rattle.std.proofs.lemmas.List.{append_assoc, append-nil, length-append, map-append, nil_from_length, take_at, drop_at}
 use Rattle.std.proofs.lemmas.List.Concat.{flat_map-append}
+use Rattle.std.proofs.lemmas.List.Folds.{list_all-append}
 use Rattle.std.specs.List.{list_all, list_any, flat_map}
 use Rattle.encoded_words.specs.declared.Unit.{Unit}
 use Rattle.encoded_words.specs.declared.units.Merging.{Merging}
@@ -17,7 +17,7 @@ use Rattle.encoded_words.specs.CommentReading.{BeginsWith, BeginsItem, BeginsBla
 use Rattle.encoded_words.specs.Written.{has_no_backslash}
 use Rattle.encoded_words.proofs.CommentLemmas.{items_once}
 use Rattle.encoded_words.proofs.PlainItems.{plain_octets, plain_spelling, plain_items, plain_before, plain_no_backslash, plain_white, white_no_backslash}
-use Rattle.encoded_words.proofs.Reading.{then_text, merged-onto, and_false}
+use Rattle.encoded_words.proofs.Reading.{then_text, stops_both, merged-onto, and_false}
 
 abbrev spelling : List TextItem → List ℕ
 spelling items = flat_map item_spelling items
@@ -83,17 +83,11 @@ pub record ReadsBlack (text rest : List ℕ) : Type 0 where
 pub ReadsBlack-start : (text : List ℕ) → ReadsBlack text text
 ReadsBlack-start text = record { items = []; begins = BeginsWith-none text; black = refl }
 
-all_push : (items : List TextItem) (i : TextItem) → list_all (λ i. not (is_white_item i)) items ≡ true → not (is_white_item i) ≡ true → list_all (λ i. not (is_white_item i)) (items ++ i ∷ []) ≡ true
-all_push [] i all one = rw one refl
-all_push (x ∷ items) i all one =
-    let parts = and_parts (not (is_white_item x)) (list_all (λ i. not (is_white_item i)) items) all in
-    and_from (not (is_white_item x)) (list_all (λ i. not (is_white_item i)) (items ++ i ∷ [])) parts.0 (all_push items i parts.1 one)
-
 pub ReadsBlack-step : (text rest after : List ℕ) → ReadsBlack text rest → BeginsBlack rest after → ReadsBlack text after
 ReadsBlack-step text rest after reads next = record {
   items = reads.items ++ next.item ∷ [];
   begins = BeginsWith-more text rest after reads.items next.item reads.begins next.begins;
-  black = all_push reads.items next.item reads.black next.black;
+  black = list_all-append (λ i. not (is_white_item i)) reads.items (next.item ∷ []) ∙ rw (reads.black, next.black) refl;
 }
 
 pub ReadsBlack-bound : (text rest : List ℕ) → ReadsBlack text rest → length rest ≤ length text
@@ -201,11 +195,6 @@ ReadsComment-start text lead rest m span empty = record {
 pub no_sources : (units : List Unit) → map value_of units ≡ [] → HaveSources units
 no_sources [] e = tt
 no_sources (u ∷ units) e = cc e
-
--- octets that are neither white nor black at their front are none
-stops_both : (xs : List ℕ) → Stops is_white xs → Stops is_black xs → length xs ≡ 0
-stops_both [] w b = refl
-stops_both (x ∷ xs) w b = absurd (true≢false (sym (ap not w) ∙ b))
 
 word_some : (rest after : List ℕ) (items : List TextItem) → Stops is_white rest → 0 < length rest → rest ≡ spelling items ++ after → Stops is_black after → 0 < length items
 word_some rest after [] stops some whole black =

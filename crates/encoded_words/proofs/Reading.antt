@@ -75,7 +75,7 @@ Reads-start text lead rest m span empty = record {
 }
 
 -- octets that are neither white nor black at their front are none
-stops_both : (xs : List ℕ) → Stops is_white xs → Stops is_black xs → length xs ≡ 0
+pub stops_both : (xs : List ℕ) → Stops is_white xs → Stops is_black xs → length xs ≡ 0
 stops_both [] w b = refl
 stops_both (x ∷ xs) w b = absurd (true≢false (sym (ap not w) ∙ b))
 
