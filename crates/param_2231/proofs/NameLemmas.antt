@@ -70,3 +70,39 @@ not-HasNameParts-base name base behind cut first none p has = none (subst IsBase
 pub not-HasNameParts-behind : (name base : List ℕ) (behind : Option (List ℕ)) → name ≡ base ++ language_suffix behind → lacks 42 base ≡ true
     → ((number : Option (List ℕ)) (f : Bool) → HasBehind behind number f → ⊥) → (p : NameParts) → HasNameParts name p → ⊥
 not-HasNameParts-behind name base behind cut first none p has = none p.number p.is_extended (parts_cut name base behind p cut first has).1
+
+-- a name has one list of parts
+digits_same : (digits others : List ℕ) (e f : Bool) → IsNumber digits → IsNumber others → digits ++ star_suffix e ≡ others ++ star_suffix f → (digits ≡ others) × (e ≡ f)
+digits_same ds os true true p q e = (append_cancel_right ds os (42 ∷ []) e, refl)
+digits_same ds os true false p q e = absurd (not_lacking 42 ds [] (subst (λ xs. lacks 42 xs ≡ true) (sym (append-nil os) ∙ sym e) (digits_lack os q.decimal)))
+digits_same ds os false true p q e = absurd (not_lacking 42 os [] (subst (λ xs. lacks 42 xs ≡ true) (sym (append-nil ds) ∙ e) (digits_lack ds p.decimal)))
+digits_same ds os false false p q e = (sym (append-nil ds) ∙ e ∙ append-nil os, refl)
+
+no_digits : (digits : List ℕ) (f : Bool) → IsNumber digits → [] ≡ digits ++ star_suffix f → ⊥
+no_digits [] f is e = omega (arith, is.some)
+no_digits (d ∷ ds) f is e = cc e
+
+HasSuffix-once : (suffix : List ℕ) (m n : Option (List ℕ)) (e f : Bool) → HasSuffix suffix m e → HasSuffix suffix n f → (m ≡ n) × (e ≡ f)
+HasSuffix-once suffix None None e f p q = (refl, p.1 ∙ sym q.1)
+HasSuffix-once suffix None (Some ds) e f p q = absurd (no_digits ds f q.1 (sym p.0 ∙ q.0))
+HasSuffix-once suffix (Some ds) None e f p q = absurd (no_digits ds e p.1 (sym q.0 ∙ p.0))
+HasSuffix-once suffix (Some ds) (Some os) e f p q =
+    let once = digits_same ds os e f p.1 q.1 (sym p.0 ∙ q.0) in
+    (ap (λ d. Some d) once.0, once.1)
+
+HasBehind-once : (behind m n : Option (List ℕ)) (e f : Bool) → HasBehind behind m e → HasBehind behind n f → (m ≡ n) × (e ≡ f)
+HasBehind-once None m n e f p q = (p.0 ∙ sym q.0, p.1 ∙ sym q.1)
+HasBehind-once (Some suffix) m n e f p q = HasSuffix-once suffix m n e f p q
+
+abbrev parts : List ℕ → Option (List ℕ) → Bool → NameParts
+parts base number f = record { base = base; number = number; is_extended = f }
+
+made : (a b : List ℕ) (m n : Option (List ℕ)) (e f : Bool) → a ≡ b → m ≡ n → e ≡ f → parts a m e ≡ parts b n f
+made a b m n e f p q r = cc
+
+pub HasNameParts-once : (name : List ℕ) (p q : NameParts) → HasNameParts name p → HasNameParts name q → p ≡ q
+HasNameParts-once name p q hp hq =
+    let b = behind_name q.number q.is_extended hq.number in
+    let cut = parts_cut name q.base b.0 p (hq.spelled ∙ ap (λ s. q.base ++ s) b.2) hq.first hp in
+    let once = HasBehind-once b.0 p.number q.number p.is_extended q.is_extended cut.1 b.1 in
+    made p.base q.base p.number q.number p.is_extended q.is_extended cut.0 once.0 once.1

@@ -1,3 +1,5 @@
 pub mod Escapes
 pub mod Names
 pub mod Extended
+pub mod Bodies
+pub mod Joining
