@@ -164,22 +164,29 @@ no_words text some are = by are.chunks are.spelled (are.whole ∙ append-nil (co
     by [] e whole = omega (arith, ap length whole)
     by (c ∷ cs) e whole = cc e
 
-body_says : (value : List ℕ) (words : List (List ℕ)) → IsUtf8 value → 0 < length value → AreBWords value words → AllByRecursion IsWord words
-    → (text : List ℕ) × IsTrimmed is_white (unfolded (made_body (word_pieces 32 words))) text × HasUnits text (Text value ∷ [])
+-- the body says the text
+pub record BodySays (value : List ℕ) (words : List (List ℕ)) : Type 0 where
+  pub trimmed : IsTrimmed is_white (unfolded (made_body (word_pieces 32 words))) (join_with_byte 32 words)
+  pub says : HasUnits (join_with_byte 32 words) (Text value ∷ [])
+
+body_says : (value : List ℕ) (words : List (List ℕ)) → IsUtf8 value → 0 < length value → AreBWords value words → AllByRecursion IsWord words → BodySays value words
 body_says value [] u some are of = absurd (no_words value some are)
 body_says value (w ∷ ws) u some are of =
-    let writes : WriteAll (Text value ∷ []) (w ∷ ws) = (w ∷ ws, [], sym (append-nil (w ∷ ws)), (u, are), refl) in
-    (join_with_byte 32 (w ∷ ws), IsTrimmed-body w ws of.0 of.1, HasUnits-written (Text value ∷ []) (w ∷ ws) (text_stays value some) writes)
+    let writes : WriteAll (Text value ∷ []) (w ∷ ws) = (w ∷ ws, [], sym (append-nil (w ∷ ws)), are, refl) in
+    record { trimmed = IsTrimmed-body w ws of.0 of.1; says = HasUnits-written (Text value ∷ []) (w ∷ ws) (text_stays value some) (u, tt) writes }
+
+pub words_say : (value : List ℕ) (words : List (List ℕ)) → IsUtf8 value → 0 < length value → AreBWords value words → BodySays value words
+words_say value words u some are = body_says value words u some are (b_words_are_words value words u are)
 
 pub FieldSays-encapsulated : (name value field : List ℕ) → IsUtf8 value → 0 < length value → Encapsulates name value field → FieldSays (downgraded_name name) field (Text value ∷ [])
 FieldSays-encapsulated name value field u some is =
-    let says = body_says value is.words u some is.are_words (b_words_are_words value is.words u is.are_words) in
+    let says = words_say value is.words u some is.are_words in
     record {
       body = made_body (word_pieces 32 is.words);
-      text = says.0;
+      text = join_with_byte 32 is.words;
       spelled = is.spelled;
-      text_is = says.1;
-      says = says.2;
+      text_is = says.trimmed;
+      says = says.says;
     }
 
 -- The field is ASCII.

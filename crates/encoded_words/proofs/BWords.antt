@@ -1,5 +1,5 @@
 -- B words read back.
-use Rattle.std.proofs.Common.{◌≡◌, ℕ, ◌+◌, ◌<◌, ◌≤◌, true, List, [], ◌∷◌, ◌++◌, length, map, codes, None, refl, ◌∙◌, arith, inl, inr, replicate, ltb, get_or}
+use Rattle.std.proofs.Common.{◌≡◌, ℕ, ◌+◌, ◌<◌, ◌≤◌, Bool, true, List, [], ◌∷◌, ◌++◌, length, map, codes, None, refl, ◌∙◌, arith, inl, inr, replicate, ltb, get_or}
 use Rattle.std.proofs.lemmas.List.{append-nil, length-append, length-replicate, take_at, drop_at, get_or_past}
 use Rattle.std.proofs.lemmas.Bool.{and_parts, and_from, cases_lt, ltb-true}
 use Rattle.std.proofs.lemmas.Bool.Decides.{nat_tests}
@@ -15,7 +15,7 @@ use Rattle.base64.proofs.RoundTrip.{length-encode_symbols}
 use Rattle.encoded_words.specs.Words.{WordParts, IsEncodedWord, Text, unit_of, word_of, is_text_octet}
 use Rattle.mail_wire.specs.Octets.{is_black}
 use Rattle.encoded_words.specs.Pieces.{b_word, IsChunk, AreChunks, AreShort}
-use Rattle.encoded_words.proofs.Octets.{is_byte, bytes-IsUtf8, IsBytes-from_all, encoded_passes, all_append}
+use Rattle.encoded_words.proofs.Octets.{is_byte, bytes-IsUtf8, IsBytes-from_all, encoded_hold, encoded_passes, all_append}
 
 abbrev b_parts : List ℕ → WordParts
 b_parts chunk = record { charset = codes "UTF-8"; language = None; letter = 66; text = encode_of standard chunk }
@@ -37,9 +37,9 @@ size_fits n h = omega arith
 size_some : (n : ℕ) → 0 < n → 0 < unpadded_len n + padding_len n
 size_some n h = omega arith
 
-unit_is : (chunk : List ℕ) → IsUtf8 chunk → Text chunk ≡ unit_of (codes "UTF-8") chunk
+unit_is : (chunk word : List ℕ) → IsUtf8 chunk → Text chunk ≡ unit_of (codes "UTF-8") chunk word
 unfolding unit_of
-unit_is chunk u = rw (is_utf8-from_IsUtf8 chunk u) refl
+unit_is chunk word u = rw (is_utf8-from_IsUtf8 chunk u) refl
 
 -- a B word says its chunk
 pub b_word-says : (chunk : List ℕ) → IsUtf8 chunk → 0 < length chunk → length chunk ≤ 45 → IsEncodedWord (b_word chunk) (Text chunk)
@@ -59,8 +59,22 @@ b_word-says chunk u some fits =
         short = rw (b_word_is chunk) (omega (arith, length-append (encode_of standard chunk) (63 ∷ 61 ∷ [])));
       };
       spells = inl (refl, (IsBytes-from_all chunk bytes, refl));
-      says = unit_is chunk u;
+      says = unit_is chunk (b_word chunk) u;
     }
+
+-- what holds of each octet that a B word may have
+pub record HoldsInBWords (p : ℕ → Bool) : Type 0 where
+  pub symbols : list_all p (engine_symbols standard) ≡ true
+  pub marks : list_all p (codes "=?UTF-8?B?") ≡ true
+
+pub b_word-all : (p : ℕ → Bool) → HoldsInBWords p → (chunk : List ℕ) → IsUtf8 chunk → list_all p (b_word chunk) ≡ true
+unfolding b_word
+b_word-all p holds chunk u =
+    let first = and_parts (p 61) (list_all p (codes "?UTF-8?B?")) holds.marks in
+    let second = and_parts (p 63) (list_all p (codes "UTF-8?B?")) first.1 in
+    let ending : list_all p (codes "?=") ≡ true = and_from (p 63) (list_all p (codes "=")) second.0 (and_from (p 61) true first.0 refl) in
+    all_append p (codes "=?UTF-8?B?") (encode_of standard chunk ++ codes "?=") holds.marks
+    (all_append p (encode_of standard chunk) (codes "?=") (encoded_hold p holds.symbols first.0 chunk (bytes-IsUtf8 chunk u)) ending)
 
 -- what is visible is not white
 pub visible_black : (b : ℕ) → is_text_octet b ≡ true → is_black b ≡ true

@@ -4,14 +4,12 @@ use Rattle.std.proofs.lemmas.List.{append_assoc, append-nil, length-append, map-
 use Rattle.std.proofs.lemmas.List.Concat.{flat_map-append}
 use Rattle.std.proofs.lemmas.List.Folds.{list_all-append}
 use Rattle.std.specs.List.{list_all, list_any, flat_map}
-use Rattle.encoded_words.specs.declared.Unit.{Unit}
 use Rattle.encoded_words.specs.declared.units.Merging.{Merging}
 use Rattle.mail_wire.specs.Octets.{is_white, is_black}
 use Rattle.mail_wire.specs.Spans.{Stops, IsSpan}
 use Rattle.encoded_words.specs.Words.{UnitValue, Text, SaysWhere}
 use Rattle.encoded_words.specs.Units.{raw_units, merged, with_text, word_unit, begins_encoded, run_text}
 use Rattle.encoded_words.specs.CommentUnits.{TextItem, Plain, Pair, AreTextItems, item_spelling, item_octet, has_backslash, is_white_item, CommentWord, IsCommentWord, word_items, ItemsDivide, AreCommentWords, comment_place, comment_places, HasCommentUnits}
-use Rattle.encoded_words.specs.Values.{value_of, HaveSources}
 use Rattle.encoded_words.specs.Merging.{IsMerging, TakesWord, done_values, units_then, onto}
 use Rattle.encoded_words.specs.CommentReading.{BeginsWith, BeginsItem, BeginsBlack, SplitsWord, GivesOctets, TakesCommentWord}
 use Rattle.encoded_words.specs.Written.{has_no_backslash}
@@ -191,10 +189,6 @@ ReadsComment-start text lead rest m span empty = record {
     says = rw (empty.done_is, empty.text_is) (behind_first ws);
   };
 }
-
-pub no_sources : (units : List Unit) → map value_of units ≡ [] → HaveSources units
-no_sources [] e = tt
-no_sources (u ∷ units) e = cc e
 
 word_some : (rest after : List ℕ) (items : List TextItem) → Stops is_white rest → 0 < length rest → rest ≡ spelling items ++ after → Stops is_black after → 0 < length items
 word_some rest after [] stops some whole black =

@@ -244,7 +244,7 @@ pub decide_says : (word : List ℕ) → (says : Option UnitValue) × Says word s
 decide_says word = elim (decide_parts word) [
   | inr none ↦ (None, λ u is. none is.parts is.has_parts)
   | inl parts ↦ elim (decide_text parts.0.letter parts.0.text) [
-    | inl found ↦ (Some (unit_of parts.0.charset found.0), record { parts = parts.0; octets = found.0; has_parts = parts.1; spells = found.1; says = refl })
+    | inl found ↦ (Some (unit_of parts.0.charset found.0 word), record { parts = parts.0; octets = found.0; has_parts = parts.1; spells = found.1; says = refl })
     | inr none ↦ (None, λ u is. none is.octets (subst (λ (p : WordParts). IsTextOf p.letter p.text is.octets) (HasParts-once word is.parts parts.0 is.has_parts parts.1) is.spells))
   ]
 ]

@@ -16,4 +16,7 @@ pub mod CommentReading
 pub mod WrittenUnits
 pub mod Deciding
 pub mod AllUnits
-pub mod Utf8Units
+pub mod WritableUnits
+pub mod AddedUnits
+pub mod PhraseSources
+pub mod WrittenPieces

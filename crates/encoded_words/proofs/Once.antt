@@ -37,7 +37,7 @@ IsEncodedWord-once word u v p q =
     let same : p.parts ≡ q.parts = HasParts-once word p.parts q.parts p.has_parts q.has_parts in
     let spells = subst (λ (w : WordParts). IsTextOf w.letter w.text p.octets) same p.spells in
     let octets : p.octets ≡ q.octets = text_once q.parts.letter q.parts.text p.octets q.octets spells q.spells in
-    p.says ∙ ap (λ (w : WordParts). unit_of w.charset p.octets) same ∙ ap (unit_of q.parts.charset) octets ∙ sym q.says
+    p.says ∙ ap (λ (w : WordParts). unit_of w.charset p.octets word) same ∙ ap (λ o. unit_of q.parts.charset o word) octets ∙ sym q.says
 
 pub says_once : (word : List ℕ) (a b : Option UnitValue) → Says word a → Says word b → a ≡ b
 says_once word None None p q = refl

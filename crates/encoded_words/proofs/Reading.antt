@@ -11,13 +11,13 @@ use Rattle.mail_wire.specs.Spans.{Stops, IsSpan}
 use Rattle.encoded_words.specs.Merging.{IsMerging, Adds, TakesWord, done_values, units_then, onto}
 use Rattle.encoded_words.proofs.WithText.{with_text-append}
 
-with_text-opaque : (bs charset octets : List ℕ) (us : List UnitValue) → with_text bs (Opaque charset octets ∷ us) ≡ with_text bs [] ++ Opaque charset octets ∷ us
-with_text-opaque [] charset octets us = refl
-with_text-opaque (b ∷ bs) charset octets us = refl
+with_text-opaque : (bs charset octets source : List ℕ) (us : List UnitValue) → with_text bs (Opaque charset octets source ∷ us) ≡ with_text bs [] ++ Opaque charset octets source ∷ us
+with_text-opaque [] charset octets source us = refl
+with_text-opaque (b ∷ bs) charset octets source us = refl
 
 pub merged-onto : (u : UnitValue) (us : List UnitValue) → merged (u ∷ us) ≡ onto u (merged us)
 merged-onto (Text octets) us = refl
-merged-onto (Opaque charset octets) us = refl
+merged-onto (Opaque charset octets source) us = refl
 
 -- what a push of text means, whatever follows
 pub then_text : (old new : Merging) (text : List ℕ) (us : List UnitValue) → IsMerging new (done_values old) (old.text.items ++ text) → units_then new us ≡ units_then old (with_text text us)
@@ -25,9 +25,9 @@ then_text old new text us is = rw (is.done_is, is.text_is, ← with_text-append 
 
 then_unit : (old new : Merging) (u : UnitValue) (us : List UnitValue) → Adds old new u → units_then new us ≡ units_then old (onto u us)
 then_unit old new (Text octets) us is = then_text old new octets us is
-then_unit old new (Opaque charset octets) us is =
-    rw (is.done_is, is.text_is, with_text-opaque old.text.items charset octets us)
-    (append_assoc (done_values old ++ with_text old.text.items []) (Opaque charset octets ∷ []) us ∙ append_assoc (done_values old) (with_text old.text.items []) (Opaque charset octets ∷ us))
+then_unit old new (Opaque charset octets source) us is =
+    rw (is.done_is, is.text_is, with_text-opaque old.text.items charset octets source us)
+    (append_assoc (done_values old ++ with_text old.text.items []) (Opaque charset octets source ∷ []) us ∙ append_assoc (done_values old) (with_text old.text.items []) (Opaque charset octets source ∷ us))
 
 pub and_true : (b : Bool) → (b && true) ≡ b
 and_true true = refl

@@ -10,7 +10,7 @@ use Rattle.encoded_words.specs.Units.{Place, ArePlaces, Divides, HasUnits, place
 use Rattle.encoded_words.specs.CommentUnits.{Plain, is_white_item, CommentWord, word_items, ItemsDivide, AreCommentWords, comment_places, HasCommentUnits}
 use Rattle.encoded_words.specs.PhraseUnits.{has_word, separated, phrase_words, ArePhrasePlaces, HasPhraseUnits}
 use Rattle.encoded_words.specs.Pieces.{b_word, IsChunk, AreChunks, AreBWords, AreFirstBWords, AddsBWords, ReadBack, AreShort}
-use Rattle.encoded_words.specs.Written.{WriteAll, AreUnits, has_no_backslash}
+use Rattle.encoded_words.specs.Written.{WriteAll, AreUnits, AreWritable, has_no_backslash}
 use Rattle.encoded_words.proofs.BWords.{b_word-says, chunk_utf8, AreShort-b_words}
 use Rattle.encoded_words.proofs.PlainItems.{plain_octets, plain_spelling, plain_items, plain_no_backslash, no_backslash_parts}
 use Rattle.encoded_words.proofs.EncodedOctets.{encoded_black, encoded_some}
@@ -43,18 +43,18 @@ spoken_text (c ∷ cs) more us are u s =
       same = ap (with_text c) rest.same ∙ with_text-append c (concat cs) (merged us);
     }
 
-spoken : (us : List UnitValue) (pieces : List (List ℕ)) → WriteAll us pieces → Spoken pieces us
-spoken [] pieces writes = rw writes (record { says = []; say = tt; same = refl })
-spoken (Text octets ∷ us) pieces writes =
-    let are : AreBWords octets writes.0 = writes.3.1 in
+spoken : (us : List UnitValue) (pieces : List (List ℕ)) → AreWritable us → WriteAll us pieces → Spoken pieces us
+spoken [] pieces can writes = rw writes (record { says = []; say = tt; same = refl })
+spoken (Text octets ∷ us) pieces can writes =
+    let are : AreBWords octets writes.0 = writes.3 in
     let whole : octets ≡ concat are.chunks = are.whole ∙ append-nil (concat are.chunks) in
-    rw (writes.2, are.spelled, whole) (spoken_text are.chunks writes.1 us are.are_chunks (subst IsUtf8 whole writes.3.0) (spoken us writes.1 writes.4))
-spoken (Opaque charset octets ∷ us) pieces writes =
-    let s = spoken us writes.1 writes.4 in
-    rw (writes.2, writes.3.2) (record {
-      says = Opaque charset octets ∷ s.says;
-      say = (writes.3.1, s.say);
-      same = ap (λ vs. Opaque charset octets ∷ vs) s.same;
+    rw (writes.2, are.spelled, whole) (spoken_text are.chunks writes.1 us are.are_chunks (subst IsUtf8 whole can.0) (spoken us writes.1 can.1 writes.4))
+spoken (Opaque charset octets source ∷ us) pieces can writes =
+    let s = spoken us writes.1 can.1 writes.4 in
+    rw (writes.2, writes.3) (record {
+      says = Opaque charset octets source ∷ s.says;
+      say = (can.0, s.say);
+      same = ap (λ vs. Opaque charset octets source ∷ vs) s.same;
     })
 
 -- Encoded words with a space between two, as an unstructured text.
@@ -109,9 +109,9 @@ merged-places_of (w ∷ ws) (u ∷ us) say =
       merged-places_of ws us say.1,
     ) (sym (merged-onto u us))
 
-HasUnits-merged : (us : List UnitValue) (pieces : List (List ℕ)) → WriteAll us pieces → HasUnits (join_with_byte 32 pieces) (merged us)
-HasUnits-merged us pieces writes =
-    let s = spoken us pieces writes in
+HasUnits-merged : (us : List UnitValue) (pieces : List (List ℕ)) → AreWritable us → WriteAll us pieces → HasUnits (join_with_byte 32 pieces) (merged us)
+HasUnits-merged us pieces can writes =
+    let s = spoken us pieces can writes in
     record {
       lead = [];
       places = places_of pieces s.says;
@@ -121,8 +121,8 @@ HasUnits-merged us pieces writes =
       says = sym s.same ∙ sym (merged-places_of pieces s.says s.say);
     }
 
-pub HasUnits-written : (us : List UnitValue) (pieces : List (List ℕ)) → AreUnits us → WriteAll us pieces → HasUnits (join_with_byte 32 pieces) us
-HasUnits-written us pieces are writes = subst (HasUnits (join_with_byte 32 pieces)) are (HasUnits-merged us pieces writes)
+pub HasUnits-written : (us : List UnitValue) (pieces : List (List ℕ)) → AreUnits us → AreWritable us → WriteAll us pieces → HasUnits (join_with_byte 32 pieces) us
+HasUnits-written us pieces are can writes = subst (HasUnits (join_with_byte 32 pieces)) are (HasUnits-merged us pieces can writes)
 
 -- ... as the text of a comment.
 plain_black : (xs : List ℕ) → list_all (λ x. not (is_white x)) xs ≡ true → list_all (λ i. not (is_white_item i)) (map Plain xs) ≡ true
@@ -183,10 +183,10 @@ comment-places_of (w ∷ []) (u ∷ us) say = rw (plain_octets w) refl
 comment-places_of (w ∷ v ∷ ws) (u ∷ []) say = absurd say.1
 comment-places_of (w ∷ v ∷ ws) (u ∷ x ∷ us) say = rw (plain_octets w, comment-places_of (v ∷ ws) (x ∷ us) say.1) refl
 
-pub HasCommentUnits-written : (us : List UnitValue) (pieces : List (List ℕ)) → AreUnits us → WriteAll us pieces → has_no_backslash (join_with_byte 32 pieces) ≡ true
+pub HasCommentUnits-written : (us : List UnitValue) (pieces : List (List ℕ)) → AreUnits us → AreWritable us → WriteAll us pieces → has_no_backslash (join_with_byte 32 pieces) ≡ true
     → HasCommentUnits (join_with_byte 32 pieces) us
-HasCommentUnits-written us pieces are writes none =
-    let s = spoken us pieces writes in
+HasCommentUnits-written us pieces are can writes none =
+    let s = spoken us pieces can writes in
     let text : List ℕ = join_with_byte 32 pieces in
     let items = items-words_of pieces s.says s.say in
     record {
@@ -210,9 +210,9 @@ ArePhrasePlaces-of (w ∷ ws) [] say = absurd say
 ArePhrasePlaces-of (w ∷ []) (u ∷ us) say = (record { word = refl; says = say.0; run = refl }, tt)
 ArePhrasePlaces-of (w ∷ v ∷ ws) (u ∷ us) say = (record { word = refl; says = say.0; run = rw (separated_word v ws) refl }, ArePhrasePlaces-of (v ∷ ws) us say.1)
 
-pub HasPhraseUnits-written : (us : List UnitValue) (pieces : List (List ℕ)) → AreUnits us → WriteAll us pieces → HasPhraseUnits (separated pieces) us
-HasPhraseUnits-written us pieces are writes =
-    let s = spoken us pieces writes in
+pub HasPhraseUnits-written : (us : List UnitValue) (pieces : List (List ℕ)) → AreUnits us → AreWritable us → WriteAll us pieces → HasPhraseUnits (separated pieces) us
+HasPhraseUnits-written us pieces are can writes =
+    let s = spoken us pieces can writes in
     record {
       places = places_of pieces s.says;
       are_places = ArePhrasePlaces-of pieces s.says s.say;
@@ -226,8 +226,8 @@ ReadBack-added text rest old new words u adds end new_is =
     let nil : rest ≡ [] = nil_from_length rest end in
     let are : AreBWords text words = subst (λ ws. AreFirstBWords text ws []) same (subst (AreFirstBWords text adds.words) nil adds.are_words) in
     let whole : text ≡ concat are.chunks = are.whole ∙ append-nil (concat are.chunks) in
-    let writes : WriteAll (Text text ∷ []) words = (words, [], sym (append-nil words), (u, are), refl) in
+    let writes : WriteAll (Text text ∷ []) words = (words, [], sym (append-nil words), are, refl) in
     record {
       short = subst AreShort (sym are.spelled) (AreShort-b_words are.chunks are.are_chunks (subst IsUtf8 whole u));
-      units = HasUnits-merged (Text text ∷ []) words writes;
+      units = HasUnits-merged (Text text ∷ []) words (u, tt) writes;
     }

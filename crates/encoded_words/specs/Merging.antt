@@ -16,7 +16,7 @@ pub record IsMerging (m : Merging) (done : List UnitValue) (text : List ℕ) : T
 -- what a unit makes of those before it
 abbrev pub Adds : Merging → Merging → UnitValue → Type 0
 Adds old new (Text octets) = IsMerging new (done_values old) (old.text.items ++ octets)
-Adds old new (Opaque charset octets) = IsMerging new (done_values old ++ with_text old.text.items [] ++ Opaque charset octets ∷ []) []
+Adds old new (Opaque charset octets source) = IsMerging new (done_values old ++ with_text old.text.items [] ++ Opaque charset octets source ∷ []) []
 
 -- all units, where these follow
 abbrev pub units_then : Merging → List UnitValue → List UnitValue
@@ -25,7 +25,7 @@ units_then m us = done_values m ++ with_text m.text.items us
 -- a unit before units
 abbrev pub onto : UnitValue → List UnitValue → List UnitValue
 onto (Text octets) us = with_text octets us
-onto (Opaque charset octets) us = Opaque charset octets ∷ us
+onto (Opaque charset octets source) us = Opaque charset octets source ∷ us
 
 -- a word was taken, and the run before it: it is an encoded word or not
 pub record TakesWord (old new : Merging) (run : List ℕ) (after_encoded : Bool) (word : List ℕ) (encoded : Bool) : Type 0 where

@@ -52,12 +52,12 @@ abbrev pub with_text : List ℕ → List UnitValue → List UnitValue
 with_text [] us = us
 with_text (b ∷ bs) [] = Text (b ∷ bs) ∷ []
 with_text (b ∷ bs) (Text more ∷ us) = Text ((b ∷ bs) ++ more) ∷ us
-with_text (b ∷ bs) (Opaque charset octets ∷ us) = Text (b ∷ bs) ∷ Opaque charset octets ∷ us
+with_text (b ∷ bs) (Opaque charset octets source ∷ us) = Text (b ∷ bs) ∷ Opaque charset octets source ∷ us
 
 abbrev pub merged : List UnitValue → List UnitValue
 merged [] = []
 merged (Text bs ∷ us) = with_text bs (merged us)
-merged (Opaque charset octets ∷ us) = Opaque charset octets ∷ merged us
+merged (Opaque charset octets source ∷ us) = Opaque charset octets source ∷ merged us
 
 -- the text is a run of white, maybe empty, and places, and these are the units of all of it
 pub record HasUnits (text : List ℕ) (units : List UnitValue) : Type 0 where

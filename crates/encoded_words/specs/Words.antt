@@ -91,19 +91,19 @@ pub record HasParts (word : List ℕ) (p : WordParts) : Type 0 where
   pub text : IsWordText p.text
   pub short : length word ≤ 75
 
--- what a unit says: a text, or octets of a charset that is not read
+-- what a unit says: a text, or octets of a charset that is not read, with the encoded word that they come from
 pub data UnitValue : Type 0 where
   Text : List ℕ → UnitValue
-  Opaque : List ℕ → List ℕ → UnitValue
+  Opaque : List ℕ → List ℕ → List ℕ → UnitValue
 
 -- the charset, in any case, names these octets as text
 abbrev pub gives_text : List ℕ → List ℕ → Bool
 gives_text name octets = (bytes_eq name (codes "utf-8") && is_utf8 octets)
     || (bytes_eq name (codes "us-ascii") && list_all (λ b. nat_lt b 128) octets)
 
-unfoldable pub unit_of : List ℕ → List ℕ → UnitValue
-unit_of charset octets = let name = str_to_ascii_lowercase charset in
-    if gives_text name octets then Text octets else Opaque name octets
+unfoldable pub unit_of : List ℕ → List ℕ → List ℕ → UnitValue
+unit_of charset octets word = let name = str_to_ascii_lowercase charset in
+    if gives_text name octets then Text octets else Opaque name octets word
 
 -- the octets are an encoded word, and this is what it says
 pub record IsEncodedWord (word : List ℕ) (unit : UnitValue) : Type 0 where
@@ -111,7 +111,7 @@ pub record IsEncodedWord (word : List ℕ) (unit : UnitValue) : Type 0 where
   pub octets : List ℕ
   pub has_parts : HasParts word parts
   pub spells : IsTextOf parts.letter parts.text octets
-  pub says : unit ≡ unit_of parts.charset octets
+  pub says : unit ≡ unit_of parts.charset octets word
 
 -- what a word says as an encoded word, or nothing where it is none
 abbrev pub Says : List ℕ → Option UnitValue → Type 0

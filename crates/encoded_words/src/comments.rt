@@ -2,7 +2,7 @@
 ghost use Rattle.std.specs.Prelude.{◌≡◌, [], map, IfOk, OnOk, IfSome, IfNone};
 ghost use Rattle.mail_wire.specs.Octets.{is_black};
 ghost use Rattle.mail_wire.specs.Spans.{Stops};
-ghost use Rattle.encoded_words.specs.Values.{value_of, HaveSources};
+ghost use Rattle.encoded_words.specs.Values.{value_of};
 ghost use Rattle.encoded_words.specs.CommentUnits.{HasCommentUnits};
 ghost use Rattle.encoded_words.specs.CommentReading.{BeginsItem, BeginsBlack, SplitsWord, GivesOctets, TakesCommentWord};
 ghost use Rattle.encoded_words.specs.Written.{has_no_backslash as has_no_backslash_of};
@@ -86,8 +86,7 @@ fn push_word(
     after_encoded: bool,
     word: &[u8],
 ) -> Result<bool, Memory>
-    ensures units { IfOk result (TakesCommentWord units.old units.new run.now after_encoded word.now) }
-    ensures sources { OnOk result (HaveSources units.old.done.items → HaveSources units.new.done.items) }
+    ensures { IfOk result (TakesCommentWord units.old units.new run.now after_encoded word.now) }
 {
     if has_no_backslash(word) {
         return units.push_word(alloc, run, after_encoded, word);
@@ -100,8 +99,7 @@ fn push_word(
 
 /// The units of what stands in a comment between two parentheses. White at either end says nothing.
 pub fn read_comment(alloc: Global, text: &[u8]) -> Result<Vec<Unit>, Memory>
-    ensures units { IfOk result (λ units. HasCommentUnits text.now (map value_of units.items)) }
-    ensures sources { IfOk result (λ units. HaveSources units.items) }
+    ensures { IfOk result (λ units. HasCommentUnits text.now (map value_of units.items)) }
 {
     let (_, mut rest) = split_white(text);
     let mut units = Merging::new(alloc);

@@ -1,6 +1,6 @@
 //! The reader of the units of a text, by where it stands.
 ghost use Rattle.std.specs.Prelude.{map, IfOk};
-ghost use Rattle.encoded_words.specs.Values.{value_of, HaveSources};
+ghost use Rattle.encoded_words.specs.Values.{value_of};
 ghost use Rattle.encoded_words.specs.Contexts.{HasUnitsIn};
 
 use crate::comments::read_comment;
@@ -11,8 +11,7 @@ use std::alloc::Global;
 
 /// The units of a text that stands in this context. Any octets are read; of UTF-8 each `Unit::Text` is UTF-8.
 pub fn read_units(alloc: Global, context: Context, text: &[u8]) -> Result<Vec<Unit>, Memory>
-    ensures units { IfOk result (λ units. HasUnitsIn context text.now (map value_of units.items)) }
-    ensures sources { IfOk result (λ units. HaveSources units.items) }
+    ensures { IfOk result (λ units. HasUnitsIn context text.now (map value_of units.items)) }
 {
     match context {
         Context::Unstructured => read_unstructured(alloc, text),

@@ -6,7 +6,7 @@ ghost use Rattle.encoded_words.specs.Units.{HasUnits};
 ghost use Rattle.encoded_words.specs.CommentUnits.{HasCommentUnits};
 ghost use Rattle.encoded_words.specs.PhraseUnits.{PhraseItem, Content, IsUtf8Item, HasPhraseUnits, separated};
 ghost use Rattle.encoded_words.specs.Pieces.{AreBWords};
-ghost use Rattle.encoded_words.specs.Written.{AreUnits, AreUtf8Units, WriteAll, has_no_backslash};
+ghost use Rattle.encoded_words.specs.Written.{AreUnits, AreWritable, WriteAll, has_no_backslash};
 
 /// A text or a phrase has one list of units.
 pub fn units_are_one()
@@ -30,12 +30,12 @@ pub fn units_are_apart()
     ensures phrase { (items : List PhraseItem) (units : List UnitValue) → HasPhraseUnits items units → AreUnits units }
 {}
 
-/// The units of UTF-8 are UTF-8, so they can be written.
-pub fn units_are_utf8()
-    ensures unstructured { (text : List ℕ) (units : List UnitValue) → IsUtf8 text → HasUnits text units → AreUtf8Units units }
-    ensures comment { (text : List ℕ) (units : List UnitValue) → IsUtf8 text → HasCommentUnits text units → AreUtf8Units units }
+/// The units of UTF-8 can be written.
+pub fn units_are_writable()
+    ensures unstructured { (text : List ℕ) (units : List UnitValue) → IsUtf8 text → HasUnits text units → AreWritable units }
+    ensures comment { (text : List ℕ) (units : List UnitValue) → IsUtf8 text → HasCommentUnits text units → AreWritable units }
     ensures phrase { (items : List PhraseItem) (units : List UnitValue) → AllByRecursion IsUtf8Item items
-        → HasPhraseUnits items units → AreUtf8Units units }
+        → HasPhraseUnits items units → AreWritable units }
 {}
 
 /// A text has one list of B words.
@@ -46,11 +46,11 @@ pub fn b_words_are_one()
 /// Units that are written, with a space between any two pieces, are read back. (In a comment a backslash quotes, and
 /// what an opaque unit comes from may hold one.)
 pub fn written_units_are_read_back()
-    ensures unstructured { (units : List UnitValue) (pieces : List (List ℕ)) → AreUnits units → WriteAll units pieces
+    ensures unstructured { (units : List UnitValue) (pieces : List (List ℕ)) → AreUnits units → AreWritable units → WriteAll units pieces
         → HasUnits (join_with_byte 32 pieces) units }
-    ensures comment { (units : List UnitValue) (pieces : List (List ℕ)) → AreUnits units → WriteAll units pieces
+    ensures comment { (units : List UnitValue) (pieces : List (List ℕ)) → AreUnits units → AreWritable units → WriteAll units pieces
         → has_no_backslash (join_with_byte 32 pieces) ≡ true → HasCommentUnits (join_with_byte 32 pieces) units }
-    ensures phrase { (units : List UnitValue) (pieces : List (List ℕ)) → AreUnits units → WriteAll units pieces
+    ensures phrase { (units : List UnitValue) (pieces : List (List ℕ)) → AreUnits units → AreWritable units → WriteAll units pieces
         → HasPhraseUnits (separated pieces) units }
     // A phrase is never empty (RFC 5322, 3.2.5), so no units are written as an empty quoted string.
     ensures no_units { HasPhraseUnits (Content [] ∷ []) [] }

@@ -7,6 +7,7 @@ pub mod contexts;
 pub mod laws;
 pub mod units;
 pub mod word;
+pub mod writing;
 
 pub use b_words::{push_words, write_words};
 pub use comments::read_comment;
@@ -14,6 +15,7 @@ pub use contexts::read_units;
 use mail_wire::values::Octets;
 pub use units::read_unstructured;
 pub use word::read_word;
+pub use writing::write_units;
 
 /// A piece of what a text says: text, or octets of a charset that is not read, with the encoded word that they come from.
 #[derive(Drop)]

@@ -1,6 +1,6 @@
 //! The reader of the units of a text.
 ghost use Rattle.std.specs.Prelude.{◌≡◌, [], ◌∷◌, ◌++◌, map, if◌then◌else◌, position, IfOk, OnOk};
-ghost use Rattle.encoded_words.specs.Values.{value_of, HasSource, HaveSources};
+ghost use Rattle.encoded_words.specs.Values.{value_of};
 ghost use Rattle.encoded_words.specs.Units.{with_text, HasUnits};
 ghost use Rattle.mail_wire.specs.Octets.{is_white as is_white_of, is_black};
 ghost use Rattle.mail_wire.specs.Spans.{IsSpan};
@@ -49,8 +49,7 @@ impl Merging {
 
     /// Goes on with text.
     pub fn push_text(&mut self, text: &[u8]) -> Result<(), Memory>
-        ensures units { OnOk result (IsMerging self.new (done_values self.old) (self.old.text.items ++ text.now)) }
-        ensures done { self.new.done.items ≡ self.old.done.items }
+        ensures { OnOk result (IsMerging self.new (done_values self.old) (self.old.text.items ++ text.now)) }
     {
         self.text.extend_from_slice(text)?;
         Ok(())
@@ -58,8 +57,7 @@ impl Merging {
 
     /// Ends the text, if there is any.
     pub fn end_text(&mut self, alloc: Global) -> Result<(), Memory>
-        ensures units { OnOk result (IsMerging self.new (done_values self.old ++ with_text self.old.text.items []) []) }
-        ensures sources { OnOk result (HaveSources self.old.done.items → HaveSources self.new.done.items) }
+        ensures { OnOk result (IsMerging self.new (done_values self.old ++ with_text self.old.text.items []) []) }
     {
         if !self.text.is_empty() {
             let text = mem::replace(&mut self.text, Vec::new(alloc));
@@ -70,8 +68,7 @@ impl Merging {
 
     /// Adds what an encoded word says.
     fn push_unit(&mut self, alloc: Global, unit: Unit) -> Result<(), Memory>
-        ensures units { OnOk result (Adds self.old self.new (value_of unit)) }
-        ensures sources { OnOk result (HasSource unit → HaveSources self.old.done.items → HaveSources self.new.done.items) }
+        ensures { OnOk result (Adds self.old self.new (value_of unit)) }
     {
         match unit {
             Unit::Text(octets) => self.push_text(octets.as_slice()),
@@ -99,8 +96,7 @@ impl Merging {
         after_encoded: bool,
         word: &[u8],
     ) -> Result<bool, Memory>
-        ensures units { IfOk result (TakesWord self.old self.new run.now after_encoded word.now) }
-        ensures sources { OnOk result (HaveSources self.old.done.items → HaveSources self.new.done.items) }
+        ensures { IfOk result (TakesWord self.old self.new run.now after_encoded word.now) }
     {
         match read_word(alloc, word)? {
             Some(unit) => {
@@ -133,8 +129,7 @@ fn kept_run(run: &[u8], is_dropped: bool) -> &[u8]
 
 /// The units of an unstructured text.
 pub fn read_unstructured(alloc: Global, text: &[u8]) -> Result<Vec<Unit>, Memory>
-    ensures units { IfOk result (λ units. HasUnits text.now (map value_of units.items)) }
-    ensures sources { IfOk result (λ units. HaveSources units.items) }
+    ensures { IfOk result (λ units. HasUnits text.now (map value_of units.items)) }
 {
     let (mut run, mut rest) = split_white(text);
     let mut units = Merging::new(alloc);

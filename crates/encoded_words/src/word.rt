@@ -4,7 +4,7 @@ ghost use Rattle.std.specs.List.{list_all};
 ghost use Rattle.std.specs.Option.{SomeIff, option_copied};
 ghost use Rattle.std.specs.Char.{digit_value};
 ghost use Rattle.std.specs.Str.{str_to_ascii_lowercase};
-ghost use Rattle.encoded_words.specs.Values.{value_of, KeepsSource};
+ghost use Rattle.encoded_words.specs.Values.{value_of};
 ghost use Rattle.encoded_words.specs.Words.{WordParts, HasParts, IsName, IsWordText, IsBText, IsQText, IsTextOf, BeginsQ, UnitValue, gives_text, IsEncodedWord, unit_of as unit_value, language_suffix, is_name_octet as is_name_octet_of, is_text_octet};
 ghost use Rattle.encoded_words.specs.Parts.{lacks, wrapped, parts_value, IsNamed};
 
@@ -267,8 +267,7 @@ fn lower_case(alloc: Global, octets: &[u8]) -> Result<Octets, Memory>
 /// What octets of a charset say.
 #[tactic(auto, unfolding(crate::specs::Words::unit_of))]
 fn unit_of(alloc: Global, charset: &[u8], octets: Vec<u8>, word: &[u8]) -> Result<Unit, Memory>
-    ensures value { IfOk result (λ u. value_of u ≡ unit_value charset.now octets.items) }
-    ensures source { IfOk result (KeepsSource word.now) }
+    ensures { IfOk result (λ u. value_of u ≡ unit_value charset.now octets.items word.now) }
 {
     if names_text(charset, &octets) {
         return Ok(Unit::Text(Octets::from_vec(octets)));
@@ -286,7 +285,6 @@ fn unit_of(alloc: Global, charset: &[u8], octets: Vec<u8>, word: &[u8]) -> Resul
 pub fn read_word(alloc: Global, word: &[u8]) -> Result<Option<Unit>, Memory>
     ensures found { IfOk result (λ o. IfSome o (λ u. IsEncodedWord word.now (value_of u))) }
     ensures none { IfOk result (λ o. IfNone o ((unit : UnitValue) → ¬ IsEncodedWord word.now unit)) }
-    ensures source { IfOk result (λ o. IfSome o (KeepsSource word.now)) }
 {
     let Some(parts) = parts_of(word) else {
         return Ok(None);

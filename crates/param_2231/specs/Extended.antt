@@ -25,4 +25,4 @@ is_text_of charset octets = (is_nothing charset && is_utf8 octets) || gives_text
 -- what octets of a charset, in any case, say
 unfoldable pub unit_of : List ℕ → List ℕ → UnitValue
 unit_of charset octets = let name = str_to_ascii_lowercase charset in
-    if is_text_of name octets then Text octets else Opaque name octets
+    if is_text_of name octets then Text octets else Opaque name octets []

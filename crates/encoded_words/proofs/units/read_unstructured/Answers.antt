@@ -5,14 +5,12 @@ use Rattle.encoded_words.proofs.units.read_unstructured.Goals as goal
 
 pub loop-rest-preserved : goal.loop-rest-preserved
 loop-rest-preserved c =
-    let some : 0 < length c.loop-rest.rest.now = grind (arith, nat_tests) in (
-      Reads-step c.args.text.now _ c.loop-rest.rest.now _ c.split_word.result.1.now _ _ c.loop-rest.units _ c.loop-rest.after_encoded _
-          c.loop-rest.invariant.0 some c.split_word.ensures c.split_white-in-loop-rest.ensures c.in_ok-after_encoded.ensures.units,
-      c.in_ok-after_encoded.ensures.sources c.loop-rest.invariant.1,
-    )
+    let some : 0 < length c.loop-rest.rest.now = grind (arith, nat_tests) in
+    Reads-step c.args.text.now _ c.loop-rest.rest.now _ c.split_word.result.1.now _ _ c.loop-rest.units _ c.loop-rest.after_encoded _
+    c.loop-rest.invariant some c.split_word.ensures c.split_white-in-loop-rest.ensures c.in_ok-after_encoded.ensures
 
-pub returns-clause-units : goal.returns-clause-units
-returns-clause-units c =
+pub returns : goal.returns
+returns c =
     let end : length c.loop-rest.rest.now ≡ 0 = grind (arith, nat_tests) in
     rw c.into_done.ensures (Reads-end c.args.text.now _ c.loop-rest.rest.now c.loop-rest.units c.push_text.new.self _ c.loop-rest.after_encoded
-    c.loop-rest.invariant.0 end c.in_ok-push_text.ensures.units c.in_ok-end_text.ensures.units)
+    c.loop-rest.invariant end c.in_ok-push_text.ensures c.in_ok-end_text.ensures)
