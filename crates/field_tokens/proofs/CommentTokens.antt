@@ -51,7 +51,7 @@ item_before : TextItem → Body → Body
 item_before i (Last text) = Last (i ∷ text)
 item_before i (Before text inner more) = Before (i ∷ text) inner more
 
-body_of : Inside → Body
+pub body_of : Inside → Body
 body_of End = Last []
 body_of (Plain x more) = item_before (PlainItem x) (body_of more)
 body_of (Pair x more) = item_before (PairItem x) (body_of more)
@@ -72,21 +72,21 @@ unfolding item_before
 item_before-depth i (Last text) = refl
 item_before-depth i (Before text inner more) = refl
 
-body_of-octets : (i : Inside) → body_octets (body_of i) ≡ inside_octets comment_marks i
+pub body_of-octets : (i : Inside) → body_octets (body_of i) ≡ inside_octets comment_marks i
 unfolding body_of
 body_of-octets End = refl
 body_of-octets (Plain x more) = item_before-octets (PlainItem x) (body_of more) ∙ ap (λ r. x ∷ r) (body_of-octets more)
 body_of-octets (Pair x more) = item_before-octets (PairItem x) (body_of more) ∙ ap (λ r. 92 ∷ x ∷ r) (body_of-octets more)
 body_of-octets (Nested inner more) = rw (body_of-octets inner, body_of-octets more) refl
 
-body_of-is : (i : Inside) → IsInside comment_marks i → IsBody (body_of i)
+pub body_of-is : (i : Inside) → IsInside comment_marks i → IsBody (body_of i)
 unfolding body_of
 body_of-is End is = tt
 body_of-is (Plain x more) is = item_before-is (PlainItem x) (body_of more) (is.0, is.1, is.2) (body_of-is more is.4)
 body_of-is (Pair x more) is = item_before-is (PairItem x) (body_of more) tt (body_of-is more is.1)
 body_of-is (Nested inner more) is = (tt, body_of-is inner is.0, body_of-is more is.1)
 
-body_of-depth : (i : Inside) → body_depth (body_of i) ≡ depth_of i
+pub body_of-depth : (i : Inside) → body_depth (body_of i) ≡ depth_of i
 unfolding body_of
 body_of-depth End = refl
 body_of-depth (Plain x more) = item_before-depth (PlainItem x) (body_of more) ∙ body_of-depth more

@@ -2,6 +2,7 @@ pub mod Levels
 pub mod GroupLemmas
 pub mod TokenLemmas
 pub mod TokenLists
+pub mod DecideTokens
 pub mod Joined
 pub mod Texts
 pub mod BodyLemmas
@@ -9,4 +10,13 @@ pub mod Runs
 pub mod TreeLemmas
 pub mod CommentReading
 pub mod CommentTokens
+pub mod Insides
+pub mod Utf8Cuts
+pub mod CommentWriting
 pub mod SqueezedLemmas
+pub mod Parts
+pub mod SqueezedValues
+pub mod TokenLines
+pub mod LinePieces
+pub mod WrittenComments
+pub mod CommentValues

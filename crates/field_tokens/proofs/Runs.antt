@@ -71,7 +71,7 @@ RunsTo-end octets rest white next len stops r span none = record {
 }
 
 -- white, a run and more as one text
-lead_whole : (lead behind octets after : List ℕ) (text : List TextItem) → octets ≡ lead ++ behind → behind ≡ spelling text ++ after → octets ≡ spelling (map Plain lead ++ text) ++ after
+pub lead_whole : (lead behind octets after : List ℕ) (text : List TextItem) → octets ≡ lead ++ behind → behind ≡ spelling text ++ after → octets ≡ spelling (map Plain lead ++ text) ++ after
 lead_whole lead behind octets after text e f =
     e ∙ ap (λ r. lead ++ r) f ∙ sym (append_assoc lead (spelling text) after) ∙ ap (λ r. (r ++ spelling text) ++ after) (sym (spelling-white lead)) ∙ ap (λ r. r ++ after) (sym (spelling-append (map Plain lead) text))
 
@@ -79,7 +79,7 @@ item_some : (i : TextItem) → 0 < length (item_spelling i)
 item_some (Plain x) = omega arith
 item_some (Pair x) = omega arith
 
-run_some : (run : List TextItem) → IsRun run → 0 < length (spelling run)
+pub run_some : (run : List TextItem) → IsRun run → 0 < length (spelling run)
 run_some run is =
     let b = is.begins in
     rw (b.2) (omega (arith, item_some b.0, length-append (item_spelling b.0) (spelling b.1)))

@@ -10,10 +10,15 @@ use Rattle.mail_wire.specs.declared.values.Span.{Span}
 use Rattle.encoded_words.specs.CommentUnits.{TextItem, Plain, Pair, item_spelling, is_white_item}
 use Rattle.field_tokens.specs.Trees.{StandsInText, AreText, spelling, HasRun, GivesRun}
 use Rattle.field_tokens.specs.Bodies.{BeginsNoItem}
+use Rattle.field_tokens.specs.Comments.{HasRunOf}
 
 pub AreText-append : (a b : List TextItem) → AreText a → AreText b → AreText (a ++ b)
 AreText-append [] b p q = q
 AreText-append (i ∷ a) b p q = (p.0, AreText-append a b p.1 q)
+
+pub AreText-parts : (a b : List TextItem) → AreText (a ++ b) → AreText a × AreText b
+AreText-parts [] b p = (tt, p)
+AreText-parts (i ∷ a) b p = let more = AreText-parts a b p.1 in ((p.0, more.0), more.1)
 
 pub spelling-append : (a b : List TextItem) → spelling (a ++ b) ≡ spelling a ++ spelling b
 spelling-append a b = flat_map-append item_spelling a b
@@ -84,31 +89,41 @@ last_cut (h ∷ a) (k ∷ b) i j x y wx wy bi bj e =
     cc
 
 -- a text with a run is not white only
-not_blank : (at : ℕ) (text : List TextItem) (span : Span) → HasRun at text span → list_all is_white_item text ≡ true → ⊥
-not_blank at text span h blank =
+pub HasRunOf-black : (text run : List TextItem) → HasRunOf text run → list_all is_white_item text ≡ true → ⊥
+HasRunOf-black text run h blank =
     let b = h.is_run.begins in
     let whole : text ≡ h.lead ++ b.0 ∷ (b.1 ++ h.trail) = h.whole ∙ rw (b.2) refl in
     both_ways (is_white_item b.0) b.3 (white_within h.lead (b.1 ++ h.trail) b.0 (rw (whole) at blank))
+
+-- it has one run, at one place
+pub HasRunOf-once : (text run other : List TextItem) → (h : HasRunOf text run) → (k : HasRunOf text other) → (h.lead ≡ k.lead) × (run ≡ other)
+HasRunOf-once text run other h k =
+    let b = h.is_run.begins in
+    let c = k.is_run.begins in
+    let one : text ≡ h.lead ++ b.0 ∷ (b.1 ++ h.trail) = h.whole ∙ rw (b.2) refl in
+    let two : text ≡ k.lead ++ c.0 ∷ (c.1 ++ k.trail) = k.whole ∙ rw (c.2) refl in
+    let front = first_cut h.lead k.lead b.0 c.0 (b.1 ++ h.trail) (c.1 ++ k.trail) h.lead_white k.lead_white b.3 c.3 (sym one ∙ two) in
+    let rest : run ++ h.trail ≡ other ++ k.trail = ap (λ r. r ++ h.trail) b.2 ∙ front.1 ∙ sym (ap (λ r. r ++ k.trail) c.2) in
+    let d = h.is_run.ends in
+    let e = k.is_run.ends in
+    let three : run ++ h.trail ≡ d.0 ++ d.1 ∷ h.trail = ap (λ r. r ++ h.trail) d.2 ∙ append_assoc d.0 (d.1 ∷ []) h.trail in
+    let four : other ++ k.trail ≡ e.0 ++ e.1 ∷ k.trail = ap (λ r. r ++ k.trail) e.2 ∙ append_assoc e.0 (e.1 ∷ []) k.trail in
+    let back = last_cut d.0 e.0 d.1 e.1 h.trail k.trail h.trail_white k.trail_white d.3 e.3 (sym three ∙ rest ∙ four) in
+    (front.0, d.2 ∙ back ∙ sym e.2)
+
+abbrev run_of : (at : ℕ) (text : List TextItem) (span : Span) → (h : HasRun at text span) → HasRunOf text h.run
+run_of at text span h = record { lead = h.lead; trail = h.trail; lead_white = h.lead_white; trail_white = h.trail_white; is_run = h.is_run; whole = h.whole }
+
+not_blank : (at : ℕ) (text : List TextItem) (span : Span) → HasRun at text span → list_all is_white_item text ≡ true → ⊥
+not_blank at text span h blank = HasRunOf-black text h.run (run_of at text span h) blank
 
 span_is : (s t : Span) → s.at ≡ t.at → s.len ≡ t.len → s ≡ t
 span_is s t p q = let eta : s ≡ record { at = t.at; len = t.len } = rw (← p, ← q) refl in eta
 
 HasRun-once : (at : ℕ) (text : List TextItem) (s t : Span) → HasRun at text s → HasRun at text t → s ≡ t
 HasRun-once at text s t h k =
-    let b = h.is_run.begins in
-    let c = k.is_run.begins in
-    let one : text ≡ h.lead ++ b.0 ∷ (b.1 ++ h.trail) = h.whole ∙ rw (b.2) refl in
-    let two : text ≡ k.lead ++ c.0 ∷ (c.1 ++ k.trail) = k.whole ∙ rw (c.2) refl in
-    let front = first_cut h.lead k.lead b.0 c.0 (b.1 ++ h.trail) (c.1 ++ k.trail) h.lead_white k.lead_white b.3 c.3 (sym one ∙ two) in
-    let rest : h.run ++ h.trail ≡ k.run ++ k.trail = ap (λ r. r ++ h.trail) b.2 ∙ front.1 ∙ sym (ap (λ r. r ++ k.trail) c.2) in
-    let d = h.is_run.ends in
-    let e = k.is_run.ends in
-    let three : h.run ++ h.trail ≡ d.0 ++ d.1 ∷ h.trail = ap (λ r. r ++ h.trail) d.2 ∙ append_assoc d.0 (d.1 ∷ []) h.trail in
-    let four : k.run ++ k.trail ≡ e.0 ++ e.1 ∷ k.trail = ap (λ r. r ++ k.trail) e.2 ∙ append_assoc e.0 (e.1 ∷ []) k.trail in
-    let back = last_cut d.0 e.0 d.1 e.1 h.trail k.trail h.trail_white k.trail_white d.3 e.3 (sym three ∙ rest ∙ four) in
-    let run : h.run ≡ k.run = d.2 ∙ back ∙ sym e.2 in
-    let lead : h.lead ≡ k.lead = front.0 in
-    span_is s t (h.at_is ∙ ap (λ l. at + length (spelling l)) lead ∙ sym k.at_is) (h.len_is ∙ ap (λ r. length (spelling r)) run ∙ sym k.len_is)
+    let both = HasRunOf-once text h.run k.run (run_of at text s h) (run_of at text t k) in
+    span_is s t (h.at_is ∙ ap (λ l. at + length (spelling l)) both.0 ∙ sym k.at_is) (h.len_is ∙ ap (λ r. length (spelling r)) both.1 ∙ sym k.len_is)
 
 -- a text gives one run
 pub GivesRun-once : (at : ℕ) (text : List TextItem) (r s : Option Span) → GivesRun at text r → GivesRun at text s → r ≡ s

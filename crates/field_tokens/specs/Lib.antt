@@ -3,5 +3,7 @@ pub mod Groups
 pub mod Levels
 pub mod Tokens
 pub mod Trees
+pub mod Comments
 pub mod Bodies
+pub mod CommentWriting
 pub mod Squeezed

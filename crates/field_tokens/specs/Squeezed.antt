@@ -1,11 +1,11 @@
 -- Squeezed text: the tokens without comments, with a space where a gap or a comment stood between two of them.
-use Rattle.std.specs.Prelude.{◌≡◌, ℕ, ◌⊎◌, Bool, true, false, List, [], ◌∷◌, ◌++◌, map, filter}
+use Rattle.std.specs.Prelude.{◌≡◌, ℕ, ◌⊎◌, Bool, true, false, not, List, [], ◌∷◌, ◌++◌, map, filter}
 use Rattle.std.specs.List.{flat_map, join_with_byte, slice_split}
 use Rattle.field_tokens.specs.declared.Style.{Style}
 use Rattle.field_tokens.specs.declared.Token.{Token}
 use Rattle.field_tokens.specs.declared.TokenKind.{TokenKind}
 use Rattle.field_tokens.specs.declared.TokenKind.TheVariants.{Atom, Quoted, Literal, Special, Gap, Comment}
-use Rattle.field_tokens.specs.Tokens.{HasTokens, octets_at}
+use Rattle.field_tokens.specs.Tokens.{TokenValue, AreTokens, HasTokens, octets_at}
 
 -- a gap or a comment: what stands between words (RFC 5322, 3.2.2, CFWS)
 abbrev pub is_blank : TokenKind → Bool
@@ -20,7 +20,7 @@ is_blank Special = false
 abbrev pub run_octets : List ℕ → List Token → List ℕ
 run_octets text tokens = flat_map (λ token. octets_at text token.span) tokens
 
-abbrev pub is_there : List Token → Bool
+abbrev pub is_there : {A : Type 0} → List A → Bool
 is_there [] = false
 is_there (token ∷ tokens) = true
 
@@ -38,3 +38,54 @@ pub record StandTogether (text : List ℕ) (tokens : List Token) : Type 0 where
 -- neighbours, or none
 abbrev pub AreNeighbours : List ℕ → List Token → Type 0
 AreNeighbours text tokens = (tokens ≡ []) ⊎ StandTogether text tokens
+
+-- The same by the octets of tokens: the runs of tokens between gaps and comments, ...
+abbrev pub runs_of : List TokenValue → List (List TokenValue)
+runs_of tokens = filter is_there (slice_split (λ token. is_blank token.kind) tokens)
+
+abbrev pub octets_of : List TokenValue → List ℕ
+octets_of tokens = flat_map (λ token. token.octets) tokens
+
+-- ... joined by spaces
+abbrev pub squeezed_values : List TokenValue → List ℕ
+squeezed_values tokens = join_with_byte 32 (map octets_of (runs_of tokens))
+
+abbrev pub is_comment : TokenKind → Bool
+is_comment Comment = true
+is_comment Atom = false
+is_comment Quoted = false
+is_comment Literal = false
+is_comment Special = false
+is_comment Gap = false
+
+-- the comments among tokens, in order
+abbrev pub comments_of : List TokenValue → List (List ℕ)
+comments_of tokens = map (λ token. token.octets) (filter (λ token. is_comment token.kind) tokens)
+
+-- the tokens but gaps and comments
+abbrev pub words_of : List TokenValue → List TokenValue
+words_of tokens = filter (λ token. not (is_blank token.kind)) tokens
+
+abbrev pub is_gap : TokenKind → Bool
+is_gap Gap = true
+is_gap Atom = false
+is_gap Quoted = false
+is_gap Literal = false
+is_gap Special = false
+is_gap Comment = false
+
+-- one space between tokens
+abbrev pub space : TokenValue
+space = record { kind = Gap; octets = 32 ∷ [] }
+
+-- lists of tokens, with a space between any two
+abbrev pub apart : List (List TokenValue) → List TokenValue
+apart [] = []
+apart (part ∷ []) = part
+apart (part ∷ next ∷ parts) = part ++ space ∷ apart (next ∷ parts)
+
+-- Tokens that may stand beside a space: the first one and the last one are no gaps.
+pub record IsPart (style : Style) (part : List TokenValue) : Type 0 where
+  pub are_tokens : AreTokens style part (octets_of part)
+  pub begins : (first : TokenValue) × (others : List TokenValue) × (part ≡ first ∷ others) × (is_gap first.kind ≡ false)
+  pub ends : (others : List TokenValue) × (last : TokenValue) × (part ≡ others ++ last ∷ []) × (is_gap last.kind ≡ false)

@@ -65,6 +65,11 @@ pub record HasTokens (style : Style) (text : List ℕ) (tokens : List Token) : T
   pub are_tokens : AreTokens style values text
   pub placed : tokens ≡ tokens_from 0 values
 
+-- the text is a line, and these are its tokens, by their octets
+pub record HasTokenValues (style : Style) (text : List ℕ) (tokens : List TokenValue) : Type 0 where
+  pub is_line : IsLine text
+  pub are_tokens : AreTokens style tokens text
+
 -- the octets of a span
 abbrev pub octets_at : List ℕ → Span → List ℕ
 octets_at text span = take span.len (drop span.at text)

@@ -1,6 +1,7 @@
 //! The tokens of a structured field's text (RFC 5322, 3.2; RFC 2045, 5.1), and its comments as trees.
 #![tactic(auto)]
 
+pub mod comments;
 mod groups;
 pub mod laws;
 mod places;
