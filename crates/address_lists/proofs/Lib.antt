@@ -8,9 +8,17 @@ pub mod Utf8Lemmas
 pub mod SoundLemmas
 pub mod WritingLemmas
 pub mod PhraseReading
+pub mod PhraseWriting
+pub mod SoundPhrases
+pub mod WrittenPhrases
+pub mod PlaceTokens
+pub mod PhrasesAgain
 pub mod WalkLemmas
 pub mod MailboxLemmas
 pub mod DividedLemmas
 pub mod ListLemmas
 pub mod ListSaying
 pub mod WholeLists
+pub mod PhraseListLemmas
+pub mod PhraseListTexts
+pub mod PhraseListsAgain

@@ -20,7 +20,7 @@ use Rattle.address_lists.proofs.DividedLemmas.{Walked, SaysOnce, divided_once}
 -- ---- walks
 
 -- nothing is awaited behind tokens without a comma, an opening bracket and a colon
-walk_plain : (ts : List TokenValue) → lacks 44 ts ≡ true → lacks 60 ts ≡ true → lacks 58 ts ≡ true → walk None ts ≡ Some None
+pub walk_plain : (ts : List TokenValue) → lacks 44 ts ≡ true → lacks 60 ts ≡ true → lacks 58 ts ≡ true → walk None ts ≡ Some None
 walk_plain [] a b c = refl
 walk_plain (t ∷ ts) a b c =
     let p = and_parts (not (is_mark 44 t)) (lacks 44 ts) a in

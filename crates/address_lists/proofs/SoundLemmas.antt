@@ -1,23 +1,20 @@
 -- What each token of a text is, whatever follows it.
 use Rattle.std.proofs.Common.{◌≡◌, ℕ, ◌-◌, ◌<◌, Bool, true, false, ◌&&◌, eqb, inl, inr, List, [], ◌∷◌, ◌++◌, length, refl, sym, ap, ◌∙◌, subst, arith}
 use Rattle.std.proofs.lemmas.Bool.{and_parts, and_from, cases_Bool}
-use Rattle.std.proofs.lemmas.Bool.Decides.{nat_tests}
 use Rattle.std.proofs.lemmas.List.{length-append, take_at}
 use Rattle.std.proofs.lemmas.List.Folds.{list_all-append}
 use Rattle.std.proofs.lemmas.Str.{IsUtf8-nil, IsUtf8-append}
 use Rattle.std.specs.List.{AllByRecursion, list_all}
 use Rattle.std.specs.Str.{IsUtf8}
-use Rattle.mail_wire.specs.Octets.{is_white}
-use Rattle.mail_wire.specs.Spans.{Stops}
 use Rattle.field_tokens.specs.declared.Style.TheVariants.{Mail}
 use Rattle.field_tokens.specs.declared.TokenKind.{TokenKind}
 use Rattle.field_tokens.specs.declared.TokenKind.TheVariants.{Atom, Quoted, Literal, Special, Gap, Comment}
-use Rattle.field_tokens.specs.declared.groups.Marks.{Marks}
 use Rattle.field_tokens.specs.Groups.{IsGroup, inside_octets}
-use Rattle.field_tokens.specs.TokenOctets.{is_special, is_atom_octet, is_line_octet}
-use Rattle.field_tokens.specs.Tokens.{TokenValue, AreTokens, IsToken, IsLine, comment_marks, quoted_marks, literal_marks}
+use Rattle.field_tokens.specs.TokenOctets.{is_atom_octet, is_line_octet}
+use Rattle.field_tokens.specs.Tokens.{TokenValue, AreTokens, IsToken, IsLine, quoted_marks, literal_marks}
 use Rattle.address_lists.specs.Lexemes.{is_blank_token, words_of, unquoted, inner_octets, content_of, content, contents}
-use Rattle.address_lists.proofs.Utf8Lemmas.{BothUtf8, BeginsAscii, before_ascii, behind_ascii, ends_ascii, all_ascii, unquoted_utf8}
+use Rattle.field_tokens.proofs.TokenLines.{before_ascii, behind_ascii, token_utf8}
+use Rattle.address_lists.proofs.Utf8Lemmas.{unquoted_utf8}
 
 -- what an atom or a literal is, whatever follows
 abbrev pub Shape : TokenKind → List ℕ → Type 0
@@ -41,30 +38,6 @@ shape_of Quoted octets rest is = tt
 shape_of Special octets rest is = tt
 shape_of Gap octets rest is = tt
 shape_of Comment octets rest is = tt
-
-white_ascii : (x : ℕ) → is_white x ≡ true → x < 128
-white_ascii x h = grind (arith, nat_tests)
-
-special_ascii : (x : ℕ) → is_special Mail x ≡ true → x < 128
-special_ascii x h = grind (arith, nat_tests)
-
-no_atom_ascii : (x : ℕ) → is_atom_octet Mail x ≡ false → x < 128
-no_atom_ascii x h = grind (arith, nat_tests)
-
-stops_ascii : (rest : List ℕ) → Stops (is_atom_octet Mail) rest → BeginsAscii rest
-stops_ascii [] s = tt
-stops_ascii (x ∷ rest) s = no_atom_ascii x s
-
-group_utf8 : (m : Marks) (octets rest : List ℕ) → m.close_mark < 128 → IsGroup m octets → IsUtf8 (octets ++ rest) → BothUtf8 octets rest
-group_utf8 m octets rest ascii g u = rw (g.spelled) (ends_ascii (m.open_mark ∷ inside_octets m g.inside) m.close_mark rest ascii (rw (g.spelled) at u))
-
-token_utf8 : (kind : TokenKind) (octets rest : List ℕ) → IsToken Mail kind octets rest → IsUtf8 (octets ++ rest) → BothUtf8 octets rest
-token_utf8 Gap octets rest is u = all_ascii is_white white_ascii octets rest is.1.passes u
-token_utf8 Atom octets rest is u = before_ascii octets rest (stops_ascii rest is.1.stops) u
-token_utf8 Special octets rest is u = rw (is.1) (ends_ascii [] is.0 rest (special_ascii is.0 is.2) (rw (is.1) at u))
-token_utf8 Comment octets rest is u = group_utf8 comment_marks octets rest (omega arith) is u
-token_utf8 Quoted octets rest is u = group_utf8 quoted_marks octets rest (omega arith) is u
-token_utf8 Literal octets rest is u = group_utf8 literal_marks octets rest (omega arith) is.1 u
 
 -- what stands between the marks of a quoted string
 pub inner-group : (octets inside : List ℕ) → octets ≡ 34 ∷ (inside ++ 34 ∷ []) → inner_octets octets ≡ inside
@@ -109,7 +82,7 @@ content_line Quoted octets rest is u =
 pub tokens_sound : (ts : List TokenValue) (text : List ℕ) → AreTokens Mail ts text → IsLine text → AllByRecursion IsSound ts
 tokens_sound [] text are line = tt
 tokens_sound (t ∷ ts) text are line =
-    let both = token_utf8 t.kind t.octets are.0 are.2 (subst IsUtf8 are.1 line.utf8) in
+    let both = token_utf8 Mail t.kind t.octets are.0 are.2 (subst IsUtf8 are.1 line.utf8) in
     let all : (list_all is_line_octet t.octets && list_all is_line_octet are.0) ≡ true
     = sym (list_all-append is_line_octet t.octets are.0) ∙ sym (ap (list_all is_line_octet) are.1) ∙ line.plain in
     let parts = and_parts (list_all is_line_octet t.octets) (list_all is_line_octet are.0) all in (

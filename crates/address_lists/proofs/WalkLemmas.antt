@@ -18,11 +18,11 @@ walk-append (t ∷ a) b awaited = by (awaited_behind awaited t) (walk-append a b
     by (Some n) more = more n
 
 -- a comma ends a place where nothing is awaited
-record IsEnd (awaited : Option ℕ) (t : TokenValue) : Type 0 where
-  nothing : awaited ≡ None
-  comma : is_mark 44 t ≡ true
+pub record IsEnd (awaited : Option ℕ) (t : TokenValue) : Type 0 where
+  pub nothing : awaited ≡ None
+  pub comma : is_mark 44 t ≡ true
 
-ends_here : (awaited : Option ℕ) (t : TokenValue) → awaited_behind awaited t ≡ None → IsEnd awaited t
+pub ends_here : (awaited : Option ℕ) (t : TokenValue) → awaited_behind awaited t ≡ None → IsEnd awaited t
 ends_here (Some mark) t e = elim (cases_Bool (is_mark mark t)) [
   | inl is ↦ cc (rw (is) at e)
   | inr other ↦ cc (rw (other) at e)

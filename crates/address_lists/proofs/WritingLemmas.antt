@@ -19,7 +19,8 @@ use Rattle.address_lists.specs.declared.Address.{Address}
 use Rattle.address_lists.specs.Lexemes.{is_blank_token, words_of, is_special_kind, is_mark, is_atom_kind, is_word_kind, is_literal_kind, is_part, unquoted, content_of, contents, are_dotted}
 use Rattle.address_lists.specs.Addresses.{IsLocal, is_one_literal, is_domain, IsAddress, is_some_atom, is_dot_atom, quoted_octet, quoted_string, local_text, address_text}
 use Rattle.address_lists.specs.Paths.{HasPath, ComesInPath, in_angles}
-use Rattle.address_lists.proofs.Utf8Lemmas.{quoted_utf8, one_ascii}
+use Rattle.field_tokens.proofs.TokenLines.{one_ascii}
+use Rattle.address_lists.proofs.Utf8Lemmas.{quoted_utf8}
 use Rattle.address_lists.proofs.SoundLemmas.{Shape, IsSound, inner-group, tokens_sound, sound_front, sound_rest, sound_words, contents_utf8, contents_line, contents-words}
 
 abbrev HasShape : TokenValue → Type 0

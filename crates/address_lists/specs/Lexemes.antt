@@ -5,13 +5,12 @@ use Rattle.std.specs.Str.{bytes_eq}
 use Rattle.field_tokens.specs.declared.Style.TheVariants.{Mail}
 use Rattle.field_tokens.specs.declared.TokenKind.{TokenKind}
 use Rattle.field_tokens.specs.declared.TokenKind.TheVariants.{Atom, Quoted, Literal, Special, Gap, Comment}
-use Rattle.field_tokens.specs.Tokens.{TokenValue, IsLine, AreTokens}
+use Rattle.field_tokens.specs.Tokens.{TokenValue, HasTokenValues as HasTokenValuesIn}
 use Rattle.field_tokens.specs.Squeezed.{is_blank}
 
--- the text is a line, and these are its tokens, by their octets
-pub record HasTokenValues (text : List ℕ) (tokens : List TokenValue) : Type 0 where
-  pub is_line : IsLine text
-  pub are_tokens : AreTokens Mail tokens text
+-- the text is a line, and these are its tokens
+abbrev pub HasTokenValues : List ℕ → List TokenValue → Type 0
+HasTokenValues text tokens = HasTokenValuesIn Mail text tokens
 
 -- a gap or a comment, which may stand between any two tokens (RFC 5322, 3.2.2, CFWS)
 abbrev pub is_blank_token : TokenValue → Bool

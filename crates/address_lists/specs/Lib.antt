@@ -3,7 +3,11 @@ pub mod Views
 pub mod Addresses
 pub mod Paths
 pub mod Phrases
+pub mod PhrasePieces
+pub mod PhraseReadBack
 pub mod AddressLists
+pub mod PhraseLists
+pub mod PhraseListSteps
 pub mod Walks
 pub mod ListViews
 pub mod PhraseSteps

@@ -1,11 +1,14 @@
--- How the reader of phrases goes on.
-use Rattle.std.specs.Prelude.{◌≡◌, ℕ, Bool, true, false, not, ◌&&◌, ◌||◌, if◌then◌else◌, List, [], ◌∷◌, Option, is_some}
+-- How the reader of phrases goes on, and the writer.
+use Rattle.std.specs.Prelude.{◌≡◌, ℕ, Bool, true, false, not, ◌&&◌, ◌||◌, if◌then◌else◌, List, [], ◌∷◌, ◌++◌, Option, is_some}
+use Rattle.std.specs.List.{list_all}
 use Rattle.encoded_words.specs.declared.units.Merging.{Merging}
 use Rattle.encoded_words.specs.Words.{UnitValue, SaysWhere}
 use Rattle.encoded_words.specs.Units.{Place, with_text, word_unit, merged, raw_units, begins_encoded}
 use Rattle.encoded_words.specs.Merging.{IsMerging, units_then, onto}
 use Rattle.encoded_words.specs.PhraseUnits.{PhraseItem, phrase_words, ArePhrasePlaces, HasPhraseUnits, begins_free, has_word}
 use Rattle.field_tokens.specs.Tokens.{TokenValue}
+use Rattle.field_tokens.specs.Squeezed.{is_gap}
+use Rattle.address_lists.specs.Lexemes.{is_blank_token, are_blank}
 use Rattle.address_lists.specs.declared.phrases.PhraseReader.{PhraseReader}
 use Rattle.address_lists.specs.Phrases.{item_of}
 
@@ -36,3 +39,27 @@ ReadsSoFar phrase r items = (places : List Place) → ArePhrasePlaces (phrase_wo
 abbrev pub TakesToken : PhraseReader → PhraseReader → TokenValue → Bool → Type 0
 TakesToken old new t is_next_free = (phrase items : List PhraseItem) → begins_free items ≡ is_next_free
     → ReadsSoFar phrase old (item_of t.kind t.octets ∷ items) → ReadsSoFar phrase new items
+
+-- ---- how a phrase is written
+
+abbrev pub BeginsNoGap : List TokenValue → Type 0
+BeginsNoGap [] = Unit {0}
+BeginsNoGap (t ∷ tokens) = is_gap t.kind ≡ false
+
+abbrev pub EndsNoBlank : List TokenValue → Type 0
+EndsNoBlank [] = Unit {0}
+EndsNoBlank (t ∷ []) = is_blank_token t ≡ false
+EndsNoBlank (t ∷ next ∷ tokens) = EndsNoBlank (next ∷ tokens)
+
+-- rest is what stands behind the gaps in front
+pub record SkipsGaps (tokens rest : List TokenValue) : Type 0 where
+  pub lead : List TokenValue
+  pub gaps : list_all (λ t. is_gap t.kind) lead ≡ true
+  pub whole : tokens ≡ lead ++ rest
+  pub begins : BeginsNoGap rest
+
+-- front goes to the last token that is neither gap nor comment
+pub record SplitsTrail (tokens front trail : List TokenValue) : Type 0 where
+  pub whole : tokens ≡ front ++ trail
+  pub ends : EndsNoBlank front
+  pub blank : are_blank trail ≡ true

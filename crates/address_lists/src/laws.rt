@@ -1,7 +1,11 @@
 //! Laws of addresses and their texts.
-ghost use Rattle.std.specs.Prelude.{◌≡◌, ℕ, List, Option};
+ghost use Rattle.std.specs.Prelude.{◌≡◌, ℕ, ◌⊎◌, List, Option};
 ghost use Rattle.address_lists.specs.Paths.{HasPath};
+ghost use Rattle.encoded_words.specs.Words.{UnitValue};
+ghost use Rattle.field_tokens.specs.Comments.{CommentValue};
 ghost use Rattle.field_tokens.specs.Trees.{Tree};
+ghost use Rattle.address_lists.specs.PhraseLists.{SaysPhrases, PhrasesPieces};
+ghost use Rattle.address_lists.specs.PhraseListSteps.{ArePhrasesAgain};
 ghost use Rattle.address_lists.specs.AddressLists.{ElementValue, HasAddresses};
 ghost use Rattle.address_lists.specs.declared.Address.{Address};
 
@@ -16,4 +20,30 @@ pub fn lists_are_one()
         → es ≡ fs }
     ensures comments { (text : List ℕ) (es fs : List ElementValue) (cs ds : List Tree) → HasAddresses text es cs → HasAddresses text fs ds
         → cs ≡ ds }
+{}
+
+/// A text is phrases in one way at most, and they are written in one way.
+pub fn phrases_are_one()
+    ensures phrases { (text : List ℕ) (us vs : List (List UnitValue)) (cs ds : List CommentValue) → SaysPhrases text us cs → SaysPhrases text vs ds
+        → us ≡ vs }
+    ensures comments { (text : List ℕ) (us vs : List (List UnitValue)) (cs ds : List CommentValue) → SaysPhrases text us cs → SaysPhrases text vs ds
+        → cs ≡ ds }
+    ensures pieces { (text : List ℕ) (ps qs : List (List ℕ)) → PhrasesPieces text ps → PhrasesPieces text qs → ps ≡ qs }
+{}
+
+/// Of each text it is decided whether it is phrases, and it has pieces where it is.
+pub fn phrases_are_there()
+    ensures decided { (text : List ℕ) → ((phrases : List (List UnitValue)) × (comments : List CommentValue) × SaysPhrases text phrases comments)
+        ⊎ ((phrases : List (List UnitValue)) (comments : List CommentValue) → ¬ SaysPhrases text phrases comments) }
+    ensures pieces { (text : List ℕ) (phrases : List (List UnitValue)) (comments : List CommentValue) → SaysPhrases text phrases comments
+        → (pieces : List (List ℕ)) × PhrasesPieces text pieces }
+    ensures phrases { (text : List ℕ) (pieces : List (List ℕ)) → PhrasesPieces text pieces
+        → (phrases : List (List UnitValue)) × (comments : List CommentValue) × SaysPhrases text phrases comments }
+{}
+
+/// The pieces of phrases, with a space between any two, are a text of phrases with the same units and comments, and each
+/// of them is ASCII.
+pub fn written_phrases_are_read_back()
+    ensures { (text : List ℕ) (pieces : List (List ℕ)) (phrases : List (List UnitValue)) (comments : List CommentValue) → PhrasesPieces text pieces
+        → SaysPhrases text phrases comments → ArePhrasesAgain phrases comments pieces }
 {}

@@ -3,15 +3,17 @@
 
 mod addresses;
 pub mod laws;
-mod lexemes;
+pub mod lexemes;
 pub mod lists;
 mod mailboxes;
 pub mod paths;
-mod phrases;
+pub mod phrase_lists;
+pub mod phrases;
 mod places;
 pub mod small_lists;
 #[cfg(test)]
 mod tests;
+pub mod writing;
 
 use field_tokens::Comment;
 pub use lists::read_list;

@@ -3,7 +3,6 @@ ghost use Rattle.std.specs.Prelude.{◌≡◌, ◌&&◌, not, [], ◌∷◌, tru
 ghost use Rattle.std.specs.List.{list_all};
 ghost use Rattle.encoded_words.specs.Merging.{units_then};
 ghost use Rattle.encoded_words.specs.PhraseUnits.{HasPhraseUnits, begins_free as begins_free_of};
-ghost use Rattle.encoded_words.specs.Values.{HaveSources};
 ghost use Rattle.address_lists.specs.Lexemes.{is_atom as is_atom_of};
 ghost use Rattle.address_lists.specs.Phrases.{may_stand_in_phrase as may_stand_of, IsPhrase, phrase_items};
 ghost use Rattle.address_lists.specs.PhraseSteps.{TakesPart, IsFreshReader, TakesToken};
@@ -51,8 +50,7 @@ fn push_part(
     word: &[u8],
     may_be_encoded: bool,
 ) -> Result<bool, Memory>
-    ensures units { IfOk result (TakesPart units.old units.new run.now after_encoded word.now may_be_encoded) }
-    ensures sources { OnOk result (HaveSources units.old.done.items → HaveSources units.new.done.items) }
+    ensures { IfOk result (TakesPart units.old units.new run.now after_encoded word.now may_be_encoded) }
 {
     if may_be_encoded {
         return units.push_word(alloc, run, after_encoded, word);
@@ -101,8 +99,7 @@ impl PhraseReader {
     /// Takes the next token.
     fn take(&mut self, alloc: Global, lexeme: Lexeme<'_>, is_next_free: bool) -> Result<(), Memory>
         requires { may_stand_of (value_of lexeme) ≡ true }
-        ensures reads { OnOk result (TakesToken self.old self.new (value_of lexeme.entry) is_next_free) }
-        ensures sources { OnOk result (HaveSources self.old.units.done.items → HaveSources self.new.units.done.items) }
+        ensures { OnOk result (TakesToken self.old self.new (value_of lexeme.entry) is_next_free) }
     {
         if is_blank(lexeme) {
             self.is_free = true;
@@ -126,8 +123,7 @@ impl PhraseReader {
 
     /// The units that were read.
     fn finish(self, alloc: Global) -> Result<Vec<Unit>, Memory>
-        ensures units { IfOk result (λ made. unit_values made.items ≡ units_then self.units []) }
-        ensures sources { IfOk result (λ made. HaveSources self.units.done.items → HaveSources made.items) }
+        ensures { IfOk result (λ made. unit_values made.items ≡ units_then self.units []) }
     {
         let mut units = self.units;
         units.end_text(alloc)?;
@@ -148,8 +144,7 @@ fn begins_free(lexemes: &[Lexeme<'_>]) -> bool
 /// What a phrase says.
 pub fn read_phrase(alloc: Global, lexemes: &[Lexeme<'_>]) -> Result<Vec<Unit>, Memory>
     requires { IsPhrase (values_of lexemes.now) }
-    ensures units { IfOk result (λ units. HasPhraseUnits (phrase_items (values_of lexemes.now)) (unit_values units.items)) }
-    ensures sources { IfOk result (λ units. HaveSources units.items) }
+    ensures { IfOk result (λ units. HasPhraseUnits (phrase_items (values_of lexemes.now)) (unit_values units.items)) }
 {
     let mut reader = PhraseReader::new(alloc);
     for (at, lexeme) in lexemes.iter().enumerate() {

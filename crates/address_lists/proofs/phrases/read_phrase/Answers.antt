@@ -13,14 +13,12 @@ take-requires c = stands_at may_stand_in_phrase c.args.lexemes.now c.loop-at.at 
 
 pub loop-at-preserved : goal.loop-at-preserved
 loop-at-preserved c =
-    let ls = c.args.lexemes.now in (
-      c.in_ok-take.ensures.reads (phrase_items (values_of ls)) (phrase_items (values_of (drop (c.loop-at.at + 1) ls))) (sym (rw take_rest at c.begins_free.ensures))
-          (subst (λ r. ReadsSoFar (phrase_items (values_of ls)) c.loop-at.reader (phrase_items (values_of r))) (drop_more ls c.loop-at.at _ c.loop-at-test.true) c.loop-at.invariant.0),
-      c.in_ok-take.ensures.sources c.loop-at.invariant.1,
-    )
-
-pub returns-clause-units : goal.returns-clause-units
-returns-clause-units c =
     let ls = c.args.lexemes.now in
-    let reads = subst (λ r. ReadsSoFar (phrase_items (values_of ls)) c.loop-at.reader (phrase_items (values_of r))) (drop_all c.loop-at.at ls (omega arith)) c.loop-at.invariant.0 in
-    IfOk-weaker c.finish.result _ _ (λ x p. rw (p) (end_reads (phrase_items (values_of ls)) c.loop-at.reader reads)) c.finish.ensures.units
+    c.in_ok-take.ensures (phrase_items (values_of ls)) (phrase_items (values_of (drop (c.loop-at.at + 1) ls))) (sym (rw take_rest at c.begins_free.ensures))
+    (subst (λ r. ReadsSoFar (phrase_items (values_of ls)) c.loop-at.reader (phrase_items (values_of r))) (drop_more ls c.loop-at.at _ c.loop-at-test.true) c.loop-at.invariant)
+
+pub returns : goal.returns
+returns c =
+    let ls = c.args.lexemes.now in
+    let reads = subst (λ r. ReadsSoFar (phrase_items (values_of ls)) c.loop-at.reader (phrase_items (values_of r))) (drop_all c.loop-at.at ls (omega arith)) c.loop-at.invariant in
+    IfOk-weaker c.finish.result _ _ (λ x p. rw (p) (end_reads (phrase_items (values_of ls)) c.loop-at.reader reads)) c.finish.ensures

@@ -1,0 +1,8 @@
+use Rattle.encoded_words.proofs.WritableUnits.{HasPhraseUnits-writable}
+use Rattle.address_lists.specs.Phrases.{phrase_items}
+use Rattle.address_lists.specs.Views.{values_of}
+use Rattle.address_lists.specs.ListViews.{unit_values}
+use Rattle.address_lists.proofs.writing.push_said.Goals as goal
+
+pub push_units-requires : goal.push_units-requires
+push_units-requires c = rw (c.deref.ensures.value) (HasPhraseUnits-writable (phrase_items (values_of c.args.lexemes.now)) (unit_values c.in_ok-units.units.items) c.requires.utf8 c.in_ok-units.ensures)

@@ -1,0 +1,199 @@
+//! The writer of phrases.
+ghost use Rattle.std.specs.Prelude.{◌≡◌, ◌++◌, ◌∷◌, [], ℕ, not, false, position, IfOk, OnOk};
+ghost use Rattle.std.specs.List.{AllByRecursion, list_all};
+ghost use Rattle.mail_wire.specs.Octets.{is_ascii as is_ascii_octet};
+ghost use Rattle.encoded_words.specs.PhraseUnits.{IsUtf8Item};
+ghost use Rattle.encoded_words.specs.Written.{AreWritable};
+ghost use Rattle.field_tokens.specs.Comments.{AreWritableComments, CommentsPieces, AddsPieces};
+ghost use Rattle.field_tokens.specs.Squeezed.{is_gap as is_gap_kind, is_comment as is_comment_kind, octets_of, comments_of};
+ghost use Rattle.address_lists.specs.Phrases.{IsPhrase, phrase_items};
+ghost use Rattle.address_lists.specs.PhrasePieces.{UnitsPieces, PhrasePieces, HasCore, PlacePieces};
+ghost use Rattle.address_lists.specs.PhraseSteps.{SkipsGaps, SplitsTrail};
+ghost use Rattle.address_lists.specs.Views.{value_of, values_of};
+ghost use Rattle.address_lists.specs.ListViews.{unit_values};
+
+use crate::lexemes::{Lexeme, is_blank};
+use crate::phrases::read_phrase;
+use encoded_words::Unit;
+use encoded_words::writing::write_units;
+use field_tokens::TokenKind;
+use field_tokens::comments::write_comment;
+use mail_wire::text::is_ascii;
+use mail_wire::values::{Memory, Octets};
+use std::alloc::Global;
+
+fn is_gap(lexeme: Lexeme<'_>) -> bool
+    ensures { result ≡ is_gap_kind (value_of lexeme.entry).kind }
+{
+    matches!(lexeme.kind, TokenKind::Gap)
+}
+
+fn is_comment(lexeme: Lexeme<'_>) -> bool
+    ensures { result ≡ is_comment_kind (value_of lexeme.entry).kind }
+{
+    matches!(lexeme.kind, TokenKind::Comment)
+}
+
+fn find_start(lexemes: &[Lexeme<'_>]) -> Option<usize>
+    ensures { result ≡ position (λ l. not (is_gap_kind (value_of l).kind)) lexemes.now }
+{
+    lexemes.iter().position(|lexeme| !is_gap(*lexeme))
+}
+
+/// What stands behind the gaps in front.
+fn behind_gaps<'a, 'b>(lexemes: &'b [Lexeme<'a>]) -> &'b [Lexeme<'a>]
+    ensures { SkipsGaps (values_of lexemes.now) (values_of result.now) }
+{
+    let Some(at) = find_start(lexemes) else {
+        return &[];
+    };
+    &lexemes[at..]
+}
+
+/// What goes to the last token that is neither gap nor comment, and what stands behind it.
+fn split_trail<'a, 'b>(lexemes: &'b [Lexeme<'a>]) -> (&'b [Lexeme<'a>], &'b [Lexeme<'a>])
+    ensures { SplitsTrail (values_of lexemes.now) (values_of result.0.now) (values_of result.1.now) }
+{
+    let mut end = lexemes.len();
+    while end > 0 && is_blank(lexemes[end - 1]) {
+        end -= 1;
+    }
+    lexemes.split_at(end)
+}
+
+/// The phrase from its first token that is no gap to its last word, and the gaps and comments behind it.
+fn split_core<'a, 'b>(lexemes: &'b [Lexeme<'a>]) -> (&'b [Lexeme<'a>], &'b [Lexeme<'a>])
+    requires { IsPhrase (values_of lexemes.now) }
+    ensures { HasCore (values_of lexemes.now) (values_of result.0.now) (values_of result.1.now) }
+{
+    split_trail(behind_gaps(lexemes))
+}
+
+/// The octets of tokens, one behind another.
+fn joined(alloc: Global, lexemes: &[Lexeme<'_>]) -> Result<Octets, Memory>
+    ensures { IfOk result (λ made. made ≡ octets_of (values_of lexemes.now)) }
+{
+    let mut made = Octets::new(alloc);
+    for lexeme in lexemes {
+        made.push_slice(lexeme.octets)?;
+    }
+    Ok(made)
+}
+
+/// Puts the pieces of units last, or an empty quoted string where there are none.
+fn push_units(alloc: Global, units: &[Unit], pieces: &mut Vec<Octets>) -> Result<(), Memory>
+    requires { AreWritable (unit_values units.now) }
+    ensures { OnOk result (AddsPieces (UnitsPieces (unit_values units.now)) pieces.old.items pieces.new.items) }
+{
+    if units.is_empty() {
+        let piece = Octets::from_slice(alloc, b"\"\"")?;
+        pieces.push(piece)?;
+        return Ok(());
+    }
+    write_units(alloc, units, pieces)
+}
+
+/// Puts the pieces of the comments among the tokens last.
+fn write_comments(
+    alloc: Global,
+    lexemes: &[Lexeme<'_>],
+    pieces: &mut Vec<Octets>,
+) -> Result<(), Memory>
+    requires { AreWritableComments (comments_of (values_of lexemes.now)) }
+    ensures { OnOk result (AddsPieces (CommentsPieces (comments_of (values_of lexemes.now))) pieces.old.items pieces.new.items) }
+{
+    for lexeme in lexemes {
+        if is_comment(*lexeme) {
+            write_comment(alloc, lexeme.octets, pieces)?;
+        }
+    }
+    Ok(())
+}
+
+/// Puts the pieces of what a phrase says last, and those of the comments in it.
+fn push_said(alloc: Global, lexemes: &[Lexeme<'_>], pieces: &mut Vec<Octets>) -> Result<(), Memory>
+    requires phrase { IsPhrase (values_of lexemes.now) }
+    requires utf8 { AllByRecursion IsUtf8Item (phrase_items (values_of lexemes.now)) }
+    requires comments { AreWritableComments (comments_of (values_of lexemes.now)) }
+    ensures { OnOk result (AddsPieces (PhrasePieces false (values_of lexemes.now)) pieces.old.items pieces.new.items) }
+{
+    let units = read_phrase(alloc, lexemes)?;
+    push_units(alloc, &units, pieces)?;
+    write_comments(alloc, lexemes, pieces)
+}
+
+/// Puts the pieces of a phrase last that ends with its last word.
+fn push_core(alloc: Global, lexemes: &[Lexeme<'_>], pieces: &mut Vec<Octets>) -> Result<(), Memory>
+    requires phrase { IsPhrase (values_of lexemes.now) }
+    requires utf8 { AllByRecursion IsUtf8Item (phrase_items (values_of lexemes.now)) }
+    requires comments { AreWritableComments (comments_of (values_of lexemes.now)) }
+    ensures { OnOk result (AddsPieces (PhrasePieces (list_all is_ascii_octet (octets_of (values_of lexemes.now))) (values_of lexemes.now)) pieces.old.items pieces.new.items) }
+{
+    let whole = joined(alloc, lexemes)?;
+    if is_ascii(whole.as_slice()) {
+        pieces.push(whole)?;
+        return Ok(());
+    }
+    push_said(alloc, lexemes, pieces)
+}
+
+/// Puts the pieces of a phrase last, and those of the comments behind it.
+pub fn write_phrase(
+    alloc: Global,
+    lexemes: &[Lexeme<'_>],
+    pieces: &mut Vec<Octets>,
+) -> Result<(), Memory>
+    requires phrase { IsPhrase (values_of lexemes.now) }
+    requires utf8 { AllByRecursion IsUtf8Item (phrase_items (values_of lexemes.now)) }
+    requires comments { AreWritableComments (comments_of (values_of lexemes.now)) }
+    ensures { OnOk result (AddsPieces (PlacePieces (values_of lexemes.now)) pieces.old.items pieces.new.items) }
+{
+    let (core, trail) = split_core(lexemes);
+    push_core(alloc, core, pieces)?;
+    write_comments(alloc, trail, pieces)
+}
+
+#[cfg(test)]
+mod tests {
+    use super::*;
+    use crate::lexemes::read_lexemes;
+    use crate::phrases::is_phrase;
+    use std::test::Fail;
+
+    fn is_written(rt: &HostRuntime, text: &str, wanted: &[&str]) -> Result<bool, Fail> {
+        let Ok(lexemes) = read_lexemes(rt.alloc(), text.as_bytes()) else {
+            return Ok(false);
+        };
+        if !is_phrase(&lexemes) {
+            return Ok(false);
+        }
+        let mut pieces = Vec::new(rt.alloc());
+        write_phrase(rt.alloc(), &lexemes, &mut pieces).map_err(|_| "memory")?;
+        if pieces.len() != wanted.len() {
+            return Ok(false);
+        }
+        for (at, piece) in wanted.iter().enumerate() {
+            if pieces[at].as_slice() != piece.as_bytes() {
+                return Ok(false);
+            }
+        }
+        Ok(true)
+    }
+
+    #[test]
+    fn phrases_are_written(rt: HostRuntime) -> Result<(), Fail> {
+        assert!(rt; is_written(&rt, "é", &["=?UTF-8?B?w6k=?="])?);
+        assert!(rt; is_written(&rt, " a b ", &["a b"])?);
+        assert!(rt;
+            is_written(
+                &rt,
+                "é =?x?Q?a?= b",
+                &["=?UTF-8?B?w6kg?=", "=?x?Q?a?=", "=?UTF-8?B?IGI=?="]
+            )?
+        );
+        assert!(rt; is_written(&rt, "\"\"é", &["=?UTF-8?B?w6k=?="])?);
+        assert!(rt; is_written(&rt, " \"é\" ", &["=?UTF-8?B?w6k=?="])?);
+        assert!(rt; is_written(&rt, "\"\" . a", &["\"\" . a"])?);
+        Ok(())
+    }
+}
