@@ -6,7 +6,7 @@ use Rattle.std.specs.List.{list_all, All, AllZip, concat}
 use Rattle.mail_wire.specs.Octets.{is_ascii}
 use Rattle.encoded_words.specs.Folding.{word_pieces, made_body}
 use Rattle.encoded_words.proofs.AllChunks.{AreBWords-some}
-use Rattle.utf8_fields.specs.Parts.{IsField, field_octets}
+use Rattle.utf8_fields.specs.Parts.{FieldParts, IsField, field_octets}
 use Rattle.utf8_fields.specs.declared.block.Field.{Field}
 use Rattle.utf8_fields.specs.Block.{HasBlock, raw_of}
 use Rattle.utf8_fields.proofs.HaveParts.{block_fields, have_parts}
@@ -14,14 +14,16 @@ use Rattle.field_downgrade.specs.declared.segments.Side.{Side}
 use Rattle.field_downgrade.specs.declared.segments.Side.TheVariants.{Edge, Encoded, Plain}
 use Rattle.field_downgrade.specs.Words.{Word, plain_text, last_run, is_high}
 use Rattle.field_downgrade.specs.Layout.{CutsLeft, CutsRight, IsCopied, begins_high, ends_high, first_side, last_side, copied_pieces, made_of}
-use Rattle.field_downgrade.specs.Steps.{NeedsRun, SplitsCopied, SplitsCore, BeginsCore, BeginsEncoded, CanWrite, WritesSegment, WritesWords}
+use Rattle.field_downgrade.specs.Steps.{NeedsRun, SplitsCopied, SplitsCore, BeginsCore, BeginsEncoded, CanWrite, WritesSegment, WritesWords, MakesUnstructured}
 use Rattle.field_downgrade.specs.Stands.{IsBuilt, IsHighField}
 use Rattle.field_downgrade.specs.Unbuilt.{IsUnbuilt, AreBuilt}
 use Rattle.field_downgrade.specs.Message.{IsServed, HasServedFields}
 use Rattle.field_downgrade.proofs.SegmentLemmas.{NotEncoded, EndsHigh, not_true}
 use Rattle.field_downgrade.proofs.Writing.{WritesOn, WritesOn-start, WritesOn-step, WritesOn-begins, WritesOn-end, WritesSegment-from, CanWrite-from, needs_left, needs_right, text_utf8, shorter}
 use Rattle.field_downgrade.proofs.UnbuiltLemmas.{IsBuilt-other}
-use Rattle.field_downgrade.proofs.Rewriting.{IsServed-from, IsServed-kept}
+use Rattle.field_downgrade.proofs.Rewriting.{IsServed-words, IsServed-other, IsServed-kept}
+use Rattle.field_downgrade.proofs.AllStructured.{structured_some, decide_unstructured}
+use Rattle.field_downgrade.specs.Kinds.{kind_named}
 use Rattle.field_downgrade.proofs.AllWords.{HasWords-some}
 
 -- The words before the first high one.
@@ -134,18 +136,26 @@ more_lines (suc n) words start made copied (w ∷ rest) small on =
     more_lines n words start lines.0 next.0 next.1 (omega (arith, small, shorter (w ∷ rest) core.0 core.1 next.0 next.1 core.2 next.2))
     (WritesOn-step words copied (w ∷ rest) core.0 core.1 next.0 next.1 start made lines.0 on core.2 next.2 lines.1)
 
+-- the layout of an unstructured field
+unstructured_some : (octets : List ℕ) (f : FieldParts) → IsHighField octets f → (made : List ℕ) × MakesUnstructured f made
+unstructured_some octets f high =
+    let words = HasWords-some f.body high.is_field.body high.is_field.utf8 in
+    let copied = split_copied words.0 in
+    let first : List ℕ = made_body (copied_pieces 32 copied.0) in
+    let lines = more_lines (length copied.1) words.0 [] first copied.0 copied.1 (omega arith) (WritesOn-start words.0 copied.0 copied.1 [] first words.1.are_words words.2 copied.2 refl) in
+    (field_octets (made_of f lines.1.pieces), record { words = words.0; pieces = lines.1.pieces; has_words = words.1; are_utf8 = words.2; have_pieces = lines.1.have; made_is = refl })
+
 pub IsServed-some : (octets : List ℕ) → IsField octets → IsBuilt octets → (made : List ℕ) × IsServed octets made
 IsServed-some octets is_any built = elim (cases_Bool (list_all is_ascii octets)) [
   | inl ascii ↦ (octets, IsServed-kept octets is_any ascii)
   | inr other ↦
       let f = is_any.parts in
       let high : IsHighField octets f = record { is_field = is_any.has_parts; high = other } in
-      let words = HasWords-some f.body is_any.has_parts.body is_any.has_parts.utf8 in
-      let copied = split_copied words.0 in
-      let first : List ℕ = made_body (copied_pieces 32 copied.0) in
-      let lines = more_lines (length copied.1) words.0 [] first copied.0 copied.1 (omega arith) (WritesOn-start words.0 copied.0 copied.1 [] first words.1.are_words words.2 copied.2 refl) in
-      let made : List ℕ = field_octets (made_of f lines.1.pieces) in
-      (made, IsServed-from octets made f high (built f high) (record { words = words.0; pieces = lines.1.pieces; has_words = words.1; are_utf8 = words.2; have_pieces = lines.1.have; made_is = refl }))
+      elim (decide_unstructured (kind_named f.name) (built f high).kind) [
+        | inl kind ↦ let made = unstructured_some octets f high in (made.0, IsServed-words octets made.0 f high (built f high) kind made.1)
+        | inr kind ↦
+            let g = structured_some octets f high kind in (field_octets g.0, IsServed-other octets (field_octets g.0) f g.0 high (built f high) kind.1 g.1 refl)
+      ]
 ]
 
 -- The same for each field of a message.

@@ -9,39 +9,27 @@ use Rattle.utf8_fields.specs.declared.block.Field.{Field}
 use Rattle.utf8_fields.specs.Block.{HasBlock, raw_of}
 use Rattle.utf8_fields.proofs.OneField.{HasParts-once}
 use Rattle.utf8_fields.proofs.HaveParts.{block_fields, have_parts}
-use Rattle.field_downgrade.specs.declared.kind.Kind.{Kind}
-use Rattle.field_downgrade.specs.declared.kind.Kind.TheVariants.{Unstructured, Addresses, Phrases, Params, Ids, Path, Typed, Trace, Plain}
 use Rattle.field_downgrade.specs.Kinds.{kind_named}
-use Rattle.field_downgrade.specs.Stands.{BeginsHyphen, IsUnstructuredName, IsBuilt, IsHighField, HasFieldLayout, Copied, Words}
+use Rattle.field_downgrade.specs.Stands.{BeginsHyphen, IsBuiltName, IsBuilt, IsHighField, HasFieldLayout, Copied, Made}
 use Rattle.field_downgrade.specs.Message.{IsServed, HasServedFields}
 use Rattle.field_downgrade.proofs.OneLayout.{HasFieldLayout-once}
+use Rattle.field_downgrade.proofs.UnbuiltLemmas.{decide_kind}
 use Rattle.field_downgrade.proofs.AllLayouts.{IsServed-some}
-
-decide_kind : (kind : Kind) → (kind ≡ Unstructured) ⊎ (kind ≢ Unstructured)
-decide_kind Unstructured = inl refl
-decide_kind Addresses = inr (λ e. cc e)
-decide_kind Phrases = inr (λ e. cc e)
-decide_kind (Params kind) = inr (λ e. cc e)
-decide_kind Ids = inr (λ e. cc e)
-decide_kind Path = inr (λ e. cc e)
-decide_kind Typed = inr (λ e. cc e)
-decide_kind Trace = inr (λ e. cc e)
-decide_kind Plain = inr (λ e. cc e)
 
 decide_hyphen : (name : List ℕ) → BeginsHyphen name ⊎ ¬ (BeginsHyphen name)
 decide_hyphen [] = inr (λ h. h)
 decide_hyphen (x ∷ name) = elim (cases_Bool (eqb x 45)) [ inl t ↦ inl (eqb-true x 45 t) | inr f ↦ inr (λ e. both_ways (eqb x 45) f (eq-eqb x 45 e)) ]
 
-decide_name : (name : List ℕ) → IsUnstructuredName name ⊎ ¬ (IsUnstructuredName name)
+decide_name : (name : List ℕ) → IsBuiltName name ⊎ ¬ (IsBuiltName name)
 decide_name name = elim (decide_kind (kind_named name)) [
   | inr fails ↦ inr (λ is. fails is.kind)
   | inl kind ↦ elim (decide_hyphen name) [ inl begins ↦ inr (λ is. is.no_hyphen begins) | inr none ↦ inl (record { kind = kind; no_hyphen = none }) ]
 ]
 
 -- the layout of a field with an octet above 127 has such a name
-layout_named : (octets made : List ℕ) (f : FieldParts) → IsHighField octets f → HasFieldLayout octets made → IsUnstructuredName f.name
+layout_named : (octets made : List ℕ) (f : FieldParts) → IsHighField octets f → HasFieldLayout octets made → IsBuiltName f.name
 layout_named octets made f high (Copied ascii same) = absurd (both_ways (list_all is_ascii octets) high.high ascii)
-layout_named octets made f high (Words g h other named layout made_is) = subst (λ (p : FieldParts). IsUnstructuredName p.name) (HasParts-once octets g f other.is_field high.is_field) named
+layout_named octets made f high (Made g h other named layout made_is) = subst (λ (p : FieldParts). IsBuiltName p.name) (HasParts-once octets g f other.is_field high.is_field) named
 
 -- whatever is served of a field is this
 pub IsServed-given : (octets : List ℕ) → IsField octets → (made : List ℕ) × ((other : List ℕ) → IsServed octets other → other ≡ made)
@@ -53,7 +41,7 @@ IsServed-given octets is_any = elim (cases_Bool (list_all is_ascii octets)) [
       elim (decide_name f.name) [
         | inr fails ↦ ([], λ other is. absurd (fails (layout_named octets other f high is.layout)))
         | inl named ↦
-            let built : IsBuilt octets = λ g other. subst (λ (p : FieldParts). IsUnstructuredName p.name) (HasParts-once octets f g is_any.has_parts other.is_field) named in
+            let built : IsBuilt octets = λ g other. subst (λ (p : FieldParts). IsBuiltName p.name) (HasParts-once octets f g is_any.has_parts other.is_field) named in
             let served = IsServed-some octets is_any built in
             (served.0, λ other is. HasFieldLayout-once octets other served.0 (HasParts-once octets) is.layout served.1.layout)
       ]

@@ -12,7 +12,14 @@ pub mod OneMeaning
 pub mod BlockFields
 pub mod UnbuiltLemmas
 pub mod MessageLemmas
+pub mod TrimLemmas
+pub mod PlainReading
+pub mod PlainTextLemmas
+pub mod StructuredValues
+pub mod StructuredFields
+pub mod StructuredWriting
 pub mod Rewriting
 pub mod OneLayout
+pub mod AllStructured
 pub mod AllLayouts
 pub mod GivenLayouts

@@ -1,5 +1,5 @@
 -- The made field: its folds, its octets, its value and its units.
-use Rattle.std.proofs.Common.{◌≡◌, ℕ, Bool, true, false, not, List, [], ◌∷◌, ◌++◌, map, get_or, refl, sym, ap, ◌∙◌, subst, arith, inl, inr}
+use Rattle.std.proofs.Common.{◌≡◌, ℕ, ◌<◌, length, Bool, true, false, not, List, [], ◌∷◌, ◌++◌, map, get_or, refl, sym, ap, ◌∙◌, subst, arith, inl, inr}
 use Rattle.std.proofs.lemmas.Bool.{and_parts, and_from, lt-ltb}
 use Rattle.std.proofs.lemmas.Bool.Decides.{nat_tests}
 use Rattle.std.proofs.lemmas.List.{append_assoc, append-nil}
@@ -100,7 +100,7 @@ chunks_are : (white : ℕ) (chunks : List (List ℕ)) → is_white white ≡ tru
 chunks_are white [] h are u = tt
 chunks_are white (c ∷ cs) h are u = let first = chunks_first c cs are u in (b_word_is c _ white h first.1 are.0, others_are cs are.1 first.2)
 
-words_are : (white : ℕ) (text : List ℕ) (b_words : List (List ℕ)) → is_white white ≡ true → IsUtf8 text → AreBWords text b_words → ArePieces (word_pieces white b_words)
+pub words_are : (white : ℕ) (text : List ℕ) (b_words : List (List ℕ)) → is_white white ≡ true → IsUtf8 text → AreBWords text b_words → ArePieces (word_pieces white b_words)
 words_are white text b_words h u are =
     let whole : text ≡ concat are.chunks = are.whole ∙ append-nil (concat are.chunks) in
     rw (are.spelled) (chunks_are white are.chunks h are.are_chunks (subst IsUtf8 whole u))
@@ -145,7 +145,7 @@ made-folded (p ∷ ps) are = IsFolded-append (crlf ++ p.white ∷ p.octets) (mad
 white_no_end : (x : ℕ) → is_white x ≡ true → is_line_end x ≡ false
 white_no_end x h = grind (arith, nat_tests)
 
-made-shows : (pieces : List Piece) → ArePieces pieces → without_ends (made_body pieces) ≡ behind pieces
+pub made-shows : (pieces : List Piece) → ArePieces pieces → without_ends (made_body pieces) ≡ behind pieces
 made-shows [] are = refl
 made-shows (p ∷ ps) are =
     without_ends-append (crlf ++ p.white ∷ p.octets) (made_body ps) ∙ rw (white_no_end p.white are.0.white, made-shows ps are.1) refl
@@ -223,22 +223,26 @@ IsSameMeaning-made octets f words pieces is kind has u have =
 IsAscii-from : (xs : List ℕ) → list_all is_ascii xs ≡ true → IsAscii xs
 IsAscii-from xs h = ascii_literal xs h
 
+-- a field of these pieces is a field, with the last CRLF of the original
+pub HasParts-pieces : (octets : List ℕ) (f g : FieldParts) (pieces : List Piece) → HasParts octets f → ArePieces pieces → 0 < length g.name → list_all is_name_octet g.name ≡ true → g.white ≡ []
+    → g.body ≡ made_body pieces → g.ending ≡ f.ending → HasParts (field_octets g) g
+HasParts-pieces octets f g pieces is are named name white body ending = record {
+  spelled = refl;
+  named = named;
+  name = name;
+  white = rw white refl;
+  body = rw body (made-folded pieces are);
+  utf8 = rw body (IsUtf8-from_ascii (made_body pieces) (IsAscii-from (made_body pieces) (made-ascii pieces are)));
+  ending = rw ending is.ending;
+}
+
 -- The made field is a field, with the name of the original and its last CRLF.
 pub HasParts-made : (octets : List ℕ) (f : FieldParts) (words : List Word) (pieces : List Piece) → HasParts octets f → HasWords f.body words → AreUtf8 words → HavePieces words pieces
     → HasParts (field_octets (made_of f pieces)) (made_of f pieces)
 HasParts-made octets f words pieces is has u have =
-    let are = ArePieces-from words pieces has.are_words u have in
-    record {
-      spelled = refl;
-      named = is.named;
-      name = is.name;
-      white = refl;
-      body = made-folded pieces are;
-      utf8 = IsUtf8-from_ascii (made_body pieces) (IsAscii-from (made_body pieces) (made-ascii pieces are));
-      ending = is.ending;
-    }
+    HasParts-pieces octets f (made_of f pieces) pieces is (ArePieces-from words pieces has.are_words u have) is.named is.name refl refl refl
 
-name_ascii : (xs : List ℕ) → list_all is_name_octet xs ≡ true → list_all is_ascii xs ≡ true
+pub name_ascii : (xs : List ℕ) → list_all is_name_octet xs ≡ true → list_all is_ascii xs ≡ true
 name_ascii [] h = refl
 name_ascii (x ∷ xs) h =
     let parts = and_parts (is_name_octet x) (list_all is_name_octet xs) h in
@@ -248,9 +252,13 @@ name_ascii (x ∷ xs) h =
     one x h = grind (arith, nat_tests)
 
 -- all its octets are below 128
+pub pieces-ascii : (octets : List ℕ) (f g : FieldParts) (pieces : List Piece) → HasParts octets f → ArePieces pieces → list_all is_name_octet g.name ≡ true → g.white ≡ []
+    → g.body ≡ made_body pieces → g.ending ≡ f.ending → list_all is_ascii (field_octets g) ≡ true
+pieces-ascii octets f g pieces is are name white body end =
+    let ending : list_all is_ascii f.ending ≡ true = elim is.ending [ inl e ↦ rw e refl | inr e ↦ rw e refl ] in
+    rw (white, body, end)
+    (all_append is_ascii g.name (58 ∷ (made_body pieces ++ f.ending)) (name_ascii g.name name) (all_append is_ascii (made_body pieces) f.ending (made-ascii pieces are) ending))
+
 pub field_ascii : (octets : List ℕ) (f : FieldParts) (words : List Word) (pieces : List Piece) → HasParts octets f → HasWords f.body words → AreUtf8 words → HavePieces words pieces
     → list_all is_ascii (field_octets (made_of f pieces)) ≡ true
-field_ascii octets f words pieces is has u have =
-    let are = ArePieces-from words pieces has.are_words u have in
-    let ending : list_all is_ascii f.ending ≡ true = elim is.ending [ inl e ↦ rw e refl | inr e ↦ rw e refl ] in
-    all_append is_ascii f.name (58 ∷ (made_body pieces ++ f.ending)) (name_ascii f.name is.name) (all_append is_ascii (made_body pieces) f.ending (made-ascii pieces are) ending)
+field_ascii octets f words pieces is has u have = pieces-ascii octets f (made_of f pieces) pieces is (ArePieces-from words pieces has.are_words u have) is.name refl refl refl

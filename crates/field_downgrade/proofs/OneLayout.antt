@@ -12,11 +12,16 @@ use Rattle.encoded_words.proofs.Chunks.{AreBWords-once}
 use Rattle.mail_wire.proofs.SpanLemmas.{span_once}
 use Rattle.field_downgrade.specs.declared.segments.Side.{Side}
 use Rattle.field_downgrade.specs.declared.segments.Side.TheVariants.{Edge, Encoded, Plain}
-use Rattle.utf8_fields.specs.Parts.{FieldParts, HasParts, field_octets}
+use Rattle.utf8_fields.specs.Parts.{FieldParts, HasParts, HasValue, field_octets}
 use Rattle.field_downgrade.specs.Words.{Word, AreWords, HasWords, Divides, TellsEncoded, run_of, last_run, plain_text, word_octets, is_word_octet, is_gap_octet, is_high}
-use Rattle.field_downgrade.specs.Layout.{CutsLeft, CutsRight, Segment, segment_words, Parts, AreSegments, IsCopied, begins_high, ends_high, first_side, last_side, Gives, GiveAll, HavePieces, HasUnstructuredLayout, made_of}
-use Rattle.encoded_words.specs.Folding.{Piece}
-use Rattle.field_downgrade.specs.Stands.{HasFieldLayout, Copied, Words}
+use Rattle.field_downgrade.specs.Layout.{CutsLeft, CutsRight, Segment, segment_words, Parts, AreSegments, IsCopied, begins_high, ends_high, first_side, last_side, Gives, GiveAll, HavePieces, HasUnstructuredLayout, made_of, spaced}
+use Rattle.encoded_words.specs.Folding.{Piece, word_pieces}
+use Rattle.encoded_words.proofs.AllUnits.{HasUnits-some}
+use Rattle.field_downgrade.specs.declared.kind.Kind.TheVariants.{Unstructured}
+use Rattle.field_downgrade.specs.Kinds.{kind_named}
+use Rattle.field_downgrade.specs.Stands.{HasFieldLayout, Copied, Made, HasHighLayout, OfWords, OfPieces, Encapsulated, KeptMalformed, Meaning, Units, Means, IsMalformed, ValuePieces, OfPhrases, OfPlain, downgraded_of, is_encoding_name}
+use Rattle.field_downgrade.proofs.StructuredValues.{ValuePieces-once, ValuePieces-says}
+use Rattle.field_downgrade.proofs.OneMeaning.{HasValue-once}
 
 -- Words.
 tells_once : (a b : Bool) (octets : List ℕ) → TellsEncoded a octets → TellsEncoded b octets → a ≡ b
@@ -253,12 +258,55 @@ layout_once f g h p q =
     let pieces : p.pieces ≡ q.pieces = pieces_once q.words p.pieces q.pieces (subst (λ ws. HavePieces ws p.pieces) words p.have_pieces) q.have_pieces in
     p.made ∙ ap (made_of f) pieces ∙ sym q.made
 
+-- an unstructured value says its units
+units_mean : (f : FieldParts) (value : List ℕ) → kind_named f.name ≡ Unstructured → HasValue f.body value → (meaning : Meaning) × Means f meaning
+units_mean f value kind has = let units = HasUnits-some value in (Units units.0, record { value = value; has_value = has; says = (kind, units.1) })
+
+-- no value of a kind is malformed
+pieces_mean : (f : FieldParts) (value : List ℕ) (pieces : List (List ℕ)) → HasValue f.body value → ValuePieces f.name value pieces → IsMalformed f → ⊥
+pieces_mean f value pieces has values malformed =
+    let said = ValuePieces-says f.name value pieces values in malformed said.0 (record { value = value; has_value = has; says = said.1 })
+
+words_mean : (f : FieldParts) (value : List ℕ) → kind_named f.name ≡ Unstructured → HasValue f.body value → IsMalformed f → ⊥
+words_mean f value kind has malformed = let said = units_mean f value kind has in malformed said.0 said.1
+
+not_unstructured : (name value : List ℕ) (pieces : List (List ℕ)) → ValuePieces name value pieces → kind_named name ≡ Unstructured → ⊥
+not_unstructured name value pieces (OfPhrases kind p) unstructured = let no = sym kind ∙ unstructured in cc no
+not_unstructured name value pieces (OfPlain kind p) unstructured = let no = sym kind ∙ unstructured in cc no
+
+one_value : (f : FieldParts) (value other : List ℕ) (words others : List (List ℕ)) → HasValue f.body value → HasValue f.body other → AreBWords value words → AreBWords other others → words ≡ others
+one_value f value other words others has has' are are' =
+    AreBWords-once other words others (subst (λ v. AreBWords v words) (HasValue-once f.body value other has has') are) are'
+
+high_once : (f g h : FieldParts) → HasHighLayout f g → HasHighLayout f h → g ≡ h
+high_once f g h (OfWords kind p) (OfWords kind' q) = layout_once f g h p q
+high_once f g h (OfWords kind p) (OfPieces value pieces has values e) = absurd (not_unstructured f.name value pieces values kind)
+high_once f g h (OfWords kind p) (Encapsulated value words malformed other has are e) = absurd (words_mean f value kind has malformed)
+high_once f g h (OfWords kind p) (KeptMalformed value words malformed encoding has are e) = absurd (words_mean f value kind has malformed)
+high_once f g h (OfPieces value pieces has values e) (OfWords kind q) = absurd (not_unstructured f.name value pieces values kind)
+high_once f g h (OfPieces value pieces has values e) (OfPieces value' pieces' has' values' e') =
+    let same : value ≡ value' = HasValue-once f.body value value' has has' in
+    let made : pieces ≡ pieces' = ValuePieces-once f.name value' pieces pieces' (subst (λ v. ValuePieces f.name v pieces) same values) values' in
+    e ∙ ap (λ ps. made_of f (spaced ps)) made ∙ sym e'
+high_once f g h (OfPieces value pieces has values e) (Encapsulated value' words malformed other has' are e') = absurd (pieces_mean f value pieces has values malformed)
+high_once f g h (OfPieces value pieces has values e) (KeptMalformed value' words malformed encoding has' are e') = absurd (pieces_mean f value pieces has values malformed)
+high_once f g h (Encapsulated value words malformed other has are e) (OfWords kind q) = absurd (words_mean f value kind has malformed)
+high_once f g h (Encapsulated value words malformed other has are e) (OfPieces value' pieces has' values e') = absurd (pieces_mean f value' pieces has' values malformed)
+high_once f g h (Encapsulated value words malformed other has are e) (Encapsulated value' words' malformed' other' has' are' e') =
+    e ∙ ap (λ ws. downgraded_of f (word_pieces 32 ws)) (one_value f value value' words words' has has' are are') ∙ sym e'
+high_once f g h (Encapsulated value words malformed other has are e) (KeptMalformed value' words' malformed' encoding has' are' e') = absurd (both_ways (is_encoding_name f.name) other encoding)
+high_once f g h (KeptMalformed value words malformed encoding has are e) (OfWords kind q) = absurd (words_mean f value kind has malformed)
+high_once f g h (KeptMalformed value words malformed encoding has are e) (OfPieces value' pieces has' values e') = absurd (pieces_mean f value' pieces has' values malformed)
+high_once f g h (KeptMalformed value words malformed encoding has are e) (Encapsulated value' words' malformed' other has' are' e') = absurd (both_ways (is_encoding_name f.name) other encoding)
+high_once f g h (KeptMalformed value words malformed encoding has are e) (KeptMalformed value' words' malformed' encoding' has' are' e') =
+    e ∙ ap (λ ws. made_of f (word_pieces 32 ws)) (one_value f value value' words words' has has' are are') ∙ sym e'
+
 -- A field has one layout, where it has one list of parts.
 pub HasFieldLayout-once : (octets a b : List ℕ) → ((f g : FieldParts) → HasParts octets f → HasParts octets g → f ≡ g) → HasFieldLayout octets a → HasFieldLayout octets b → a ≡ b
 HasFieldLayout-once octets a b parts_once (Copied low e) (Copied low' e') = e ∙ sym e'
-HasFieldLayout-once octets a b parts_once (Copied low e) (Words f g high kind layout e') = absurd (both_ways (list_all is_ascii octets) high.high low)
-HasFieldLayout-once octets a b parts_once (Words f g high kind layout e) (Copied low e') = absurd (both_ways (list_all is_ascii octets) high.high low)
-HasFieldLayout-once octets a b parts_once (Words f g high kind layout e) (Words f' g' high' kind' layout' e') =
+HasFieldLayout-once octets a b parts_once (Copied low e) (Made f g high named layout e') = absurd (both_ways (list_all is_ascii octets) high.high low)
+HasFieldLayout-once octets a b parts_once (Made f g high named layout e) (Copied low e') = absurd (both_ways (list_all is_ascii octets) high.high low)
+HasFieldLayout-once octets a b parts_once (Made f g high named layout e) (Made f' g' high' named' layout' e') =
     let same : f ≡ f' = parts_once f f' high.is_field high'.is_field in
-    let made : g ≡ g' = layout_once f' g g' (subst (λ (p : FieldParts). HasUnstructuredLayout p g) same layout) layout' in
+    let made : g ≡ g' = high_once f' g g' (subst (λ (p : FieldParts). HasHighLayout p g) same layout) layout' in
     e ∙ ap field_octets made ∙ sym e'

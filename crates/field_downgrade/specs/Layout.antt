@@ -1,5 +1,5 @@
 -- The layout of an unstructured field.
-use Rattle.std.specs.Prelude.{◌≡◌, ℕ, Bool, true, false, not, if◌then◌else◌, List, [], ◌∷◌, ◌++◌}
+use Rattle.std.specs.Prelude.{◌≡◌, ℕ, Bool, true, false, not, if◌then◌else◌, List, [], ◌∷◌, ◌++◌, map}
 use Rattle.std.specs.List.{list_all, list_any, flat_map}
 use Rattle.encoded_words.specs.Pieces.{AreBWords}
 use Rattle.encoded_words.specs.Folding.{Piece, made_body, word_pieces}
@@ -7,6 +7,10 @@ use Rattle.utf8_fields.specs.Parts.{FieldParts}
 use Rattle.field_downgrade.specs.declared.segments.Side.{Side}
 use Rattle.field_downgrade.specs.declared.segments.Side.TheVariants.{Edge, Encoded, Plain}
 use Rattle.field_downgrade.specs.Words.{Word, HasWords, copied_octets, plain_text, last_run, is_high}
+
+-- pieces on lines of their own, each behind a space
+abbrev pub spaced : List (List ℕ) → List Piece
+spaced pieces = map (λ octets. record { white = 32; octets = octets }) pieces
 
 -- name, colon, the pieces, and CRLF where the original has it
 abbrev pub made_of : FieldParts → List Piece → FieldParts

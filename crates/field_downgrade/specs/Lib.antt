@@ -1,6 +1,8 @@
 pub mod Kinds
 pub mod Words
 pub mod Layout
+pub mod PlainTexts
+pub mod PlainSteps
 pub mod Stands
 pub mod Unbuilt
 pub mod Message

@@ -1,12 +1,19 @@
 -- What the steps of the code do.
-use Rattle.std.specs.Prelude.{◌≡◌, ℕ, ◌<◌, true, false, not, List, [], ◌∷◌, ◌++◌, length}
+use Rattle.std.specs.Prelude.{◌≡◌, ◌≢◌, ℕ, ◌<◌, true, false, not, List, [], ◌∷◌, ◌++◌, length}
 use Rattle.std.specs.List.{list_all}
 use Rattle.field_downgrade.specs.declared.segments.Side.{Side}
 use Rattle.field_downgrade.specs.declared.segments.Side.TheVariants.{Edge, Encoded, Plain}
 use Rattle.field_downgrade.specs.Words.{Word, AreWords, AreUtf8, HasWords, is_high, last_run}
 use Rattle.field_downgrade.specs.Layout.{IsCopied, begins_high, ends_high, last_side, Gives, HavePieces, made_of}
-use Rattle.encoded_words.specs.Folding.{Piece, made_body}
+use Rattle.encoded_words.specs.Folding.{Piece, made_body, word_pieces}
+use Rattle.encoded_words.specs.Pieces.{AreBWords}
+use Rattle.mail_wire.specs.Octets.{is_white}
+use Rattle.mail_wire.specs.Spans.{StopsBehind}
 use Rattle.utf8_fields.specs.Parts.{FieldParts, field_octets}
+use Rattle.field_downgrade.specs.declared.kind.Kind.{Kind}
+use Rattle.field_downgrade.specs.declared.kind.Kind.TheVariants.{Unstructured}
+use Rattle.field_downgrade.specs.Kinds.{kind_named}
+use Rattle.field_downgrade.specs.Stands.{IsBuiltKind, HasHighLayout}
 
 -- beside a word there is white
 abbrev pub NeedsRun : Side → List ℕ → Type 0
@@ -76,3 +83,25 @@ pub record MakesUnstructured (f : FieldParts) (made : List ℕ) : Type 0 where
   pub are_utf8 : AreUtf8 words
   pub have_pieces : HavePieces words pieces
   pub made_is : made ≡ field_octets (made_of f pieces)
+
+-- the octets are the field f, made anew
+pub data MakesField (f : FieldParts) (made : List ℕ) : Type 0 where
+  OfUnstructured : kind_named f.name ≡ Unstructured → MakesUnstructured f made → MakesField f made
+  OfOther : (g : FieldParts) → kind_named f.name ≢ Unstructured → HasHighLayout f g → made ≡ field_octets g → MakesField f made
+
+-- the kind is built, and isn't unstructured
+abbrev pub IsStructured : Kind → Type 0
+IsStructured kind = IsBuiltKind kind × (kind ≢ Unstructured)
+
+-- a field of these parts with the B words of the value was added
+pub record AddsWordField (made_parts : List Piece → FieldParts) (value old new : List ℕ) : Type 0 where
+  pub words : List (List ℕ)
+  pub are_words : AreBWords value words
+  pub added : new ≡ old ++ field_octets (made_parts (word_pieces 32 words))
+
+-- the octets without the white at their end
+pub record TrimsEnd (octets trimmed : List ℕ) : Type 0 where
+  pub trail : List ℕ
+  pub white : list_all is_white trail ≡ true
+  pub whole : octets ≡ trimmed ++ trail
+  pub ends : StopsBehind is_white trimmed

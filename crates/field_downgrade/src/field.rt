@@ -10,7 +10,9 @@ ghost use Rattle.field_downgrade.specs.Steps.{Adds, MakesUnstructured};
 ghost use Rattle.field_downgrade.specs.Stands.{IsBuilt, HasFieldLayout, Stands, KeepsLines};
 ghost use Rattle.field_downgrade.specs.Message.{IsServed};
 
+use crate::kind::is_unstructured;
 use crate::segments::write_pieces;
+use crate::structured::push_structured;
 use crate::words::words;
 use mail_wire::text::is_ascii;
 use mail_wire::values::{Memory, Octets};
@@ -45,7 +47,11 @@ fn push_high(alloc: Global, raw: &[u8], made: &mut Octets) -> Result<(), Memory>
     ensures { OnOk result (Adds (IsServed raw.now) made.old made.new) }
 {
     let parts = split_field(raw);
-    push_unstructured(alloc, &parts, made)
+    if is_unstructured(parts.name) {
+        push_unstructured(alloc, &parts, made)
+    } else {
+        push_structured(alloc, made, &parts)
+    }
 }
 
 /// Puts a field last, as it is served. After want of memory a part of it was put.

@@ -1,7 +1,8 @@
 //! The kinds of fields.
-ghost use Rattle.std.specs.Prelude.{◌≡◌};
+ghost use Rattle.std.specs.Prelude.{◌≡◌, ◌↔◌, IsTrue};
 ghost use Rattle.mail_wire.specs.Octets.{same_name};
 ghost use Rattle.field_downgrade.specs.Kinds.{is_originator_name, is_destination_name, is_resent_originator_name, is_resent_destination_name, is_address_name, is_id_name, is_plain_name, kind_named};
+ghost use Rattle.field_downgrade.specs.declared.kind.Kind.{Kind};
 
 use mail_wire::text::is_same_name;
 
@@ -117,4 +118,17 @@ pub fn kind_of(name: &[u8]) -> Kind
     } else {
         Kind::Unstructured
     }
+}
+
+pub(crate) fn is_unstructured(name: &[u8]) -> bool
+    ensures { IsTrue result ↔ (kind_named name.now ≡ Kind.Unstructured) }
+{
+    matches!(kind_of(name), Kind::Unstructured)
+}
+
+/// Whether fields of a name are phrases that commas divide.
+pub(crate) fn is_phrases(name: &[u8]) -> bool
+    ensures { IsTrue result ↔ (kind_named name.now ≡ Kind.Phrases) }
+{
+    matches!(kind_of(name), Kind::Phrases)
 }

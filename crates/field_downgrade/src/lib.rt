@@ -6,9 +6,12 @@ pub mod kind;
 pub mod laws;
 mod lines;
 pub mod message;
+mod plain;
 mod segments;
+mod structured;
 #[cfg(test)]
 mod tests;
 mod unbuilt;
+mod values;
 mod word;
 mod words;

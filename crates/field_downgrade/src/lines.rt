@@ -10,8 +10,8 @@ use crate::word::Word;
 use mail_wire::text::push_unfolded;
 use mail_wire::values::{Memory, Octets};
 
-// Begins a line of a made field: CRLF and a white octet.
-fn begin_line(made: &mut Octets, white: u8) -> Result<(), Memory>
+/// Begins a line of a made field: CRLF and a white octet.
+pub fn begin_line(made: &mut Octets, white: u8) -> Result<(), Memory>
     ensures { OnOk result (made.new ≡ made.old ++ (crlf ++ white ∷ [])) }
 {
     made.push_slice(b"\r\n")?;

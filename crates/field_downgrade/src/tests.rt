@@ -2,11 +2,11 @@
 use crate::field::{Rewrite, downgrade_field};
 use crate::kind::{Kind, ParamKind, kind_of};
 use crate::message::{downgrade_message, first_unbuilt, raw_of};
+use crate::unbuilt::is_unbuilt;
 use std::test::Fail;
-use utf8_fields::parts::split_field;
 use utf8_fields::reading::read_block;
 
-// Rewrites the only field of a message, where its name lets it, and compares.
+// Rewrites the only field of a message, where it can be rewritten, and compares.
 fn gives(rt: &HostRuntime, msg: &[u8], want: &[u8]) -> bool {
     let Ok(block) = read_block(rt.alloc(), msg) else {
         return false;
@@ -15,8 +15,7 @@ fn gives(rt: &HostRuntime, msg: &[u8], want: &[u8]) -> bool {
         return false;
     };
     let raw = raw_of(msg, field);
-    let name = split_field(raw).name;
-    if kind_of(name) != Kind::Unstructured || name.starts_with(b"-") {
+    if is_unbuilt(raw) {
         return false;
     }
     match downgrade_field(rt.alloc(), raw, false) {
@@ -111,13 +110,79 @@ fn rows_of_runs_and_folds(rt: HostRuntime) -> Result<(), Fail> {
 }
 
 #[test]
+fn rows_of_keywords(rt: HostRuntime) -> Result<(), Fail> {
+    assert!(rt;
+        gives(
+            &rt,
+            "Keywords: é, b\r\n".as_bytes(),
+            b"Keywords:\r\n =?UTF-8?B?w6k=?=\r\n ,\r\n b\r\n"
+        )
+    );
+    assert!(rt;
+        gives(
+            &rt,
+            "Keywords: (é)\"\"\r\n".as_bytes(),
+            b"Keywords:\r\n \"\"\r\n (\r\n =?UTF-8?B?w6k=?=\r\n )\r\n"
+        )
+    );
+    assert!(rt;
+        gives(
+            &rt,
+            "keywords : é =?UTF-8?Q?x?=.\"y\"".as_bytes(),
+            b"keywords:\r\n =?UTF-8?B?w6kgPT9VVEYtOD9RP3g/PS55?="
+        )
+    );
+    assert!(rt;
+        gives(
+            &rt,
+            "Keywords: é,,b\r\n".as_bytes(),
+            b"Downgraded-Keywords:\r\n =?UTF-8?B?w6ksLGI=?=\r\n"
+        )
+    );
+    Ok(())
+}
+
+#[test]
+fn rows_of_dates_and_encodings(rt: HostRuntime) -> Result<(), Fail> {
+    assert!(rt;
+        gives(
+            &rt,
+            "Date: Thu, 01 Jan 1970 00:00:00 +0000 (é)\r\n".as_bytes(),
+            b"Date:\r\n Thu, 01 Jan 1970 00:00:00 +0000\r\n (\r\n =?UTF-8?B?w6k=?=\r\n )\r\n"
+        )
+    );
+    assert!(rt;
+        gives(
+            &rt,
+            "Date: (é\\ )\r\n".as_bytes(),
+            b"Date:\r\n (\r\n =?UTF-8?B?w6kg?=\r\n )\r\n"
+        )
+    );
+    assert!(rt;
+        gives(
+            &rt,
+            "MIME-Version: é\r\n".as_bytes(),
+            b"Downgraded-MIME-Version:\r\n =?UTF-8?B?w6k=?=\r\n"
+        )
+    );
+    assert!(rt;
+        gives(
+            &rt,
+            "Content-Transfer-Encoding: é".as_bytes(),
+            b"Content-Transfer-Encoding:\r\n =?UTF-8?B?w6k=?="
+        )
+    );
+    Ok(())
+}
+
+#[test]
 fn first_unbuilt_is_where_it_stands(rt: HostRuntime) -> Result<(), Fail> {
-    assert!(rt; unbuilt_at(&rt, "Subject: =?é\r\n\r\n") == Some(0));
+    assert!(rt; unbuilt_at(&rt, "-: é\r\n\r\n") == Some(0));
     assert!(rt; unbuilt_at(&rt, "A: b\r\nTo: é\r\n\r\n") == Some(6));
     assert!(rt; unbuilt_at(&rt, "A: é\r\n-x: é\r\n") == Some(7));
-    assert!(rt; unbuilt_at(&rt, "A: é\r\n b\r\n") == Some(0));
+    assert!(rt; unbuilt_at(&rt, "A: é\r\nDate: é\r\nReceived: é\r\n") == Some(17));
     assert!(rt; unbuilt_at(&rt, "To: a\r\ncontent-type: a\r\n") == Some(7));
-    assert!(rt; unbuilt_at(&rt, "To: =?\r\n -\r\nSubject: é\r\n").is_none());
+    assert!(rt; unbuilt_at(&rt, "To: =?\r\n -\r\nSubject: =?\r\n é\r\nKeywords: ,é\r\n").is_none());
     Ok(())
 }
 

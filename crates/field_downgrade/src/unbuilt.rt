@@ -1,29 +1,25 @@
 //! Which fields can't be rewritten yet.
 ghost use Rattle.std.specs.Prelude.{◌↔◌, IsTrue};
 ghost use Rattle.utf8_fields.specs.Parts.{IsField};
-ghost use Rattle.field_downgrade.specs.Unbuilt.{Holds, IsHard, IsUnbuilt};
-ghost use Rattle.utf8_fields.specs.Views.{parts_of};
+ghost use Rattle.field_downgrade.specs.Unbuilt.{IsHardName, IsUnbuilt};
+ghost use Rattle.field_downgrade.specs.Stands.{IsBuiltKind};
 
 use crate::kind::{Kind, kind_of};
 use mail_wire::text::{is_ascii, is_same_name};
-use memchr::memmem;
-use utf8_fields::parts::{Parts, split_field};
+use utf8_fields::parts::split_field;
 
-// Whether these octets stand in a text.
-fn holds(text: &[u8], octets: &[u8]) -> bool
-    ensures { IsTrue result ↔ Holds text.now octets.now }
+// Whether fields of a kind can be rewritten.
+fn is_built_kind(kind: Kind) -> bool
+    ensures { IsTrue result ↔ IsBuiltKind kind }
 {
-    memmem::find(text, octets).is_some()
+    matches!(kind, Kind::Unstructured | Kind::Phrases | Kind::Plain)
 }
 
-// Whether a field with an octet above 127 is unbuilt.
-fn is_hard(parts: &Parts<'_>) -> bool
-    ensures { IsTrue result ↔ IsHard (parts_of parts.now) }
+// Whether a field of this name with an octet above 127 is unbuilt.
+fn is_hard(name: &[u8]) -> bool
+    ensures { IsTrue result ↔ IsHardName name.now }
 {
-    kind_of(parts.name) != Kind::Unstructured
-        || parts.name.starts_with(b"-")
-        || holds(parts.body, b"=?")
-        || holds(parts.body, b"\r\n")
+    !is_built_kind(kind_of(name)) || name.starts_with(b"-")
 }
 
 /// Whether a field can't be rewritten yet.
@@ -32,5 +28,5 @@ pub(crate) fn is_unbuilt(raw: &[u8]) -> bool
     ensures { IsTrue result ↔ IsUnbuilt raw.now }
 {
     let parts = split_field(raw);
-    is_same_name(parts.name, b"Content-Type") || (!is_ascii(raw) && is_hard(&parts))
+    is_same_name(parts.name, b"Content-Type") || (!is_ascii(raw) && is_hard(parts.name))
 }

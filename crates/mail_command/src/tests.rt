@@ -51,7 +51,11 @@ fn rows_of_downgrade(rt: HostRuntime) -> Result<(), Fail> {
             0,
             "A: b\r\nSubject:\r\n abc\r\n =?UTF-8?B?IMOpIA==?=\r\n def\r\n",
         ),
-        ("Subject: =?é\r\n\r\n", 10, "not built at 0\r\n"),
+        (
+            "Keywords: é, b\r\nDate: 1\r\n (é)\r\n",
+            0,
+            "Keywords:\r\n =?UTF-8?B?w6k=?=\r\n ,\r\n b\r\nDate:\r\n 1\r\n (\r\n =?UTF-8?B?w6k=?=\r\n )\r\n",
+        ),
         ("A: b\r\nTo: é\r\n\r\n", 10, "not built at 6\r\n"),
         ("Subject", 7, "refused\r\n"),
         ("A: b\n", 7, "refused\r\n"),

@@ -1,0 +1,234 @@
+-- A structured field is made of its pieces, or keeps its value as B words.
+use Rattle.std.proofs.Common.{◌≡◌, ◌≢◌, ℕ, ◌<◌, Bool, true, false, not, ◌&&◌, inl, inr, ◌⊎◌, List, [], ◌∷◌, ◌++◌, Some, length, map, codes, refl, sym, ap, ◌∙◌, subst, arith}
+use Rattle.std.proofs.lemmas.Bool.{and_parts, and_from, both_ways, cases_Bool, true≢false}
+use Rattle.std.proofs.lemmas.Bool.Decides.{nat_tests}
+use Rattle.std.proofs.lemmas.List.{append-nil, append_assoc}
+use Rattle.std.proofs.lemmas.Str.{IsUtf8-append}
+use Rattle.std.specs.List.{AllByRecursion, concat, join_with_byte, list_all}
+use Rattle.std.proofs.lemmas.Slice.Eq.{bytes_eq-Decides}
+use Rattle.std.specs.Str.{IsUtf8, str_to_ascii_lowercase}
+use Rattle.mail_wire.specs.Octets.{is_white, is_ascii, is_line_end, same_name}
+use Rattle.mail_wire.specs.Folds.{unfolded, IsFolded}
+use Rattle.mail_wire.specs.Spans.{Stops, StopsBehind, IsTrimmed}
+use Rattle.mail_wire.proofs.Folded.{without_ends, unfolded-folded, IsFolded-plain}
+use Rattle.encoded_words.specs.Folding.{Piece, made_body, word_pieces}
+use Rattle.encoded_words.specs.Pieces.{AreBWords, b_word}
+use Rattle.encoded_words.specs.Words.{Text}
+use Rattle.encapsulated_fields.specs.Encapsulated.{downgraded_name}
+use Rattle.encapsulated_fields.proofs.EncapsulatedLemmas.{words_say, all_imp}
+use Rattle.encoded_words.proofs.Octets.{all_append}
+use Rattle.field_tokens.proofs.TokenLines.{BothUtf8, BeginsAscii, before_ascii, behind_ascii, all_ascii}
+use Rattle.field_tokens.specs.TokenOctets.{is_line_octet}
+use Rattle.field_tokens.specs.Comments.{CommentValue, IsLinePiece}
+use Rattle.utf8_fields.specs.Lines.{is_name_octet}
+use Rattle.utf8_fields.specs.Parts.{FieldParts, HasParts, HasValue, field_octets}
+use Rattle.field_downgrade.specs.Layout.{made_of, spaced}
+use Rattle.field_downgrade.specs.Kinds.{kind_named, is_address_name, is_originator_name, is_destination_name, is_resent_originator_name, is_resent_destination_name, is_id_name, is_plain_name}
+use Rattle.field_downgrade.specs.declared.kind.Kind.TheVariants.{Plain}
+use Rattle.field_downgrade.specs.PlainTexts.{SaysPlain, IsAtomWhere}
+use Rattle.field_downgrade.proofs.OneMeaning.{HasValue-once}
+use Rattle.field_tokens.specs.declared.Style.TheVariants.{Mime}
+use Rattle.field_tokens.specs.declared.TokenKind.TheVariants.{Atom, Special}
+use Rattle.field_tokens.specs.Tokens.{TokenValue, AreTokens}
+use Rattle.field_tokens.specs.Squeezed.{words_of}
+use Rattle.field_tokens.proofs.TokenLemmas.{class, kind_is}
+use Rattle.field_downgrade.specs.Stands.{IsHighField, is_encoding_name, IsSameMeaning, Meaning, Units, Keywords, PlainText, Says, IsMalformed, KeepsValue, Means, ValuePieces, downgraded_of}
+use Rattle.field_downgrade.proofs.Made.{IsPiece, ArePieces, made-folded, made-shows, words_are, name_ascii}
+use Rattle.field_downgrade.proofs.Pieces.{behind}
+use Rattle.field_downgrade.proofs.StructuredValues.{AreReadSo}
+
+-- line octets are no line ends
+no_ends : (xs : List ℕ) → list_all is_line_octet xs ≡ true → list_all (λ x. not (is_line_end x)) xs ≡ true
+no_ends [] h = refl
+no_ends (x ∷ xs) h =
+    let parts = and_parts (is_line_octet x) (list_all is_line_octet xs) h in
+    and_from (not (is_line_end x)) (list_all (λ x. not (is_line_end x)) xs) (one x parts.0) (no_ends xs parts.1)
+  where
+    one : (x : ℕ) → is_line_octet x ≡ true → not (is_line_end x) ≡ true
+    one x h = (and_parts _ (not (is_line_end x)) h).1
+
+-- pieces of lines may stand on lines of their own
+pub ArePieces-spaced : (pieces : List (List ℕ)) → AllByRecursion IsLinePiece pieces → ArePieces (spaced pieces)
+ArePieces-spaced [] lines = tt
+ArePieces-spaced (p ∷ ps) lines = (record { white = refl; folded = IsFolded-plain p (no_ends p lines.0.line); ascii = lines.0.ascii }, ArePieces-spaced ps lines.1)
+
+without_ends-line : (xs : List ℕ) → list_all (λ x. not (is_line_end x)) xs ≡ true → without_ends xs ≡ xs
+without_ends-line [] h = refl
+without_ends-line (x ∷ xs) h =
+    let parts = and_parts (not (is_line_end x)) (list_all (λ x. not (is_line_end x)) xs) h in
+    rw (parts.0) (ap (λ r. x ∷ r) (without_ends-line xs parts.1))
+
+behind-spaced : (p : List ℕ) (ps : List (List ℕ)) → AllByRecursion IsLinePiece (p ∷ ps) → behind (spaced (p ∷ ps)) ≡ 32 ∷ join_with_byte 32 (p ∷ ps)
+behind-spaced p [] lines = rw (without_ends-line p (no_ends p lines.0.line)) (ap (λ r. 32 ∷ r) (append-nil p))
+behind-spaced p (q ∷ ps) lines = rw (without_ends-line p (no_ends p lines.0.line)) (ap (λ r. 32 ∷ (p ++ r)) (behind-spaced q ps lines.1))
+
+-- the value of a body of such pieces
+pub HasValue-spaced : (pieces : List (List ℕ)) → AllByRecursion IsLinePiece pieces → pieces ≢ [] → Stops is_white (join_with_byte 32 pieces) → StopsBehind is_white (join_with_byte 32 pieces)
+    → HasValue (made_body (spaced pieces)) (join_with_byte 32 pieces)
+HasValue-spaced [] lines some begins ends = absurd (some refl)
+HasValue-spaced (p ∷ ps) lines some begins ends =
+    let are = ArePieces-spaced (p ∷ ps) lines in
+    record {
+      lead = 32 ∷ [];
+      trail = [];
+      lead_passes = refl;
+      trail_passes = refl;
+      begins = begins;
+      ends = ends;
+      whole = unfolded-folded (made_body (spaced (p ∷ ps))) (made-folded (spaced (p ∷ ps)) are) ∙ made-shows (spaced (p ∷ ps)) are ∙ behind-spaced p ps lines
+          ∙ ap (λ t. 32 ∷ t) (sym (append-nil (join_with_byte 32 (p ∷ ps))));
+    }
+
+-- the field of the pieces means the same
+pub IsSameMeaning-pieces : (f : FieldParts) (value : List ℕ) (pieces : List (List ℕ)) (meaning : Meaning) → HasValue f.body value → Says f.name value meaning → AreReadSo f.name meaning pieces
+    → IsSameMeaning f (made_of f (spaced pieces))
+IsSameMeaning-pieces f value pieces meaning has says read = record {
+  name = refl;
+  meaning = meaning;
+  means = record { value = value; has_value = has; says = says };
+  made_means = record { value = join_with_byte 32 pieces; has_value = HasValue-spaced pieces read.lines read.some read.begins read.ends; says = read.says };
+}
+
+-- the field of the B words keeps the value
+pub KeepsValue-words : (f g : FieldParts) (value : List ℕ) (words : List (List ℕ)) → HasValue f.body value → IsUtf8 value → 0 < length value → AreBWords value words
+    → g.body ≡ made_body (word_pieces 32 words) → KeepsValue f g
+KeepsValue-words f g value words has u some are body =
+    let said = words_say value words u some are in
+    record {
+      value = value;
+      has_value = has;
+      made_value = join_with_byte 32 words;
+      has_made_value = subst (λ b. HasValue b (join_with_byte 32 words)) (sym body) said.trimmed;
+      says = said.says;
+    }
+
+-- The value of a field with an octet above 127.
+white_ascii : (xs : List ℕ) → list_all is_white xs ≡ true → list_all is_ascii xs ≡ true
+white_ascii xs h = all_imp is_ascii is_white one xs h
+  where
+    one : (x : ℕ) → is_white x ≡ true → is_ascii x ≡ true
+    one x h = grind (arith, nat_tests)
+
+end_ascii : (x : ℕ) → is_line_end x ≡ true → is_ascii x ≡ true
+end_ascii x h = grind (arith, nat_tests)
+
+-- what line ends stand between ASCII is ASCII
+ends_ascii : (xs : List ℕ) → list_all is_ascii (without_ends xs) ≡ true → list_all is_ascii xs ≡ true
+ends_ascii [] h = refl
+ends_ascii (x ∷ xs) h = elim (cases_Bool (is_line_end x)) [
+  | inl t ↦ and_from (is_ascii x) (list_all is_ascii xs) (end_ascii x t) (ends_ascii xs (rw t at h))
+  | inr f ↦ let parts = and_parts (is_ascii x) (list_all is_ascii (without_ends xs)) (rw f at h) in and_from (is_ascii x) (list_all is_ascii xs) parts.0 (ends_ascii xs parts.1)
+]
+
+body_ascii : (body value : List ℕ) → IsFolded body → HasValue body value → list_all is_ascii value ≡ true → list_all is_ascii body ≡ true
+body_ascii body value folded has h =
+    let whole : without_ends body ≡ has.lead ++ (value ++ has.trail) = sym (unfolded-folded body folded) ∙ has.whole in
+    ends_ascii body
+    (rw whole (all_append is_ascii has.lead (value ++ has.trail) (white_ascii has.lead has.lead_passes) (all_append is_ascii value has.trail h (white_ascii has.trail has.trail_passes))))
+
+field_is_ascii : (octets : List ℕ) (f : FieldParts) → HasParts octets f → list_all is_ascii f.body ≡ true → list_all is_ascii octets ≡ true
+field_is_ascii octets f is h =
+    let ending : list_all is_ascii f.ending ≡ true = elim is.ending [ inl e ↦ rw e refl | inr e ↦ rw e refl ] in
+    rw is.spelled
+    (all_append is_ascii f.name (f.white ++ 58 ∷ (f.body ++ f.ending)) (name_ascii f.name is.name)
+    (all_append is_ascii f.white (58 ∷ (f.body ++ f.ending)) (white_ascii f.white is.white) (all_append is_ascii f.body f.ending h ending)))
+
+-- the value of a body with an octet above 127
+pub body_high : (body value : List ℕ) → IsFolded body → list_all is_ascii body ≡ false → HasValue body value → list_all is_ascii value ≡ false
+body_high body value folded high has = elim (cases_Bool (list_all is_ascii value)) [ inr f ↦ f | inl t ↦ absurd (both_ways (list_all is_ascii body) high (body_ascii body value folded has t)) ]
+
+pub body_some : (body value : List ℕ) → IsFolded body → list_all is_ascii body ≡ false → HasValue body value → 0 < length value
+body_some body [] folded high has = let none : true ≡ false = body_high body [] folded high has in absurd (true≢false none)
+body_some body (x ∷ value) folded high has = omega arith
+
+-- a field with an octet above 127 has one in its body
+pub field_high : (octets : List ℕ) (f : FieldParts) → IsHighField octets f → list_all is_ascii f.body ≡ false
+field_high octets f high = elim (cases_Bool (list_all is_ascii f.body)) [ inr no_ascii ↦ no_ascii | inl t ↦ absurd (both_ways (list_all is_ascii octets) high.high (field_is_ascii octets f high.is_field t)) ]
+
+pub value_high : (octets : List ℕ) (f : FieldParts) (value : List ℕ) → IsHighField octets f → HasValue f.body value → list_all is_ascii value ≡ false
+value_high octets f value high has = body_high f.body value high.is_field.body (field_high octets f high) has
+
+pub value_some : (octets : List ℕ) (f : FieldParts) (value : List ℕ) → IsHighField octets f → HasValue f.body value → 0 < length value
+value_some octets f value high has = body_some f.body value high.is_field.body (field_high octets f high) has
+
+-- UTF-8 stays so without line ends
+ends_utf8 : (front xs : List ℕ) → IsUtf8 (front ++ xs) → IsUtf8 (front ++ without_ends xs)
+ends_utf8 front [] u = u
+ends_utf8 front (x ∷ xs) u = elim (cases_Bool (is_line_end x)) [
+  | inl t ↦
+      let small : x < 128 = end_small x t in
+      let both = before_ascii front (x ∷ xs) small u in
+      rw t (ends_utf8 front xs (IsUtf8-append front xs both.front (behind_ascii x xs small both.rest)))
+  | inr f ↦ rw f (rw (append_assoc front (x ∷ []) (without_ends xs)) at (ends_utf8 (front ++ x ∷ []) xs (rw (append_assoc front (x ∷ []) xs) u)))
+]
+  where
+    end_small : (x : ℕ) → is_line_end x ≡ true → x < 128
+    end_small x h = grind (arith, nat_tests)
+
+white_small : (x : ℕ) → is_white x ≡ true → x < 128
+white_small x h = grind (arith, nat_tests)
+
+begins_white : (xs : List ℕ) → list_all is_white xs ≡ true → BeginsAscii xs
+begins_white [] h = tt
+begins_white (x ∷ xs) h = white_small x (and_parts (is_white x) (list_all is_white xs) h).0
+
+pub body_utf8 : (body value : List ℕ) → IsFolded body → IsUtf8 body → HasValue body value → IsUtf8 value
+body_utf8 body value folded utf8 has =
+    let whole : without_ends body ≡ has.lead ++ (value ++ has.trail) = sym (unfolded-folded body folded) ∙ has.whole in
+    let u : IsUtf8 (has.lead ++ (value ++ has.trail)) = subst IsUtf8 whole (ends_utf8 [] body utf8) in
+    let behind = all_ascii is_white white_small has.lead (value ++ has.trail) has.lead_passes u in
+    (before_ascii value has.trail (begins_white has.trail has.trail_passes) behind.rest).front
+
+pub value_utf8 : (octets : List ℕ) (f : FieldParts) (value : List ℕ) → IsHighField octets f → HasValue f.body value → IsUtf8 value
+value_utf8 octets f value high has = body_utf8 f.body value high.is_field.body high.is_field.utf8 has
+
+-- a name is one of an encoding whatever its case, and its kind is the one of plain texts
+encoding_is_plain : (name : List ℕ) → is_encoding_name name ≡ true → kind_named name ≡ Plain
+unfolding is_encoding_name kind_named is_address_name is_originator_name is_destination_name is_resent_originator_name is_resent_destination_name is_id_name is_plain_name same_name
+encoding_is_plain name is = let e : str_to_ascii_lowercase name ≡ codes "content-transfer-encoding" = (bytes_eq-Decides (str_to_ascii_lowercase name) (codes "content-transfer-encoding")).0 is in rw e refl
+
+-- B words begin with `=`
+first : (chunk : List ℕ) → (rest : List ℕ) × (b_word chunk ≡ 61 ∷ rest)
+unfolding b_word
+first chunk = (_, refl)
+
+words_begin : (value : List ℕ) (words : List (List ℕ)) → 0 < length value → AreBWords value words → (rest : List ℕ) × (join_with_byte 32 words ≡ 61 ∷ rest)
+words_begin value words some are = by are.chunks are.spelled (are.whole ∙ append-nil (concat are.chunks))
+  where
+    by : (chunks : List (List ℕ)) → words ≡ map b_word chunks → value ≡ concat chunks → (rest : List ℕ) × (join_with_byte 32 words ≡ 61 ∷ rest)
+    by [] e whole = absurd (omega (arith, some, ap length whole))
+    by (c ∷ []) e whole = let f = first c in (f.0, rw (e, f.1) refl)
+    by (c ∷ d ∷ cs) e whole = let f = first c in (f.0 ++ (32 ∷ join_with_byte 32 (map b_word (d ∷ cs))), rw (e, f.1) refl)
+
+-- an encoding doesn't begin with `=`, which is no atom
+no_atom : (text rest said : List ℕ) (comments : List CommentValue) → text ≡ 61 ∷ rest → SaysPlain true text said comments → ⊥
+no_atom text rest said comments e says = by says.tokens says.is_plain.has.are_tokens says.is_plain.atom
+  where
+    by : (tokens : List TokenValue) → AreTokens Mime tokens text → IsAtomWhere true tokens → ⊥
+    by [] are atom = let no : 61 ∷ rest ≡ [] = sym e ∙ are in cc no
+    by (t ∷ ts) are atom =
+        let kind : class Mime 61 ≡ Some t.kind = kind_is Mime t.kind 61 text rest are.0 e (record { octets = t.octets; whole = are.1; is_token = are.2 }) in
+        let special : Special ≡ t.kind = cc kind in
+        let words : words_of (t ∷ ts) ≡ t ∷ words_of ts = rw (← special) refl in
+        let same : t ∷ words_of ts ≡ atom.0 ∷ [] = sym words ∙ atom.1 in
+        let one : t ≡ atom.0 = cc same in
+        let no : Special ≡ Atom = special ∙ ap (λ (u : TokenValue). u.kind) one ∙ atom.2 in
+        cc no
+
+-- the B words of a value are no encoding
+pub still_malformed : (f : FieldParts) (value : List ℕ) (words : List (List ℕ)) → HasValue f.body value → IsUtf8 value → 0 < length value → AreBWords value words → is_encoding_name f.name ≡ true
+    → IsMalformed (made_of f (word_pieces 32 words))
+still_malformed f value words has u some are encoding meaning means =
+    let said = words_say value words u some are in
+    let same : means.value ≡ join_with_byte 32 words = HasValue-once (made_body (word_pieces 32 words)) means.value (join_with_byte 32 words) means.has_value said.trimmed in
+    let says : Says f.name (join_with_byte 32 words) meaning = subst (λ v. Says f.name v meaning) same means.says in
+    let begins = words_begin value words some are in
+    by meaning says begins.0 begins.1
+  where
+    plain : kind_named f.name ≡ Plain
+    plain = encoding_is_plain f.name encoding
+
+    by : (meaning : Meaning) → Says f.name (join_with_byte 32 words) meaning → (rest : List ℕ) → join_with_byte 32 words ≡ 61 ∷ rest → ⊥
+    by (Units units) says rest e = let no = sym says.0 ∙ plain in cc no
+    by (Keywords phrases comments) says rest e = let no = sym says.0 ∙ plain in cc no
+    by (PlainText said comments) says rest e = no_atom (join_with_byte 32 words) rest said comments e (subst (λ b. SaysPlain b (join_with_byte 32 words) said comments) encoding says.1)

@@ -1,0 +1,50 @@
+-- White is cut off at the ends of a text.
+use Rattle.std.proofs.Common.{◌≡◌, ℕ, true, false, List, [], ◌∷◌, ◌++◌, refl, sym, ap, ◌∙◌}
+use Rattle.std.proofs.lemmas.Bool.{and_from}
+use Rattle.std.proofs.lemmas.List.{append_assoc, append-nil}
+use Rattle.std.specs.List.{list_all}
+use Rattle.mail_wire.specs.Octets.{is_white}
+use Rattle.mail_wire.specs.Spans.{Stops, StopsBehind, IsSpan, IsTrimmed}
+use Rattle.field_downgrade.specs.Steps.{TrimsEnd}
+
+-- white alone was cut off so far
+pub record TrimsTo (octets rest : List ℕ) : Type 0 where
+  pub trail : List ℕ
+  pub white : list_all is_white trail ≡ true
+  pub whole : octets ≡ rest ++ trail
+
+pub TrimsTo-start : (octets : List ℕ) → TrimsTo octets octets
+TrimsTo-start octets = record { trail = []; white = refl; whole = sym (append-nil octets) }
+
+pub TrimsTo-turn : (octets rest front : List ℕ) (last : ℕ) → TrimsTo octets rest → rest ≡ front ++ last ∷ [] → is_white last ≡ true → TrimsTo octets front
+TrimsTo-turn octets rest front last t e white = record {
+  trail = last ∷ t.trail;
+  white = and_from (is_white last) (list_all is_white t.trail) white t.white;
+  whole = t.whole ∙ ap (λ r. r ++ t.trail) e ∙ append_assoc front (last ∷ []) t.trail;
+}
+
+stops_behind : (front : List ℕ) (last : ℕ) → is_white last ≡ false → StopsBehind is_white (front ++ last ∷ [])
+stops_behind [] last no_white = no_white
+stops_behind (x ∷ []) last no_white = no_white
+stops_behind (x ∷ y ∷ front) last no_white = stops_behind (y ∷ front) last no_white
+
+pub TrimsEnd-stop : (octets rest front : List ℕ) (last : ℕ) → TrimsTo octets rest → rest ≡ front ++ last ∷ [] → is_white last ≡ false → TrimsEnd octets rest
+TrimsEnd-stop octets rest front last t e no_white = record { trail = t.trail; white = t.white; whole = t.whole; ends = rw e (stops_behind front last no_white) }
+
+pub TrimsEnd-none : (octets rest : List ℕ) → TrimsTo octets rest → rest ≡ [] → TrimsEnd octets rest
+TrimsEnd-none octets rest t e = record { trail = t.trail; white = t.white; whole = t.whole; ends = rw e tt }
+
+stops_front : (xs ys : List ℕ) → Stops is_white (xs ++ ys) → Stops is_white xs
+stops_front [] ys stops = tt
+stops_front (x ∷ xs) ys stops = stops
+
+pub IsTrimmed-both : (octets lead rest trimmed : List ℕ) → IsSpan is_white octets lead rest → TrimsEnd rest trimmed → IsTrimmed is_white octets trimmed
+IsTrimmed-both octets lead rest trimmed span ends = record {
+  lead = lead;
+  trail = ends.trail;
+  lead_passes = span.passes;
+  trail_passes = ends.white;
+  begins = stops_front trimmed ends.trail (rw (ends.whole) at span.stops);
+  ends = ends.ends;
+  whole = span.whole ∙ ap (λ r. lead ++ r) ends.whole;
+}

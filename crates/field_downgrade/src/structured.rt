@@ -1,0 +1,149 @@
+//! The rewriting of structured fields.
+ghost use Rattle.std.specs.Prelude.{◌≡◌, ◌<◌, ◌++◌, ℕ, List, false, length, IfOk, IfSome, IfNone, OnOk, IsUtf8};
+ghost use Rattle.std.specs.List.{list_all};
+ghost use Rattle.mail_wire.specs.Octets.{is_ascii};
+ghost use Rattle.mail_wire.specs.Folds.{IsFolded};
+ghost use Rattle.utf8_fields.specs.Parts.{HasValue, field_octets};
+ghost use Rattle.utf8_fields.specs.Views.{parts_of};
+ghost use Rattle.encoded_words.specs.Words.{UnitValue};
+ghost use Rattle.encoded_words.specs.Folding.{made_body};
+ghost use Rattle.field_tokens.specs.Comments.{CommentValue};
+ghost use Rattle.address_lists.specs.PhraseLists.{SaysPhrases, PhrasesPieces};
+ghost use Rattle.encapsulated_fields.specs.Encapsulated.{IsFieldName};
+ghost use Rattle.field_downgrade.specs.Kinds.{kind_named};
+ghost use Rattle.field_downgrade.specs.Layout.{made_of, spaced};
+ghost use Rattle.field_downgrade.specs.Stands.{IsMalformed, Meaning, Says, ValuePieces, downgraded_of, is_encoding_name as is_encoding_of};
+ghost use Rattle.field_downgrade.specs.Steps.{Adds, AddsWordField, IsStructured, MakesField};
+
+use crate::kind::is_phrases;
+use crate::lines::begin_line;
+use crate::plain::rewrite_plain;
+use crate::values::value_of;
+use address_lists::AddressFault;
+use address_lists::phrase_lists::rewrite_phrases;
+use encapsulated_fields::encapsulate;
+use encoded_words::push_words;
+use mail_wire::text::is_same_name;
+use mail_wire::values::{Memory, Octets};
+use std::alloc::Global;
+use utf8_fields::parts::{Parts, split_ending};
+
+#[tactic(auto, unfolding(crate::specs::Stands::is_encoding_name))]
+fn is_encoding_name(name: &[u8]) -> bool
+    ensures { result ≡ is_encoding_of name.now }
+{
+    is_same_name(name, b"Content-Transfer-Encoding")
+}
+
+// The pieces of phrases.
+fn phrase_pieces(alloc: Global, value: &[u8]) -> Result<Option<Vec<Octets>>, Memory>
+    ensures some { IfOk result (λ o. IfSome o (λ pieces. PhrasesPieces value.now pieces.items)) }
+    ensures none { IfOk result (λ o. IfNone o ((phrases : List (List UnitValue)) (comments : List CommentValue)
+        → ¬ SaysPhrases value.now phrases comments)) }
+{
+    match rewrite_phrases(alloc, value) {
+        Ok(pieces) => Ok(Some(pieces)),
+        Err(AddressFault::Malformed) => Ok(None),
+        Err(AddressFault::Memory) => Err(Memory),
+    }
+}
+
+// The pieces of a value, where it is one of its kind.
+fn pieces_of(alloc: Global, name: &[u8], value: &[u8]) -> Result<Option<Vec<Octets>>, Memory>
+    requires { IsStructured (kind_named name.now) }
+    ensures some { IfOk result (λ o. IfSome o (λ pieces. ValuePieces name.now value.now pieces.items)) }
+    ensures none { IfOk result (λ o. IfNone o ((meaning : Meaning) → ¬ Says name.now value.now meaning)) }
+{
+    if is_phrases(name) {
+        return phrase_pieces(alloc, value);
+    }
+    rewrite_plain(alloc, is_encoding_name(name), value)
+}
+
+// Puts pieces on lines of their own, each behind a space.
+fn push_lines(made: &mut Octets, pieces: &[Octets]) -> Result<(), Memory>
+    ensures { OnOk result (made.new ≡ made.old ++ made_body (spaced pieces.now)) }
+{
+    for piece in pieces {
+        begin_line(made, b' ')?;
+        made.push_slice(piece.as_slice())?;
+    }
+    Ok(())
+}
+
+// Puts a field of these pieces last.
+fn push_pieces(made: &mut Octets, parts: &Parts<'_>, pieces: &[Octets]) -> Result<(), Memory>
+    ensures { OnOk result (made.new ≡ made.old ++ field_octets (made_of (parts_of parts.now) (spaced pieces.now))) }
+{
+    made.push_slice(parts.name)?;
+    made.push(b':')?;
+    push_lines(made, pieces)?;
+    made.push_slice(parts.ending)
+}
+
+// Puts a field last that keeps a value under its name.
+fn push_kept(made: &mut Octets, parts: &Parts<'_>, value: &[u8]) -> Result<(), Memory>
+    requires { IsUtf8 value.now }
+    ensures { OnOk result (AddsWordField (made_of (parts_of parts.now)) value.now made.old made.new) }
+{
+    made.push_slice(parts.name)?;
+    made.push(b':')?;
+    push_words(made, b' ', value)?;
+    made.push_slice(parts.ending)
+}
+
+// Puts a field last that keeps a value under a `Downgraded-` name.
+fn push_encapsulated(
+    alloc: Global,
+    made: &mut Octets,
+    parts: &Parts<'_>,
+    value: &[u8],
+) -> Result<(), Memory>
+    requires name { IsFieldName parts.now.name.now }
+    requires utf8 { IsUtf8 value.now }
+    requires some { 0 < length value.now }
+    ensures { OnOk result (AddsWordField (downgraded_of (parts_of parts.now)) value.now made.old made.new) }
+{
+    let field = encapsulate(alloc, parts.name, value)?;
+    let (lines, _) = split_ending(field.as_slice());
+    made.push_slice(lines)?;
+    made.push_slice(parts.ending)
+}
+
+// Puts a field last whose value isn't one of its kind.
+fn push_malformed(
+    alloc: Global,
+    made: &mut Octets,
+    parts: &Parts<'_>,
+    value: &[u8],
+) -> Result<(), Memory>
+    requires kind { IsStructured (kind_named parts.now.name.now) }
+    requires name { IsFieldName parts.now.name.now }
+    requires malformed { IsMalformed (parts_of parts.now) }
+    requires value { HasValue parts.now.body.now value.now }
+    requires utf8 { IsUtf8 value.now }
+    requires some { 0 < length value.now }
+    ensures { OnOk result (Adds (MakesField (parts_of parts.now)) made.old made.new) }
+{
+    if is_encoding_name(parts.name) {
+        push_kept(made, parts, value)
+    } else {
+        push_encapsulated(alloc, made, parts, value)
+    }
+}
+
+/// Puts a structured field last, made anew.
+pub fn push_structured(alloc: Global, made: &mut Octets, parts: &Parts<'_>) -> Result<(), Memory>
+    requires kind { IsStructured (kind_named parts.now.name.now) }
+    requires name { IsFieldName parts.now.name.now }
+    requires folded { IsFolded parts.now.body.now }
+    requires utf8 { IsUtf8 parts.now.body.now }
+    requires high { list_all is_ascii parts.now.body.now ≡ false }
+    ensures { OnOk result (Adds (MakesField (parts_of parts.now)) made.old made.new) }
+{
+    let value = value_of(alloc, parts.body)?;
+    match pieces_of(alloc, parts.name, value.as_slice())? {
+        Some(pieces) => push_pieces(made, parts, &pieces),
+        None => push_malformed(alloc, made, parts, value.as_slice()),
+    }
+}

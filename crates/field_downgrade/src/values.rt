@@ -1,0 +1,39 @@
+//! The value of a field's body.
+ghost use Rattle.std.specs.Prelude.{IfOk};
+ghost use Rattle.mail_wire.specs.Octets.{is_white};
+ghost use Rattle.mail_wire.specs.Spans.{IsTrimmed};
+ghost use Rattle.utf8_fields.specs.Parts.{HasValue};
+ghost use Rattle.field_downgrade.specs.Steps.{TrimsEnd};
+
+use mail_wire::text::{is_white, split_white, unfold};
+use mail_wire::values::{Memory, Octets};
+use std::alloc::Global;
+
+// The octets without the white at their end.
+fn trim_end(octets: &[u8]) -> &[u8]
+    ensures { TrimsEnd octets.now result.now }
+{
+    let mut rest = octets;
+    while let Some((last, front)) = rest.split_last() {
+        if !is_white(*last) {
+            return rest;
+        }
+        rest = front;
+    }
+    rest
+}
+
+fn trim(octets: &[u8]) -> &[u8]
+    ensures { IsTrimmed is_white octets.now result.now }
+{
+    let (_, rest) = split_white(octets);
+    trim_end(rest)
+}
+
+/// The value of a body.
+pub fn value_of(alloc: Global, body: &[u8]) -> Result<Octets, Memory>
+    ensures { IfOk result (HasValue body.now) }
+{
+    let unfolded = unfold(alloc, body)?;
+    Octets::from_slice(alloc, trim(unfolded.as_slice()))
+}
