@@ -51,6 +51,48 @@ def long_field(size):
     yield b"\r\n\r\nx\r\n"
 
 
+def encoded_subject(count):
+    """So many encoded words of another charset, with a non-ASCII word on each side: 52 octets each."""
+    yield "Subject: é".encode()
+    for at in range(0, count, 1000):
+        words = range(at, min(at + 1000, count))
+        yield "".join(f" =?ISO-8859-1?Q?caf=E9?= crème_brûlée_à_la_{number:06}" for number in words).encode()
+    yield b"\r\n\r\nx\r\n"
+
+
+def folded_subject(count):
+    """So many words of which every other one is ASCII, each on a line of its own."""
+    yield "Subject: é".encode()
+    for at in range(0, count, 1000):
+        yield "\r\n word =?ISO-8859-1?Q?caf=E9?=\r\n\tété".encode() * min(1000, count - at)
+    yield b"\r\n\r\nx\r\n"
+
+
+def many_phrases(count):
+    """So many keywords."""
+    yield "Keywords: été".encode()
+    for at in range(0, count, 1000):
+        phrases = range(at, min(at + 1000, count))
+        yield "".join(f', "clé" no {number:06} =?UTF-8?Q?x?=' for number in phrases).encode()
+    yield b"\r\n\r\nx\r\n"
+
+
+def many_comments(count):
+    """A date with so many comments side by side, of which each has a nested one."""
+    yield b"Date: Thu, 01 Jan 1970 00:00:00 +0000"
+    for at in range(0, count, 1000):
+        comments = range(at, min(at + 1000, count))
+        yield "".join(f" (été {number:06} (x))" for number in comments).encode()
+    yield b"\r\n\r\nx\r\n"
+
+
+def deep_comment(size):
+    """A date with one comment, 64 deep, around so many octets."""
+    yield b"Date: Thu, 01 Jan 1970 00:00:00 +0000 " + b"(" * 64
+    yield WORD * (size // len(WORD))
+    yield b")" * 64 + b"\r\n\r\nx\r\n"
+
+
 MIB = 1 << 20
 
 # name, what writes the message, n; each is measured at n and at 2n
@@ -61,6 +103,11 @@ CASES = [
     ("one subject of 512 KiB and 1 MiB of あ", long_subject, MIB // 2),
     ("one line of 8 and 16 MiB in the body", long_line, 8 * MIB),
     ("one line of 8 and 16 MiB in the header", long_field, 8 * MIB),
+    ("20,000 and 40,000 encoded words between others in a subject", encoded_subject, 20_000),
+    ("a subject of 40,000 and 80,000 lines", folded_subject, 20_000),
+    ("50,000 and 100,000 keywords", many_phrases, 50_000),
+    ("a date with 20,000 and 40,000 comments", many_comments, 20_000),
+    ("a date with a comment 64 deep around 512 KiB and 1 MiB", deep_comment, MIB // 2),
 ]
 
 

@@ -16,7 +16,7 @@ def main():
         if value.isascii():
             out.write(f"{name}: {value}\r\n".encode("ascii"))
         else:
-            out.write(policy.header_factory(name, value).fold(policy=policy).encode("ascii"))
+            out.write(policy.header_factory(name, value.replace("\r\n", "")).fold(policy=policy).encode("ascii"))
     out.write(b"\r\n" + body if end else body)
 
 

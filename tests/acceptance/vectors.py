@@ -6,6 +6,9 @@ import os
 from harness import differs, in_lanes
 from oracle import outcome
 
+BUILT = ("Unstructured", "Phrases", "Plain")
+NOT_BUILT = 10
+
 
 def lines_of(path):
     with open(path, encoding="utf-8") as file:
@@ -13,15 +16,13 @@ def lines_of(path):
 
 
 def fields(folder):
-    """Messages of one unstructured field, where it is built, and their surrogates."""
+    """Messages of one field. Those of the built kinds have surrogates, all others are said not to be built."""
     for number, vector in enumerate(lines_of(os.path.join(folder, "fields.jsonl"))):
         raw, made = vector["raw"].encode(), vector["made"].encode()
-        if vector["kind"] != "Unstructured" or not raw.endswith(b"\r\n"):
-            continue
-        body = raw.partition(b":")[2][:-2]
-        if raw.startswith(b"-") or b"=?" in body or b"\r\n" in body:
-            continue
-        yield f"fields.jsonl, line {number + 1}", raw + b"\r\n", 0, made + b"\r\n"
+        wanted = NOT_BUILT, b"not built at 0\r\n"
+        if vector["kind"] in BUILT and not raw.startswith(b"-"):
+            wanted = 0, made + b"\r\n"
+        yield f"fields.jsonl, line {number + 1}", raw + b"\r\n", wanted
 
 
 def messages(folder):
@@ -30,26 +31,24 @@ def messages(folder):
         octets, status = bytes.fromhex(vector["message"]), vector["status"]
         if status == 0 and not octets.endswith(b"\r\n") and octets:
             octets += b"\r\n"
-        given = bytes.fromhex(vector["downgrade"]) if status == 0 else None
-        yield f"messages.jsonl, line {number + 1}", octets, status, given
+        given = bytes.fromhex(vector["downgrade"]) if status == 0 else b"refused\r\n"
+        yield f"messages.jsonl, line {number + 1}", octets, (status, given)
 
 
 def check(program, tally, folder):
     def one(case):
-        """Whether the vector told something of what is built, and what is wrong."""
-        name, octets, status, wanted = case
-        found, given = program.downgrade(octets)
-        faults = differs("answer", (found, given), outcome([b"downgrade"], octets))
-        if found == 10:
-            return False, faults
-        faults += differs("status", found, status)
-        if status == 0:
-            faults += differs("octets", given, wanted)
-        return True, faults
+        """The status that was given, and what is wrong."""
+        name, octets, wanted = case
+        answer = program.downgrade(octets)
+        faults = differs("answer, as the oracle has it", answer, outcome([b"downgrade"], octets))
+        # a message may have a field that isn't built, and then the oracle alone tells which is the first
+        if answer[0] != NOT_BUILT or name.startswith("fields"):
+            faults += differs("answer", answer, wanted)
+        return answer[0], faults
 
     cases = [*fields(folder), *messages(folder)]
     told = 0
-    for case, (is_told, faults) in zip(cases, in_lanes(one, cases)):
-        told += is_told
+    for case, (status, faults) in zip(cases, in_lanes(one, cases)):
+        told += status != NOT_BUILT
         tally.note(case[0], [*faults, f"message: {case[1]!r}"] if faults else [])
     print(f"vectors: {told} of {len(cases)} tell of what is built; at the others the program and the oracle say that it isn't built")

@@ -1,0 +1,155 @@
+"""The field that is made of one with non-ASCII octets. Nothing here was taken from the program.
+
+A made field is its name, a colon, and pieces, each on a line of its own behind one white octet, a space unless said
+otherwise. To write units means: each text as B encoded words, each opaque unit as the word that it came from.
+
+- Unstructured fields. A stretch is a longest list of neighbouring words that aren't encoded words. In one with non-ASCII
+  words the core goes from the first of them to the last. Its text is its words, the white between them, and a part of the
+  white at each side: beside an encoded word all of it, beside another word all but the octet farthest from the core, and
+  at an end of the value nothing. It becomes B words. What stands between is one piece, copied with its folds. Before a
+  core, and before a copied piece that follows one, stands the octet of the white there that was left out, or a space.
+- Keywords are phrases divided by commas, each with comments around it. From the first token of a place that is no gap to
+  the phrase's end ASCII octets are one copied piece; else the phrase's units are written, or `""` where there is none, and
+  then the comments there. The other comments of the place follow, and a piece `,` stands between two places.
+- Date, Resent-Date, MIME-Version and Content-Transfer-Encoding are ASCII but for comments: one piece has the tokens with one
+  space where a gap or comment stood, and the comments follow. Content-Transfer-Encoding is a single atom.
+- A comment of ASCII octets is one piece. Another one is the piece `(`, its nested comments and the runs between them, each
+  ASCII run as one piece and others by their units, and the piece `)`.
+- Where the value isn't in its grammar, the made field has `Downgraded-` before the name and the whole value as B words.
+  Content-Transfer-Encoding keeps its name then."""
+
+import tokens
+import units
+
+PHRASES = frozenset([b"keywords"])
+ENCODING = b"content-transfer-encoding"
+PLAIN = frozenset([b"date", b"resent-date", b"mime-version", ENCODING])
+NOT_BUILT = frozenset(
+    name.lower()
+    for name in b"""
+    From Sender Reply-To To Cc Bcc Resent-From Resent-Sender Resent-Reply-To Resent-To Resent-Cc Resent-Bcc
+    Content-Type Content-Disposition
+    Message-ID Resent-Message-ID In-Reply-To References Content-ID
+    Return-Path Original-Recipient Final-Recipient Received
+    """.split()
+)
+
+
+def value_of(body):
+    """The body unfolded, without white at its ends."""
+    return body.replace(b"\r\n", b"").strip(b" \t")
+
+
+def made_field(name, body):
+    """The name and the pieces, each behind its white octet."""
+    kind, value = name.lower(), value_of(body)
+    try:
+        if kind in PHRASES:
+            return name, spaced(phrases_pieces(value))
+        if kind in PLAIN:
+            return name, spaced(plain_pieces(value, kind == ENCODING))
+    except tokens.Malformed:
+        made = name if kind == ENCODING else b"Downgraded-" + name
+        return made, spaced(units.b_words(value))
+    return name, unstructured_pieces(body)
+
+
+def spaced(pieces):
+    return [b" " + piece for piece in pieces]
+
+
+def unstructured_pieces(body):
+    words = list(units.WORD.finditer(body))
+    pieces, copied_from, white = [], 0, b" "
+    for first, last in cores_of(words):
+        if first > copied_from:
+            pieces.append(white + body[words[copied_from].start() : words[first - 1].end()])
+        before, left = side_of(body, words, first - 1, slice(0, 1), slice(1, None))
+        white, right = side_of(body, words, last, slice(-1, None), slice(0, -1))
+        between = body[words[first].start() : words[last].end()].replace(b"\r\n", b"")
+        made = units.b_words(left + between + right)
+        pieces += [before + made[0], *spaced(made[1:])]
+        copied_from = last + 1
+    if copied_from < len(words):
+        pieces.append(white + body[words[copied_from].start() : words[-1].end()])
+    return pieces
+
+
+def cores_of(words):
+    """The first and the last word of each core, by number."""
+    cores, is_open = [], False
+    for number, word in enumerate(words):
+        if is_encoded(word[0]):
+            is_open = False
+        elif not word[0].isascii():
+            if is_open:
+                cores[-1] = cores[-1][0], number
+            else:
+                cores.append((number, number))
+            is_open = True
+    return cores
+
+
+def is_encoded(word):
+    return units.decoded(word) is not None
+
+
+def side_of(body, words, number, farthest, others):
+    """Of the white between this word and the next one, one of which is in a core: the octet that is chosen, and the core's part."""
+    if not 0 <= number < len(words) - 1:
+        return b" ", b""
+    run = body[words[number].end() : words[number + 1].start()].replace(b"\r\n", b"")
+    if is_encoded(words[number][0]) or is_encoded(words[number + 1][0]):
+        return b" ", run
+    return run[farthest], run[others]
+
+
+def comment_pieces(comment):
+    if comment.isascii():
+        return [comment]
+    pieces = [b"("]
+    for kind, octets in tokens.comment_items(comment):
+        if kind == "comment":
+            pieces += comment_pieces(octets)
+        else:
+            pieces += [octets] if octets.isascii() else units.pieces(units.of_run(octets))
+    return [*pieces, b")"]
+
+
+def all_comment_pieces(found):
+    return [piece for comment in tokens.comments(found) for piece in comment_pieces(comment)]
+
+
+def phrases_pieces(value):
+    pieces = []
+    for place in tokens.split(tokens.tokens(value, "Mail"), b","):
+        pieces += [b",", *place_pieces(place)]
+    return pieces[1:]
+
+
+def place_pieces(place):
+    phrase = tokens.phrase_of(place)
+    # up to the phrase's end, and what follows it
+    end = max(number for number, token in enumerate(place) if not token.is_blank()) + 1
+    part, rest = tokens.without_gaps_first(place[:end]), place[end:]
+    text = tokens.text_of(part)
+    if text.isascii():
+        return [text, *all_comment_pieces(rest)]
+    return [*(units.pieces(tokens.phrase_units(phrase)) or [b'""']), *all_comment_pieces(part), *all_comment_pieces(rest)]
+
+
+def plain_pieces(value, is_encoding):
+    found = plain_tokens(value, is_encoding)
+    text = tokens.squeezed(found)
+    return [*([text] if text else []), *all_comment_pieces(found)]
+
+
+def plain_tokens(value, is_encoding):
+    """The tokens of a value that is ASCII but for comments, and for an encoding one atom; or Malformed."""
+    found = tokens.tokens(value, "Mime" if is_encoding else "Mail")
+    told = [token for token in found if not token.is_blank()]
+    if not all(token.octets.isascii() for token in told):
+        raise tokens.Malformed
+    if is_encoding and [token.kind for token in told] != ["atom"]:
+        raise tokens.Malformed
+    return found
