@@ -147,3 +147,18 @@ parts_once Says walked once (p ∷ m ∷ ps) (q ∷ n ∷ qs) ts es fs dp sp dq 
 
 pub divided_once : {E : Type 0} (Says : List TokenValue → List E → Type 0) (walked : Walked Says) (once : SaysOnce Says) (ts : List TokenValue) (es fs : List E) → AreDivided Says ts es → AreDivided Says ts fs → es ≡ fs
 divided_once Says walked once ts es fs p q = parts_once Says walked once p.parts q.parts ts es fs p.divided p.say q.divided q.say
+
+-- the parts themselves are one
+pub parts_same : {E : Type 0} (Says : List TokenValue → List E → Type 0) (walked : Walked Says) (ps qs : List (List TokenValue)) (ts : List TokenValue) (es fs : List E)
+    → Divided 44 ps ts → SayParts Says ps es → Divided 44 qs ts → SayParts Says qs fs → ps ≡ qs
+parts_same Says walked [] qs ts es fs dp sp dq sq = absurd dp
+parts_same Says walked (p ∷ ps) [] ts es fs dp sp dq sq = absurd dq
+parts_same Says walked (p ∷ []) (q ∷ []) ts es fs dp sp dq sq = ap (λ r. r ∷ []) (sym dp ∙ dq)
+parts_same Says walked (p ∷ []) (q ∷ n ∷ qs) ts es fs dp sp dq sq =
+    absurd (some_none (walk None ts) (rw (dp) (walked p sp.0 sp.3)) (rw (dq.2) (walked_not q dq.0 dq.1 (walked q sq.0 sq.3) dq.3)))
+parts_same Says walked (p ∷ m ∷ ps) (q ∷ []) ts es fs dp sp dq sq =
+    absurd (some_none (walk None ts) (rw (dq) (walked q sq.0 sq.3)) (rw (dp.2) (walked_not p dp.0 dp.1 (walked p sp.0 sp.3) dp.3)))
+parts_same Says walked (p ∷ m ∷ ps) (q ∷ n ∷ qs) ts es fs dp sp dq sq =
+    let cut = cut_place p q dp.0 dq.0 dp.1 dq.1 (walked p sp.0 sp.3) (walked q sq.0 sq.3) dp.3 dq.3 (sym dp.2 ∙ dq.2) in
+    let more = parts_same Says walked (m ∷ ps) (n ∷ qs) dp.1 sp.1 sq.1 dp.4 sp.4 (rw (cut.rest) dq.4) sq.4 in
+    ap (λ r. r ∷ m ∷ ps) cut.place ∙ ap (λ r. q ∷ r) more

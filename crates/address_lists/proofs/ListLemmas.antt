@@ -90,7 +90,7 @@ parts_lack (p ∷ n ∷ parts) ts ms d say =
     rw (d.2) (lacks-append 59 p (d.0 ∷ d.1) (one_lacks p say.0 say.3)
     (and_from (not (is_mark 59 d.0)) (lacks 59 d.1) (ap not (other_mark 44 59 d.0 (λ e. omega (arith, e)) d.3)) (parts_lack (n ∷ parts) d.1 say.1 d.4 say.4)))
 
-members_lack : (ts : List TokenValue) (ms : List MailboxValue) → AreMembers ts ms → lacks 59 ts ≡ true
+pub members_lack : (ts : List TokenValue) (ms : List MailboxValue) → AreMembers ts ms → lacks 59 ts ≡ true
 members_lack ts ms (inl none) = blank_lacks 59 ts none.0
 members_lack ts ms (inr d) = parts_lack d.parts ts ms d.divided d.say
 
@@ -138,11 +138,11 @@ routed_once ts a b (inr p) (inr q) = IsAddress-once p.behind a b p.is_address (r
 same_mailbox : (m n : MailboxValue) → m.phrase ≡ n.phrase → m.display ≡ n.display → m.angle ≡ n.angle → m.address ≡ n.address → m ≡ n
 same_mailbox m n p d g a = let eta : m ≡ record { phrase = n.phrase; display = n.display; angle = n.angle; address = n.address } = rw (← p, ← d, ← g, ← a) refl in eta
 
-not_both : (ts : List TokenValue) (m n : MailboxValue) → IsBare ts m → IsNamed ts n → ⊥
+pub not_both : (ts : List TokenValue) (m n : MailboxValue) → IsBare ts m → IsNamed ts n → ⊥
 not_both ts m n bare named =
     not_lacking 60 named.before _ named.angled.open_mark named.angled.opens (rw (named.angled.whole) at (bare_lacks 60 ts m (λ e. omega (arith, e)) (λ e. omega (arith, e)) bare))
 
-IsMailbox-once : (ts : List TokenValue) (m n : MailboxValue) → IsMailbox ts m → IsMailbox ts n → m ≡ n
+pub IsMailbox-once : (ts : List TokenValue) (m n : MailboxValue) → IsMailbox ts m → IsMailbox ts n → m ≡ n
 IsMailbox-once ts m n (inl p) (inl q) = same_mailbox m n (p.phrase ∙ sym q.phrase) (p.display ∙ sym q.display) (p.angle ∙ sym q.angle) (IsAddress-once ts m.address n.address p.is_address q.is_address)
 IsMailbox-once ts m n (inl p) (inr q) = absurd (not_both ts m n p q)
 IsMailbox-once ts m n (inr p) (inl q) = absurd (not_both ts n m q p)
@@ -151,7 +151,7 @@ IsMailbox-once ts m n (inr p) (inr q) =
     let says = says_once p.before m.phrase n.phrase m.display n.display p.named.says other.says in
     same_mailbox m n says.phrase says.units (p.named.angle ∙ sym other.angle) (routed_once p.inner m.address n.address p.named.address other.address)
 
-one_once : SaysOnce IsOneMailbox
+pub one_once : SaysOnce IsOneMailbox
 one_once ts [] ns p q = absurd p
 one_once ts (m ∷ n ∷ ms) ns p q = absurd p
 one_once ts (m ∷ []) [] p q = absurd q
@@ -159,16 +159,16 @@ one_once ts (m ∷ []) (n ∷ []) p q = ap (λ r. r ∷ []) (IsMailbox-once ts m
 one_once ts (m ∷ []) (n ∷ k ∷ ns) p q = absurd q
 
 -- a mailbox is not blank
-mailbox_not_blank : (ts : List TokenValue) (m : MailboxValue) → IsMailbox ts m → are_blank ts ≡ true → ⊥
+pub mailbox_not_blank : (ts : List TokenValue) (m : MailboxValue) → IsMailbox ts m → are_blank ts ≡ true → ⊥
 mailbox_not_blank ts m (inl is) h = not_lacking 64 is.is_address.local is.is_address.domain is.is_address.at is.is_address.is_at (rw (is.is_address.whole) at (blank_lacks 64 ts h))
 mailbox_not_blank ts m (inr is) h = not_lacking 60 is.before _ is.angled.open_mark is.angled.opens (rw (is.angled.whole) at (blank_lacks 60 ts h))
 
-one_not_blank : (ts : List TokenValue) (ms : List MailboxValue) → IsOneMailbox ts ms → are_blank ts ≡ true → ⊥
+pub one_not_blank : (ts : List TokenValue) (ms : List MailboxValue) → IsOneMailbox ts ms → are_blank ts ≡ true → ⊥
 one_not_blank ts [] is h = is
 one_not_blank ts (m ∷ []) is h = mailbox_not_blank ts m is h
 one_not_blank ts (m ∷ n ∷ ms) is h = is
 
-members_not_blank : (ts : List TokenValue) (ms : List MailboxValue) → AreDivided IsOneMailbox ts ms → are_blank ts ≡ true → ⊥
+pub members_not_blank : (ts : List TokenValue) (ms : List MailboxValue) → AreDivided IsOneMailbox ts ms → are_blank ts ≡ true → ⊥
 members_not_blank ts ms d h = by d.parts d.divided d.say
   where
     by : (parts : List (List TokenValue)) → Divided 44 parts ts → SayParts IsOneMailbox parts ms → ⊥
@@ -192,7 +192,7 @@ group_inner before behind inner after name ms s g =
     let cut = cut_once 59 inner g.inner s.at g.semicolon after g.after s.first (members_lack g.inner ms g.are_members) s.is_at g.is_semicolon (sym s.whole ∙ g.whole) in
     (rw (cut.rest) g.nothing_after, rw (cut.front) g.are_members)
 
-group_once : (before behind : List TokenValue) (us vs : List UnitValue) (ms ns : List MailboxValue) → IsGroupBy before behind us ms → IsGroupBy before behind vs ns → SameGroup us vs ms ns
+pub group_once : (before behind : List TokenValue) (us vs : List UnitValue) (ms ns : List MailboxValue) → IsGroupBy before behind us ms → IsGroupBy before behind vs ns → SameGroup us vs ms ns
 group_once before behind us vs ms ns p q = record {
   name = HasPhraseUnits-once (phrase_items before) us vs p.says q.says;
   members = members_once p.inner ms ns p.are_members (group_inner before behind p.inner p.after vs ns (record { at = p.semicolon; whole = p.whole; is_at = p.is_semicolon; first = members_lack p.inner ms p.are_members }) q).1;
@@ -200,7 +200,7 @@ group_once before behind us vs ms ns p q = record {
 
 -- ---- which kind of element stands in a place
 
-group_name : (ts : List TokenValue) (name : List UnitValue) (ms : List MailboxValue) → (is : IsGroup ts name ms) → SplitsName ts is.before is.behind
+pub group_name : (ts : List TokenValue) (name : List UnitValue) (ms : List MailboxValue) → (is : IsGroup ts name ms) → SplitsName ts is.before is.behind
 group_name ts name ms is = record {
   splits = record { at = is.colon; whole = is.whole; is_at = is.is_colon; first = phrase_lacks 58 is.before (λ e. omega (arith, e)) is.group.is_phrase };
   closed = phrase_lacks 60 is.before (λ e. omega (arith, e)) is.group.is_phrase;
@@ -220,14 +220,14 @@ two_marks (h ∷ a) (k ∷ b) s t x y la lb is it e =
     two_marks a b s t x y (and_parts (not (is_mark 60 h)) (lacks 60 a) la).1 (and_parts (not (is_mark 58 k)) (lacks 58 b) lb).1 is it rest
 
 -- where a name is split off, the element is a group
-mailbox_no_name : (ts before behind : List TokenValue) (m : MailboxValue) → SplitsName ts before behind → IsMailbox ts m → ⊥
+pub mailbox_no_name : (ts before behind : List TokenValue) (m : MailboxValue) → SplitsName ts before behind → IsMailbox ts m → ⊥
 mailbox_no_name ts before behind m s (inl is) =
     not_lacking 58 before behind s.splits.at s.splits.is_at (rw (s.splits.whole) at (bare_lacks 58 ts m (λ e. omega (arith, e)) (λ e. omega (arith, e)) is))
 mailbox_no_name ts before behind m s (inr is) =
     two_marks before is.before s.splits.at is.angled.open_mark behind (is.inner ++ is.angled.close_mark ∷ is.angled.after) s.closed (says_lacks 58 is.before m.phrase m.display (λ e. omega (arith, e)) is.named.says)
     s.splits.is_at is.angled.opens (sym s.splits.whole ∙ is.angled.whole)
 
-group_parts : (ts before behind : List TokenValue) (name : List UnitValue) (ms : List MailboxValue) → SplitsName ts before behind → IsGroup ts name ms → IsGroupBy before behind name ms
+pub group_parts : (ts before behind : List TokenValue) (name : List UnitValue) (ms : List MailboxValue) → SplitsName ts before behind → IsGroup ts name ms → IsGroupBy before behind name ms
 group_parts ts before behind name ms s is =
     let other = group_name ts name ms is in
     let cut = cut_once 58 before is.before s.splits.at is.colon behind is.behind s.splits.first other.splits.first s.splits.is_at is.is_colon (sym s.splits.whole ∙ is.whole) in
@@ -249,7 +249,7 @@ pub single_element : (ts : List TokenValue) (e : ElementValue) → SaysSingle ts
 single_element ts (One m) is = is
 single_element ts (Group name ms) is = absurd is
 
-IsElement-once : (ts : List TokenValue) (e f : ElementValue) → IsElement ts e → IsElement ts f → e ≡ f
+pub IsElement-once : (ts : List TokenValue) (e f : ElementValue) → IsElement ts e → IsElement ts f → e ≡ f
 IsElement-once ts (One m) (One n) p q = ap One (IsMailbox-once ts m n p q)
 IsElement-once ts (One m) (Group vs ns) p q = absurd (mailbox_no_name ts q.before q.behind m (group_name ts vs ns q) p)
 IsElement-once ts (Group us ms) (One n) p q = absurd (mailbox_no_name ts p.before p.behind n (group_name ts us ms p) q)
@@ -259,7 +259,7 @@ IsElement-once ts (Group us ms) (Group vs ns) p q =
     let members : ms ≡ ns = same.members in
     cc
 
-element_not_blank : (ts : List TokenValue) (e : ElementValue) → IsElement ts e → are_blank ts ≡ true → ⊥
+pub element_not_blank : (ts : List TokenValue) (e : ElementValue) → IsElement ts e → are_blank ts ≡ true → ⊥
 element_not_blank ts (One m) is h = mailbox_not_blank ts m is h
 element_not_blank ts (Group name ms) is h = not_lacking 58 is.before is.behind is.colon is.is_colon (rw (is.whole) at (blank_lacks 58 ts h))
 

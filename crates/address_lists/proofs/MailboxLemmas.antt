@@ -56,7 +56,7 @@ no_says ts not_blank not_phrase false units s = both_ways (are_blank ts) not_bla
 
 -- ---- routes
 
-hop_lacks : (m : ℕ) (ts : List TokenValue) → m ≢ 46 → m ≢ 64 → IsHop ts → lacks m ts ≡ true
+pub hop_lacks : (m : ℕ) (ts : List TokenValue) → m ≢ 46 → m ≢ 64 → IsHop ts → lacks m ts ≡ true
 hop_lacks m ts dot at is =
     rw (is.whole) (lacks-append m is.before (is.at ∷ is.domain) (blank_lacks m is.before is.nothing_before)
     (and_from (not (is_mark m is.at)) (lacks m is.domain) (ap not (other_mark 64 m is.at (λ e. at (sym e)) is.is_at)) (domain_lacks m is.domain dot is.is_domain)))

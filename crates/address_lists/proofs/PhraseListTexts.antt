@@ -1,7 +1,6 @@
 -- Whether a text is phrases is decided, and phrases have pieces.
-use Rattle.std.proofs.Common.{◌≡◌, ℕ, ◌⊎◌, inl, inr, List, [], ◌∷◌, ◌++◌, Option, Some, None, refl, sym, ap, ◌∙◌, subst}
+use Rattle.std.proofs.Common.{ℕ, ◌⊎◌, inl, inr, List, [], ◌∷◌, ◌++◌, refl, sym, ◌∙◌, subst}
 use Rattle.std.proofs.lemmas.Bool.{cases_Bool, true≢false, both_ways}
-use Rattle.std.proofs.lemmas.List.{append_assoc, append-nil}
 use Rattle.std.specs.List.{list_all}
 use Rattle.encoded_words.specs.Words.{UnitValue}
 use Rattle.encoded_words.proofs.AllUnits.{HasPhraseUnits-some}
@@ -14,17 +13,15 @@ use Rattle.field_tokens.proofs.DecideTokens.{decide_tokens}
 use Rattle.address_lists.specs.Lexemes.{are_blank}
 use Rattle.address_lists.specs.Phrases.{may_stand_in_phrase, IsPhrase, phrase_items}
 use Rattle.address_lists.specs.PhraseLists.{IsOnePhrase, SaysPhrases, GivesOnePhrase, with_commas, PhrasesPieces}
-use Rattle.address_lists.specs.AddressLists.{Divided, SayParts, AreDivided}
-use Rattle.address_lists.specs.Walks.{awaited_behind, walk, SplitsPlace}
-use Rattle.address_lists.proofs.WalkLemmas.{walk-append, ends_here}
-use Rattle.address_lists.proofs.DividedLemmas.{divided_first, divided_more, divided_one, divided_last}
+use Rattle.address_lists.specs.AddressLists.{Divided, SayParts}
+use Rattle.address_lists.proofs.DecideDivided.{Known, decide_divided}
 use Rattle.address_lists.proofs.SoundPhrases.{text_items, text_comments}
 use Rattle.address_lists.proofs.WrittenPhrases.{PlacePieces-some}
 use Rattle.address_lists.proofs.PhraseListLemmas.{says_phrase_walked, no_phrase, CanWrite, can_front, can_rest, phrases_of}
 
 -- ---- whether tokens are phrases
 
-decide_phrase : (ts : List TokenValue) → IsPhrase ts ⊎ ¬ IsPhrase ts
+pub decide_phrase : (ts : List TokenValue) → IsPhrase ts ⊎ ¬ IsPhrase ts
 decide_phrase ts = elim (cases_Bool (are_blank ts)) [
   | inl blank ↦ inr (λ is. both_ways (are_blank ts) is.some blank)
   | inr some ↦ elim (cases_Bool (list_all may_stand_in_phrase ts)) [
@@ -33,53 +30,18 @@ decide_phrase ts = elim (cases_Bool (are_blank ts)) [
   ]
 ]
 
-abbrev pub AreSomePhrases : List TokenValue → Type 0
-AreSomePhrases ts = ((phrases : List (List UnitValue)) × AreDivided IsOnePhrase ts phrases) ⊎ ((phrases : List (List UnitValue)) → ¬ AreDivided IsOnePhrase ts phrases)
-
-decide_last : (ts : List TokenValue) (awaited : Option ℕ) → walk None ts ≡ Some awaited → AreSomePhrases ts
-decide_last ts awaited walked = elim (decide_phrase ts) [
-  | inl is ↦ let units = HasPhraseUnits-some (phrase_items ts) in inl (units.0 ∷ [], divided_one IsOnePhrase ts (units.0 ∷ []) (is, units.1))
-  | inr none ↦ inr (λ phrases d. no_phrase ts none phrases (divided_last IsOnePhrase says_phrase_walked ts phrases (λ e. cc (sym walked ∙ e)) d))
+decide_one : (ts : List TokenValue) → Known IsOnePhrase ts
+decide_one ts = elim (decide_phrase ts) [
+  | inl is ↦ let units = HasPhraseUnits-some (phrase_items ts) in inl (units.0 ∷ [], (is, units.1))
+  | inr none ↦ inr (no_phrase ts none)
 ]
-
-decide_place : (ts place rest : List TokenValue) → SplitsPlace ts place rest → AreSomePhrases rest → AreSomePhrases ts
-decide_place ts place rest s (inr none) = inr (λ phrases d. let part = divided_first IsOnePhrase says_phrase_walked ts place rest phrases s d in none part.others part.divided)
-decide_place ts place rest s (inl found) = elim (decide_phrase place) [
-  | inl is ↦
-      let units = HasPhraseUnits-some (phrase_items place) in
-      inl (units.0 ∷ found.0, divided_more IsOnePhrase ts place rest (units.0 ∷ []) found.0 s (is, units.1) found.1)
-  | inr other ↦ inr (λ phrases d. let part = divided_first IsOnePhrase says_phrase_walked ts place rest phrases s d in no_phrase place other part.first part.says)
-]
-
--- the tokens of a place come first, and nothing or something is awaited behind them
-abbrev DecidesFrom : List TokenValue → Type 0
-DecidesFrom ts = (front : List TokenValue) (awaited : Option ℕ) → walk None front ≡ Some awaited → AreSomePhrases (front ++ ts)
-
-decide_token : (t : TokenValue) (ts : List TokenValue) → DecidesFrom ts → DecidesFrom (t ∷ ts)
-decide_token t ts more front awaited walked = by (awaited_behind awaited t) refl
-  where
-    by : (next : Option (Option ℕ)) → awaited_behind awaited t ≡ next → AreSomePhrases (front ++ t ∷ ts)
-    by None e =
-        let ends = ends_here awaited t e in
-        let s : SplitsPlace (front ++ t ∷ ts) front ts = record { comma = t; whole = refl; is_comma = ends.comma; walked = walked ∙ ap Some ends.nothing } in
-        decide_place (front ++ t ∷ ts) front ts s (more [] None refl)
-    by (Some next) e =
-        let onward : walk None (front ++ t ∷ []) ≡ Some next = rw (walk-append front (t ∷ []) None, walked, e) refl in
-        subst AreSomePhrases (append_assoc front (t ∷ []) ts) (more (front ++ t ∷ []) next onward)
-
-decide_from : (ts : List TokenValue) → DecidesFrom ts
-decide_from [] = λ front awaited walked. subst AreSomePhrases (sym (append-nil front)) (decide_last front awaited walked)
-decide_from (t ∷ ts) = decide_token t ts (decide_from ts)
-
-decide_divided : (ts : List TokenValue) → AreSomePhrases ts
-decide_divided ts = decide_from ts [] None refl
 
 -- A text is phrases, or it isn't.
 pub decide_phrases : (text : List ℕ)
     → ((phrases : List (List UnitValue)) × (comments : List CommentValue) × SaysPhrases text phrases comments) ⊎ ((phrases : List (List UnitValue)) (comments : List CommentValue) → ¬ SaysPhrases text phrases comments)
 decide_phrases text = elim (decide_tokens Mail text) [
   | inr none ↦ inr (λ phrases comments says. none says.tokens says.has)
-  | inl found ↦ elim (decide_divided found.0) [
+  | inl found ↦ elim (decide_divided IsOnePhrase says_phrase_walked decide_one found.0) [
     | inr none ↦ inr (λ phrases comments says. none phrases (phrases_of text found.0 phrases comments found.1 says))
     | inl are ↦
         let comments = CommentsSay-some (comments_of found.0) (text_comments text found.0 found.1) in

@@ -87,7 +87,7 @@ apart-append (p ∷ []) (q ∷ b) sa sb = refl
 apart-append (p ∷ n ∷ a) b sa sb = ap (λ r. p ++ space ∷ r) (apart-append (n ∷ a) b (omega arith) sb) ∙ sym (append_assoc p (space ∷ apart (n ∷ a)) (space ∷ apart b))
 
 -- a comma by itself
-abbrev comma : TokenValue
+abbrev pub comma : TokenValue
 comma = record { kind = Special; octets = 44 ∷ [] }
 
 comma_is_part : IsPart Mail (comma ∷ [])
@@ -135,7 +135,7 @@ joined_there : (pieces : List (List ℕ)) → 0 < length (join_with_byte 32 piec
 joined_there [] some = absurd (omega (arith, some))
 joined_there (p ∷ pieces) some = omega arith
 
-again_some : (units : List UnitValue) (values : List CommentValue) (pieces : List (List ℕ)) → IsPhraseAgain units values pieces → 0 < length pieces
+pub again_some : (units : List UnitValue) (values : List CommentValue) (pieces : List (List ℕ)) → IsPhraseAgain units values pieces → 0 < length pieces
 again_some units values pieces is =
     let text : List ℕ = join_with_byte 32 (map octets_of is.parts) in
     let some : 0 < length text = text_some (apart is.parts) text (tokens_there is.parts is.are_parts is.some) (AreTokens-apart Mail is.parts is.are_parts) in
@@ -221,7 +221,7 @@ parts_again (part ∷ next ∷ parts) (us ∷ vs ∷ phrases) (ps ∷ qs ∷ pla
 
 -- ---- the joined text
 
-lines_of : (pieces : List (List ℕ)) → AllByRecursion IsLinePiece pieces → AllByRecursion IsLine pieces
+pub lines_of : (pieces : List (List ℕ)) → AllByRecursion IsLinePiece pieces → AllByRecursion IsLine pieces
 lines_of [] all = tt
 lines_of (p ∷ pieces) all = (ascii_line p all.0.ascii all.0.line, lines_of pieces all.1)
 

@@ -70,7 +70,7 @@ say_both (c ∷ cs) ds values say =
 
 -- ---- pieces that are joined
 
-join_two : (p : List ℕ) (ps : List (List ℕ)) (q : List ℕ) (qs : List (List ℕ)) → join_with_byte 32 ((p ∷ ps) ++ q ∷ qs) ≡ join_with_byte 32 (p ∷ ps) ++ 32 ∷ join_with_byte 32 (q ∷ qs)
+pub join_two : (p : List ℕ) (ps : List (List ℕ)) (q : List ℕ) (qs : List (List ℕ)) → join_with_byte 32 ((p ∷ ps) ++ q ∷ qs) ≡ join_with_byte 32 (p ∷ ps) ++ 32 ∷ join_with_byte 32 (q ∷ qs)
 join_two p [] q qs = refl
 join_two p (r ∷ ps) q qs = ap (λ t. p ++ 32 ∷ t) (join_two r ps q qs) ∙ sym (append_assoc p (32 ∷ join_with_byte 32 (r ∷ ps)) (32 ∷ join_with_byte 32 (q ∷ qs)))
 
@@ -129,18 +129,18 @@ pub units_before : (ts more : List TokenValue) (us : List UnitValue) → are_bla
 units_before ts more us blank has = rw (phrase_items-append ts more) (HasPhraseUnits-around [] (phrase_items ts) (phrase_items more) us tt (blank_separators more blank) has)
 
 -- what is written of the phrase itself
-record IsHead (units : List UnitValue) (values : List CommentValue) (pieces : List (List ℕ)) : Type 0 where
-  first : List TokenValue
-  others : List (List TokenValue)
-  are_parts : AllByRecursion (IsPart Mail) (first ∷ others)
-  joined : join_with_byte 32 (map octets_of (first ∷ others)) ≡ join_with_byte 32 pieces
-  some : 0 < length pieces
-  phrase : IsPhrase (apart (first ∷ others))
-  has_units : HasPhraseUnits (phrase_items (apart (first ∷ others))) units
-  say : CommentsSay (comments_of (apart (first ∷ others))) values
-  are_pieces : AllByRecursion IsLinePiece pieces
+pub record IsHead (units : List UnitValue) (values : List CommentValue) (pieces : List (List ℕ)) : Type 0 where
+  pub first : List TokenValue
+  pub others : List (List TokenValue)
+  pub are_parts : AllByRecursion (IsPart Mail) (first ∷ others)
+  pub joined : join_with_byte 32 (map octets_of (first ∷ others)) ≡ join_with_byte 32 pieces
+  pub some : 0 < length pieces
+  pub phrase : IsPhrase (apart (first ∷ others))
+  pub has_units : HasPhraseUnits (phrase_items (apart (first ∷ others))) units
+  pub say : CommentsSay (comments_of (apart (first ∷ others))) values
+  pub are_pieces : AllByRecursion IsLinePiece pieces
 
-groups : (cs : List (List ℕ)) → AllByRecursion IsAsciiComment cs → AllByRecursion (IsGroup comment_marks) cs
+pub groups : (cs : List (List ℕ)) → AllByRecursion IsAsciiComment cs → AllByRecursion (IsGroup comment_marks) cs
 groups [] all = tt
 groups (c ∷ cs) all = (all.0.is_comment, groups cs all.1)
 
@@ -326,7 +326,7 @@ no_units = record {
   says = refl;
 }
 
-units_head : (us : List UnitValue) (pieces : List (List ℕ)) → AreUnits us → AreWritable us → AllByRecursion (SourceHas AreAtomOctets) us → UnitsPieces us pieces → IsHead us [] pieces
+pub units_head : (us : List UnitValue) (pieces : List (List ℕ)) → AreUnits us → AreWritable us → AllByRecursion (SourceHas AreAtomOctets) us → UnitsPieces us pieces → IsHead us [] pieces
 units_head [] pieces are can have writes = rw (writes) (empty_head no_units)
 units_head (u ∷ us) [] are can have writes = let none : u ∷ us ≡ [] = sym are ∙ WriteAll-nil (u ∷ us) writes in cc none
 units_head (u ∷ us) (w ∷ ws) are can have writes =
@@ -334,7 +334,7 @@ units_head (u ∷ us) (w ∷ ws) are can have writes =
 
 -- ---- all of it
 
-core_units : (tokens core trail : List TokenValue) (us : List UnitValue) → HasCore tokens core trail → HasPhraseUnits (phrase_items tokens) us → HasPhraseUnits (phrase_items core) us
+pub core_units : (tokens core trail : List TokenValue) (us : List UnitValue) → HasCore tokens core trail → HasPhraseUnits (phrase_items tokens) us → HasPhraseUnits (phrase_items core) us
 core_units tokens core trail us is has =
     let items : phrase_items tokens ≡ phrase_items is.lead ++ (phrase_items core ++ phrase_items trail)
     = ap phrase_items is.whole ∙ phrase_items-append is.lead (core ++ trail) ∙ ap (λ r. phrase_items is.lead ++ r) (phrase_items-append core trail) in

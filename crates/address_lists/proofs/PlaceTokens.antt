@@ -9,7 +9,7 @@ use Rattle.field_tokens.proofs.Parts.{IsToken-alike, stops_front, octets_of-toke
 use Rattle.field_tokens.proofs.TokenLines.{AreLineTokens, tokens_lines, line_none, line_append}
 use Rattle.address_lists.specs.Lexemes.{HasTokenValues}
 
-octets-append : (a b : List TokenValue) → octets_of (a ++ b) ≡ octets_of a ++ octets_of b
+pub octets-append : (a b : List TokenValue) → octets_of (a ++ b) ≡ octets_of a ++ octets_of b
 octets-append a b = flat_map-append (λ (t : TokenValue). t.octets) a b
 
 tokens_front : (style : Style) (a b : List TokenValue) (text : List ℕ) → AreTokens style (a ++ b) text → AreTokens style a (octets_of a)

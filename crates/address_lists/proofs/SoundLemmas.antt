@@ -43,7 +43,7 @@ shape_of Comment octets rest is = tt
 pub inner-group : (octets inside : List ℕ) → octets ≡ 34 ∷ (inside ++ 34 ∷ []) → inner_octets octets ≡ inside
 inner-group octets inside e = rw (e) (take_at inside (34 ∷ []) (length (34 ∷ (inside ++ 34 ∷ [])) - 2) (omega (arith, length-append inside (34 ∷ []))))
 
-unquoted_all : (p : ℕ → Bool) (b : Bool) (octets : List ℕ) → list_all p octets ≡ true → list_all p (unquoted b octets) ≡ true
+pub unquoted_all : (p : ℕ → Bool) (b : Bool) (octets : List ℕ) → list_all p octets ≡ true → list_all p (unquoted b octets) ≡ true
 unquoted_all p b [] h = refl
 unquoted_all p true (x ∷ octets) h =
     let parts = and_parts (p x) (list_all p octets) h in

@@ -24,7 +24,7 @@ item_utf8 Special octets u = tt
 item_utf8 Gap octets u = tt
 item_utf8 Comment octets u = tt
 
-sound_items : (ts : List TokenValue) → AllByRecursion IsSound ts → AllByRecursion IsUtf8Item (phrase_items ts)
+pub sound_items : (ts : List TokenValue) → AllByRecursion IsSound ts → AllByRecursion IsUtf8Item (phrase_items ts)
 sound_items [] s = tt
 sound_items (t ∷ ts) s = (item_utf8 t.kind t.octets s.0.utf8, sound_items ts s.1)
 
@@ -46,7 +46,7 @@ atom_item Special octets shape = tt
 atom_item Gap octets shape = tt
 atom_item Comment octets shape = tt
 
-sound_atoms : (ts : List TokenValue) → AllByRecursion IsSound ts → AllByRecursion (AtomHas AreAtomOctets) (phrase_items ts)
+pub sound_atoms : (ts : List TokenValue) → AllByRecursion IsSound ts → AllByRecursion (AtomHas AreAtomOctets) (phrase_items ts)
 sound_atoms [] s = tt
 sound_atoms (t ∷ ts) s = (atom_item t.kind t.octets s.0.shape, sound_atoms ts s.1)
 

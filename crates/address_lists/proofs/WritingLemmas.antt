@@ -23,7 +23,7 @@ use Rattle.field_tokens.proofs.TokenLines.{one_ascii}
 use Rattle.address_lists.proofs.Utf8Lemmas.{quoted_utf8}
 use Rattle.address_lists.proofs.SoundLemmas.{Shape, IsSound, inner-group, tokens_sound, sound_front, sound_rest, sound_words, contents_utf8, contents_line, contents-words}
 
-abbrev HasShape : TokenValue → Type 0
+abbrev pub HasShape : TokenValue → Type 0
 HasShape t = Shape t.kind t.octets
 
 sound_shapes : (ts : List TokenValue) → AllByRecursion IsSound ts → AllByRecursion HasShape ts
@@ -67,14 +67,14 @@ special_is Gap h = cc h
 special_is Comment h = cc h
 
 -- a mark is the token of its octet
-mark_is : (m : ℕ) (t : TokenValue) → is_mark m t ≡ true → t ≡ record { kind = Special; octets = m ∷ [] }
+pub mark_is : (m : ℕ) (t : TokenValue) → is_mark m t ≡ true → t ≡ record { kind = Special; octets = m ∷ [] }
 mark_is m t h =
     let parts = and_parts (is_special_kind t.kind) (bytes_eq t.octets (m ∷ [])) h in
     let kind : t.kind ≡ Special = special_is t.kind parts.0 in
     let octets : t.octets ≡ m ∷ [] = (bytes_eq-Decides t.octets (m ∷ [])).0 parts.1 in
     let eta : t ≡ record { kind = Special; octets = m ∷ [] } = rw (← kind, ← octets) refl in eta
 
-dotted_writes : (ws : List TokenValue) → are_dotted (is_part false) ws ≡ true → AllByRecursion HasShape ws
+pub dotted_writes : (ws : List TokenValue) → are_dotted (is_part false) ws ≡ true → AllByRecursion HasShape ws
     → (more : List TokenValue) (rest : List ℕ) → Stops (is_atom_octet Mail) rest → AreTokens Mail more rest → AreTokens Mail (ws ++ more) (contents ws ++ rest)
 dotted_writes [] h s more rest stops are = cc h
 dotted_writes (w ∷ []) h s more rest stops are =
@@ -114,14 +114,14 @@ literal_writes [] h s more rest are = cc h
 literal_writes (w ∷ []) h s more rest are = (rest, rw (literal_content w.kind w.octets h, append-nil) refl, literal_token w.kind w.octets rest h s.0, are)
 literal_writes (w ∷ v ∷ ws) h s more rest are = cc h
 
-words_again : (ts : List TokenValue) → words_of (words_of ts) ≡ words_of ts
+pub words_again : (ts : List TokenValue) → words_of (words_of ts) ≡ words_of ts
 words_again [] = refl
 words_again (t ∷ ts) = elim (cases_Bool (is_blank_token t)) [
   | inl blank ↦ rw (blank) (words_again ts)
   | inr word ↦ rw (word, word) (ap (λ r. t ∷ r) (words_again ts))
 ]
 
-domain_writes : (ts : List TokenValue) → is_domain ts ≡ true → AllByRecursion IsSound ts → Writes (contents ts) (words_of ts)
+pub domain_writes : (ts : List TokenValue) → is_domain ts ≡ true → AllByRecursion IsSound ts → Writes (contents ts) (words_of ts)
 domain_writes ts h s = rw (contents-words ts) (record {
   are_tokens = λ more rest stops are. elim (or_cases (are_dotted (is_part false) (words_of ts)) (is_one_literal (words_of ts)) h) [
     | inl dotted ↦ dotted_writes (words_of ts) dotted (sound_shapes (words_of ts) (sound_words ts s)) more rest stops are
@@ -132,12 +132,13 @@ domain_writes ts h s = rw (contents-words ts) (record {
 -- ---- local parts
 
 -- tokens of a local part, and its text
-record WritesLocal (local : List ℕ) (tokens : List TokenValue) : Type 0 where
-  writes : Writes (local_text local) tokens
-  is_local : IsLocal tokens
-  says : local ≡ contents tokens
+pub record WritesLocal (local : List ℕ) (tokens : List TokenValue) : Type 0 where
+  pub writes : Writes (local_text local) tokens
+  pub is_local : IsLocal tokens
+  pub says : local ≡ contents tokens
+  pub words : words_of tokens ≡ tokens
 
-dotted_tokens : List (List ℕ) → List TokenValue
+pub dotted_tokens : List (List ℕ) → List TokenValue
 dotted_tokens [] = []
 dotted_tokens (a ∷ []) = atom a ∷ []
 dotted_tokens (a ∷ b ∷ more) = atom a ∷ dot ∷ dotted_tokens (b ∷ more)
@@ -146,7 +147,7 @@ some_atom : (a : List ℕ) → is_some_atom a ≡ true → (0 < length a) × (li
 some_atom [] h = cc h
 some_atom (x ∷ a) h = (omega arith, h)
 
-dotted_shapes : (parts : List (List ℕ)) → list_all is_some_atom parts ≡ true → AllByRecursion HasShape (dotted_tokens parts)
+pub dotted_shapes : (parts : List (List ℕ)) → list_all is_some_atom parts ≡ true → AllByRecursion HasShape (dotted_tokens parts)
 unfolding dotted_tokens
 dotted_shapes [] h = tt
 dotted_shapes (a ∷ []) h = (some_atom a (and_parts (is_some_atom a) true h).0, tt)
@@ -154,19 +155,19 @@ dotted_shapes (a ∷ b ∷ more) h =
     let parts = and_parts (is_some_atom a) (list_all is_some_atom (b ∷ more)) h in
     (some_atom a parts.0, (tt, dotted_shapes (b ∷ more) parts.1))
 
-dotted_again : (parts : List (List ℕ)) → 0 < length parts → are_dotted (is_part false) (dotted_tokens parts) ≡ true
+pub dotted_again : (parts : List (List ℕ)) → 0 < length parts → are_dotted (is_part false) (dotted_tokens parts) ≡ true
 unfolding dotted_tokens
 dotted_again [] some = absurd (omega arith)
 dotted_again (a ∷ []) some = refl
 dotted_again (a ∷ b ∷ more) some = dotted_again (b ∷ more) (omega arith)
 
-dotted_words : (parts : List (List ℕ)) → words_of (dotted_tokens parts) ≡ dotted_tokens parts
+pub dotted_words : (parts : List (List ℕ)) → words_of (dotted_tokens parts) ≡ dotted_tokens parts
 unfolding dotted_tokens
 dotted_words [] = refl
 dotted_words (a ∷ []) = refl
 dotted_words (a ∷ b ∷ more) = ap (λ r. atom a ∷ dot ∷ r) (dotted_words (b ∷ more))
 
-dotted_contents : (parts : List (List ℕ)) → contents (dotted_tokens parts) ≡ join_with_byte 46 parts
+pub dotted_contents : (parts : List (List ℕ)) → contents (dotted_tokens parts) ≡ join_with_byte 46 parts
 unfolding dotted_tokens
 dotted_contents [] = refl
 dotted_contents (a ∷ []) = append-nil a
@@ -202,6 +203,7 @@ atoms_written local h =
       };
       is_local = rw (dotted_words parts) (allow_quoted (dotted_tokens parts) dotted);
       says = says;
+      words = dotted_words parts;
     }
 
 -- a quoted string
@@ -260,9 +262,10 @@ quoted_written local h =
       writes = record { are_tokens = λ more rest stops are. (rest, rw (h) refl, quoted_group local, are) };
       is_local = refl;
       says = sym (append-nil (content_of Quoted (quoted_string local)) ∙ says);
+      words = refl;
     }
 
-local_written : (local : List ℕ) → (tokens : List TokenValue) × WritesLocal local tokens
+pub local_written : (local : List ℕ) → (tokens : List TokenValue) × WritesLocal local tokens
 local_written local = elim (cases_Bool (is_dot_atom local)) [
   | inl dotted ↦ (dotted_tokens (slice_split (λ x. eqb x 46) local), atoms_written local dotted)
   | inr other ↦ (record { kind = Quoted; octets = quoted_string local } ∷ [], quoted_written local other)
@@ -279,7 +282,7 @@ quoted_line (x ∷ octets) h =
       | inr other ↦ rw (other) (and_from (is_line_octet x) (list_all is_line_octet (flat_map quoted_octet octets)) parts.0 (quoted_line octets parts.1))
     ]
 
-line-append : (a b : List ℕ) → IsLine a → IsLine b → IsLine (a ++ b)
+pub line-append : (a b : List ℕ) → IsLine a → IsLine b → IsLine (a ++ b)
 line-append a b p q = record {
   utf8 = IsUtf8-append a b p.utf8 q.utf8;
   plain = list_all-append is_line_octet a b ∙ and_from (list_all is_line_octet a) (list_all is_line_octet b) p.plain q.plain;
@@ -291,7 +294,7 @@ one_line x small plain = record { utf8 = one_ascii x small; plain = and_from (is
 quote_line : IsLine (34 ∷ [])
 quote_line = one_line 34 (omega arith) refl
 
-local_line : (local : List ℕ) → IsLine local → IsLine (local_text local)
+pub local_line : (local : List ℕ) → IsLine local → IsLine (local_text local)
 local_line local l = elim (cases_Bool (is_dot_atom local)) [
   | inl dotted ↦ rw (dotted) l
   | inr other ↦ rw (other) (line-append (34 ∷ []) (flat_map quoted_octet local ++ 34 ∷ []) quote_line
@@ -303,7 +306,7 @@ contents_is_line ts s = record { utf8 = contents_utf8 ts s; plain = contents_lin
 
 -- ---- the whole path
 
-abbrev mark : ℕ → TokenValue
+abbrev pub mark : ℕ → TokenValue
 mark m = record { kind = Special; octets = m ∷ [] }
 
 -- an address of sound tokens is read back

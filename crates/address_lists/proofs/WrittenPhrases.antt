@@ -22,9 +22,9 @@ use Rattle.address_lists.proofs.PhraseWriting.{core_from, core_utf8, core_writab
 
 -- ---- the core is one
 
-record SameEnds (a b x y : List TokenValue) : Type 0 where
-  front : a ≡ b
-  rest : x ≡ y
+pub record SameEnds (a b x y : List TokenValue) : Type 0 where
+  pub front : a ≡ b
+  pub rest : x ≡ y
 
 rest_gaps : (t : TokenValue) (ts : List TokenValue) → list_all (λ u. is_gap u.kind) (t ∷ ts) ≡ true → list_all (λ u. is_gap u.kind) ts ≡ true
 rest_gaps t ts h = (and_parts (is_gap t.kind) (list_all (λ u. is_gap u.kind) ts) h).1
@@ -38,7 +38,7 @@ no_gap_first t ts (u ∷ x) gap begins e =
     let same : u ≡ t = cc e in
     both_ways (is_gap u.kind) begins (ap (λ (v : TokenValue). is_gap v.kind) same ∙ gap)
 
-gaps_once : (a b x y : List TokenValue) → list_all (λ u. is_gap u.kind) a ≡ true → list_all (λ u. is_gap u.kind) b ≡ true → BeginsNoGap x → BeginsNoGap y → a ++ x ≡ b ++ y → SameEnds a b x y
+pub gaps_once : (a b x y : List TokenValue) → list_all (λ u. is_gap u.kind) a ≡ true → list_all (λ u. is_gap u.kind) b ≡ true → BeginsNoGap x → BeginsNoGap y → a ++ x ≡ b ++ y → SameEnds a b x y
 gaps_once [] [] x y ga gb bx by e = record { front = refl; rest = e }
 gaps_once [] (t ∷ b) x y ga gb bx by e = absurd (no_gap_first t (b ++ y) x (first_gap t b gb) bx e)
 gaps_once (t ∷ a) [] x y ga gb bx by e = absurd (no_gap_first t (a ++ x) y (first_gap t a ga) by (sym e))
@@ -49,36 +49,37 @@ gaps_once (t ∷ a) (u ∷ b) x y ga gb bx by e =
     let front : a ≡ b = r.front in
     record { front = cc; rest = r.rest }
 
-word_in_blank : (b : List TokenValue) (t : TokenValue) (y : List TokenValue) → is_blank_token t ≡ false → are_blank ((b ++ t ∷ []) ++ y) ≡ true → ⊥
-word_in_blank [] t y word h = both_ways (is_blank_token t) word (and_parts (is_blank_token t) (are_blank y) h).0
-word_in_blank (u ∷ b) t y word h = word_in_blank b t y word (and_parts (is_blank_token u) (are_blank ((b ++ t ∷ []) ++ y)) h).1
+not_in_all : (p : TokenValue → Bool) (b : List TokenValue) (t : TokenValue) (y : List TokenValue) → p t ≡ false → list_all p ((b ++ t ∷ []) ++ y) ≡ true → ⊥
+not_in_all p [] t y other h = both_ways (p t) other (and_parts (p t) (list_all p y) h).0
+not_in_all p (u ∷ b) t y other h = not_in_all p b t y other (and_parts (p u) (list_all p ((b ++ t ∷ []) ++ y)) h).1
 
-trail_once : (a b : List TokenValue) (s t : TokenValue) (x y : List TokenValue) → is_blank_token s ≡ false → is_blank_token t ≡ false → are_blank x ≡ true → are_blank y ≡ true
+-- tokens are cut in one way behind the last one that doesn't pass
+pub trail_once : (p : TokenValue → Bool) (a b : List TokenValue) (s t : TokenValue) (x y : List TokenValue) → p s ≡ false → p t ≡ false → list_all p x ≡ true → list_all p y ≡ true
     → (a ++ s ∷ []) ++ x ≡ (b ++ t ∷ []) ++ y → SameEnds (a ++ s ∷ []) (b ++ t ∷ []) x y
-trail_once [] [] s t x y ws wt bx by e =
+trail_once p [] [] s t x y ws wt bx by e =
     let same : s ≡ t = cc e in
     record { front = ap (λ u. u ∷ []) same; rest = cc e }
-trail_once [] (u ∷ b) s t x y ws wt bx by e =
+trail_once p [] (u ∷ b) s t x y ws wt bx by e =
     let rest : x ≡ (b ++ t ∷ []) ++ y = cc e in
-    absurd (word_in_blank b t y wt (rw (rest) at bx))
-trail_once (u ∷ a) [] s t x y ws wt bx by e =
+    absurd (not_in_all p b t y wt (rw (rest) at bx))
+trail_once p (u ∷ a) [] s t x y ws wt bx by e =
     let rest : y ≡ (a ++ s ∷ []) ++ x = cc (sym e) in
-    absurd (word_in_blank a s x ws (rw (rest) at by))
-trail_once (u ∷ a) (v ∷ b) s t x y ws wt bx by e =
+    absurd (not_in_all p a s x ws (rw (rest) at by))
+trail_once p (u ∷ a) (v ∷ b) s t x y ws wt bx by e =
     let same : u ≡ v = cc e in
     let more : (a ++ s ∷ []) ++ x ≡ (b ++ t ∷ []) ++ y = cc e in
-    let r = trail_once a b s t x y ws wt bx by more in
+    let r = trail_once p a b s t x y ws wt bx by more in
     record { front = rw (same) (ap (λ f. v ∷ f) r.front); rest = r.rest }
 
 core_begins : (tokens core trail : List TokenValue) → HasCore tokens core trail → BeginsNoGap (core ++ trail)
 core_begins tokens core trail has = rw (has.begins.2) (has.begins.3)
 
-core_once : (tokens core trail other behind : List TokenValue) → HasCore tokens core trail → HasCore tokens other behind → SameEnds core other trail behind
+pub core_once : (tokens core trail other behind : List TokenValue) → HasCore tokens core trail → HasCore tokens other behind → SameEnds core other trail behind
 core_once tokens core trail other behind p q =
     let lead = gaps_once p.lead q.lead (core ++ trail) (other ++ behind) p.gaps q.gaps (core_begins tokens core trail p) (core_begins tokens other behind q) (sym p.whole ∙ q.whole) in
     let same : (p.ends.0 ++ p.ends.1 ∷ []) ++ trail ≡ (q.ends.0 ++ q.ends.1 ∷ []) ++ behind
     = ap (λ r. r ++ trail) (sym p.ends.2) ∙ lead.rest ∙ ap (λ r. r ++ behind) q.ends.2 in
-    let r = trail_once p.ends.0 q.ends.0 p.ends.1 q.ends.1 trail behind p.ends.3 q.ends.3 p.blank q.blank same in
+    let r = trail_once is_blank_token p.ends.0 q.ends.0 p.ends.1 q.ends.1 trail behind p.ends.3 q.ends.3 p.blank q.blank same in
     record { front = p.ends.2 ∙ r.front ∙ sym q.ends.2; rest = r.rest }
 
 -- ---- the pieces are one
@@ -87,7 +88,7 @@ UnitsPieces-once : (us : List UnitValue) (ps qs : List (List ℕ)) → UnitsPiec
 UnitsPieces-once [] ps qs p q = p ∙ sym q
 UnitsPieces-once (u ∷ us) ps qs p q = WriteAll-once (u ∷ us) ps qs p q
 
-PhrasePieces-once : (b : Bool) (tokens : List TokenValue) (ps qs : List (List ℕ)) → PhrasePieces b tokens ps → PhrasePieces b tokens qs → ps ≡ qs
+pub PhrasePieces-once : (b : Bool) (tokens : List TokenValue) (ps qs : List (List ℕ)) → PhrasePieces b tokens ps → PhrasePieces b tokens qs → ps ≡ qs
 PhrasePieces-once true tokens ps qs p q = p ∙ sym q
 PhrasePieces-once false tokens ps qs p q =
     let units : p.0 ≡ q.0 = HasPhraseUnits-once (phrase_items tokens) p.0 q.0 p.3 q.3 in
@@ -107,7 +108,7 @@ PlacePieces-once tokens ps qs p q =
 
 -- ---- there are pieces
 
-skips_some : (ts : List TokenValue) → (rest : List TokenValue) × SkipsGaps ts rest
+pub skips_some : (ts : List TokenValue) → (rest : List TokenValue) × SkipsGaps ts rest
 skips_some [] = ([], record { lead = []; gaps = refl; whole = refl; begins = tt })
 skips_some (t ∷ ts) = elim (cases_Bool (is_gap t.kind)) [
   | inl gap ↦
@@ -137,7 +138,7 @@ UnitsPieces-some : (us : List UnitValue) → AreWritable us → (ps : List (List
 UnitsPieces-some [] can = ((34 ∷ 34 ∷ []) ∷ [], refl)
 UnitsPieces-some (u ∷ us) can = WriteAll-some (u ∷ us) can
 
-PhrasePieces-some : (b : Bool) (tokens : List TokenValue) → AllByRecursion IsUtf8Item (phrase_items tokens) → AreWritableComments (comments_of tokens)
+pub PhrasePieces-some : (b : Bool) (tokens : List TokenValue) → AllByRecursion IsUtf8Item (phrase_items tokens) → AreWritableComments (comments_of tokens)
     → (ps : List (List ℕ)) × PhrasePieces b tokens ps
 PhrasePieces-some true tokens utf8 can = (octets_of tokens ∷ [], refl)
 PhrasePieces-some false tokens utf8 can =

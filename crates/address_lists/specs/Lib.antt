@@ -7,8 +7,11 @@ pub mod PhrasePieces
 pub mod PhraseReadBack
 pub mod AddressLists
 pub mod PhraseLists
+pub mod ListPieces
+pub mod ListReadBack
 pub mod PhraseListSteps
 pub mod Walks
 pub mod ListViews
 pub mod PhraseSteps
 pub mod ListSteps
+pub mod ListWriting

@@ -1,5 +1,7 @@
 //! Laws of addresses and their texts.
-ghost use Rattle.std.specs.Prelude.{◌≡◌, ℕ, ◌⊎◌, List, Option};
+ghost use Rattle.std.specs.Prelude.{◌≡◌, ℕ, ◌⊎◌, false, List, Option};
+ghost use Rattle.std.specs.List.{list_all};
+ghost use Rattle.mail_wire.specs.Octets.{is_ascii};
 ghost use Rattle.address_lists.specs.Paths.{HasPath};
 ghost use Rattle.encoded_words.specs.Words.{UnitValue};
 ghost use Rattle.field_tokens.specs.Comments.{CommentValue};
@@ -7,6 +9,8 @@ ghost use Rattle.field_tokens.specs.Trees.{Tree};
 ghost use Rattle.address_lists.specs.PhraseLists.{SaysPhrases, PhrasesPieces};
 ghost use Rattle.address_lists.specs.PhraseListSteps.{ArePhrasesAgain};
 ghost use Rattle.address_lists.specs.AddressLists.{ElementValue, HasAddresses};
+ghost use Rattle.address_lists.specs.ListPieces.{SaysAddresses, AddressesPieces};
+ghost use Rattle.address_lists.specs.ListReadBack.{AreAddressesAgain};
 ghost use Rattle.address_lists.specs.declared.Address.{Address};
 
 /// A text is the path of one address at most, or of none.
@@ -46,4 +50,31 @@ pub fn phrases_are_there()
 pub fn written_phrases_are_read_back()
     ensures { (text : List ℕ) (pieces : List (List ℕ)) (phrases : List (List UnitValue)) (comments : List CommentValue) → PhrasesPieces text pieces
         → SaysPhrases text phrases comments → ArePhrasesAgain phrases comments pieces }
+{}
+
+/// A text says one list of addresses at most, and so one list of comments, and is written in one way.
+pub fn addresses_are_one()
+    ensures elements { (text : List ℕ) (es fs : List ElementValue) (cs ds : List CommentValue) → SaysAddresses text es cs → SaysAddresses text fs ds
+        → es ≡ fs }
+    ensures comments { (text : List ℕ) (es fs : List ElementValue) (cs ds : List CommentValue) → SaysAddresses text es cs → SaysAddresses text fs ds
+        → cs ≡ ds }
+    ensures pieces { (text : List ℕ) (ps qs : List (List ℕ)) → AddressesPieces text ps → AddressesPieces text qs → ps ≡ qs }
+{}
+
+/// Of each text it is decided whether it says a list of addresses, and it has pieces exactly where it does.
+pub fn addresses_are_there()
+    ensures decided { (text : List ℕ) → ((elements : List ElementValue) × (comments : List CommentValue) × SaysAddresses text elements comments)
+        ⊎ ((elements : List ElementValue) (comments : List CommentValue) → ¬ SaysAddresses text elements comments) }
+    ensures pieces { (text : List ℕ) (elements : List ElementValue) (comments : List CommentValue) → SaysAddresses text elements comments
+        → (pieces : List (List ℕ)) × AddressesPieces text pieces }
+    ensures addresses { (text : List ℕ) (pieces : List (List ℕ)) → AddressesPieces text pieces
+        → (elements : List ElementValue) × (comments : List CommentValue) × SaysAddresses text elements comments }
+{}
+
+/// The pieces of a list of addresses, with a space between any two, are a list of addresses again: its elements stand for the
+/// others in order, its comments are the same, and each piece is ASCII.
+pub fn written_addresses_are_read_back()
+    ensures { (text : List ℕ) (pieces : List (List ℕ)) (elements : List ElementValue) (comments : List CommentValue)
+        → list_all is_ascii text ≡ false → AddressesPieces text pieces → SaysAddresses text elements comments
+        → AreAddressesAgain elements comments pieces }
 {}

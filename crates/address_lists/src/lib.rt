@@ -2,6 +2,8 @@
 #![tactic(auto)]
 
 mod addresses;
+mod ascii_texts;
+mod emptied;
 pub mod laws;
 pub mod lexemes;
 pub mod lists;
@@ -10,15 +12,20 @@ pub mod paths;
 pub mod phrase_lists;
 pub mod phrases;
 mod places;
+mod rewriting;
+mod served;
 pub mod small_lists;
 #[cfg(test)]
 mod tests;
 pub mod writing;
+mod written_groups;
+mod written_mailboxes;
 
 use field_tokens::Comment;
 pub use lists::read_list;
 use mail_wire::values::Octets;
 pub use paths::{read_path, write_address};
+pub use rewriting::rewrite_list;
 pub use small_lists::{Elements, Mailboxes, Units};
 
 /// An address: its local part without quoting, and its domain as it stands, each without gaps and comments.

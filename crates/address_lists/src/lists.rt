@@ -115,7 +115,7 @@ fn read_single(alloc: Global, lexemes: &[Lexeme<'_>]) -> Result<Element, Address
     Ok(Element::Mailbox(mailbox))
 }
 
-fn read_element(alloc: Global, lexemes: &[Lexeme<'_>]) -> Result<Element, AddressFault>
+pub(crate) fn read_element(alloc: Global, lexemes: &[Lexeme<'_>]) -> Result<Element, AddressFault>
     ensures ok { IfOk result (λ e. IsElement (values_of lexemes.now) (element_value e)) }
     ensures malformed { result ≡ Err AddressFault.Malformed → (e : ElementValue) → ¬ IsElement (values_of lexemes.now) e }
 {

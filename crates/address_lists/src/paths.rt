@@ -111,7 +111,7 @@ fn push_local(made: &mut Octets, local: &[u8]) -> Result<(), Memory>
 }
 
 /// Puts the text of an address last.
-fn push_address(made: &mut Octets, address: &Address) -> Result<(), Memory>
+pub(crate) fn push_address(made: &mut Octets, address: &Address) -> Result<(), Memory>
     ensures { OnOk result (made.new ≡ made.old ++ address_text address.now) }
 {
     push_local(made, address.local.as_slice())?;

@@ -22,7 +22,7 @@ use mail_wire::text::is_ascii;
 use mail_wire::values::{Memory, Octets};
 use std::alloc::Global;
 
-fn is_gap(lexeme: Lexeme<'_>) -> bool
+pub(crate) fn is_gap(lexeme: Lexeme<'_>) -> bool
     ensures { result ≡ is_gap_kind (value_of lexeme.entry).kind }
 {
     matches!(lexeme.kind, TokenKind::Gap)
@@ -41,7 +41,7 @@ fn find_start(lexemes: &[Lexeme<'_>]) -> Option<usize>
 }
 
 /// What stands behind the gaps in front.
-fn behind_gaps<'a, 'b>(lexemes: &'b [Lexeme<'a>]) -> &'b [Lexeme<'a>]
+pub(crate) fn behind_gaps<'a, 'b>(lexemes: &'b [Lexeme<'a>]) -> &'b [Lexeme<'a>]
     ensures { SkipsGaps (values_of lexemes.now) (values_of result.now) }
 {
     let Some(at) = find_start(lexemes) else {
@@ -62,7 +62,7 @@ fn split_trail<'a, 'b>(lexemes: &'b [Lexeme<'a>]) -> (&'b [Lexeme<'a>], &'b [Lex
 }
 
 /// The phrase from its first token that is no gap to its last word, and the gaps and comments behind it.
-fn split_core<'a, 'b>(lexemes: &'b [Lexeme<'a>]) -> (&'b [Lexeme<'a>], &'b [Lexeme<'a>])
+pub(crate) fn split_core<'a, 'b>(lexemes: &'b [Lexeme<'a>]) -> (&'b [Lexeme<'a>], &'b [Lexeme<'a>])
     requires { IsPhrase (values_of lexemes.now) }
     ensures { HasCore (values_of lexemes.now) (values_of result.0.now) (values_of result.1.now) }
 {
@@ -70,7 +70,7 @@ fn split_core<'a, 'b>(lexemes: &'b [Lexeme<'a>]) -> (&'b [Lexeme<'a>], &'b [Lexe
 }
 
 /// The octets of tokens, one behind another.
-fn joined(alloc: Global, lexemes: &[Lexeme<'_>]) -> Result<Octets, Memory>
+pub(crate) fn joined(alloc: Global, lexemes: &[Lexeme<'_>]) -> Result<Octets, Memory>
     ensures { IfOk result (λ made. made ≡ octets_of (values_of lexemes.now)) }
 {
     let mut made = Octets::new(alloc);
@@ -94,7 +94,7 @@ fn push_units(alloc: Global, units: &[Unit], pieces: &mut Vec<Octets>) -> Result
 }
 
 /// Puts the pieces of the comments among the tokens last.
-fn write_comments(
+pub(crate) fn write_comments(
     alloc: Global,
     lexemes: &[Lexeme<'_>],
     pieces: &mut Vec<Octets>,
@@ -123,7 +123,11 @@ fn push_said(alloc: Global, lexemes: &[Lexeme<'_>], pieces: &mut Vec<Octets>) ->
 }
 
 /// Puts the pieces of a phrase last that ends with its last word.
-fn push_core(alloc: Global, lexemes: &[Lexeme<'_>], pieces: &mut Vec<Octets>) -> Result<(), Memory>
+pub(crate) fn push_core(
+    alloc: Global,
+    lexemes: &[Lexeme<'_>],
+    pieces: &mut Vec<Octets>,
+) -> Result<(), Memory>
     requires phrase { IsPhrase (values_of lexemes.now) }
     requires utf8 { AllByRecursion IsUtf8Item (phrase_items (values_of lexemes.now)) }
     requires comments { AreWritableComments (comments_of (values_of lexemes.now)) }

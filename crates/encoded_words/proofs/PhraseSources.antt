@@ -109,7 +109,7 @@ with_text_have P (b ∷ bs) [] all = (tt, tt)
 with_text_have P (b ∷ bs) (Text more ∷ us) all = (tt, all.1)
 with_text_have P (b ∷ bs) (Opaque charset octets source ∷ us) all = (tt, all)
 
-merged_have : (P : List ℕ → Type 0) (us : List UnitValue) → AllByRecursion (SourceHas P) us → AllByRecursion (SourceHas P) (merged us)
+pub merged_have : (P : List ℕ → Type 0) (us : List UnitValue) → AllByRecursion (SourceHas P) us → AllByRecursion (SourceHas P) (merged us)
 merged_have P [] all = tt
 merged_have P (Text bs ∷ us) all = with_text_have P bs (merged us) (merged_have P us all.1)
 merged_have P (Opaque charset octets source ∷ us) all = (all.0, merged_have P us all.1)

@@ -57,7 +57,7 @@ with_text_writable (b ∷ bs) [] u all = (u, tt)
 with_text_writable (b ∷ bs) (Text more ∷ us) u all = (IsUtf8-append (b ∷ bs) more u all.0, all.1)
 with_text_writable (b ∷ bs) (Opaque charset octets source ∷ us) u all = (u, all)
 
-merged_writable : (us : List UnitValue) → AreWritable us → AreWritable (merged us)
+pub merged_writable : (us : List UnitValue) → AreWritable us → AreWritable (merged us)
 merged_writable [] all = tt
 merged_writable (Text bs ∷ us) all = with_text_writable bs (merged us) all.0 (merged_writable us all.1)
 merged_writable (Opaque charset octets source ∷ us) all = (all.0, merged_writable us all.1)

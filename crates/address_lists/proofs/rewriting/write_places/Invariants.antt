@@ -1,0 +1,10 @@
+use Rattle.std.proofs.Common.{◌≤◌, ◌-◌, length, drop}
+use Rattle.address_lists.specs.Views.{values_of}
+use Rattle.address_lists.proofs.ListRewriting.{WritesPlaces}
+use Rattle.address_lists.proofs.rewriting.write_places.Given as goal
+
+abbrev pub invariant-loop-at : goal.invariant-loop-at
+invariant-loop-at l = (l.start ≤ length l.lexemes) × WritesPlaces (values_of l.lexemes) l.pieces.items (values_of (drop l.start l.lexemes))
+
+abbrev pub decreases-loop-at : goal.decreases-loop-at
+decreases-loop-at l = length l.lexemes - l.start

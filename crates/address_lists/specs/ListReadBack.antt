@@ -1,0 +1,45 @@
+-- What the pieces of a list of addresses read as.
+use Rattle.std.specs.Prelude.{◌≡◌, ℕ, ◌<◌, Bool, true, false, List, [], ◌∷◌, length, Some}
+use Rattle.std.specs.List.{AllByRecursion, AllZip, list_all, join_with_byte}
+use Rattle.mail_wire.specs.Octets.{is_white}
+use Rattle.mail_wire.specs.Spans.{Stops, StopsBehind}
+use Rattle.encoded_words.specs.Words.{UnitValue}
+use Rattle.field_tokens.specs.Comments.{CommentValue, IsLinePiece}
+use Rattle.address_lists.specs.AddressLists.{MailboxValue, ElementValue, One, Group}
+use Rattle.address_lists.specs.ListPieces.{served_address, is_plain, mailbox_units, group_units, SaysAddresses}
+
+-- the same mailbox, with its address as it is served
+pub record IsServedMailbox (m made : MailboxValue) : Type 0 where
+  pub phrase : made.phrase ≡ m.phrase
+  pub display : made.display ≡ m.display
+  pub angle : made.angle ≡ m.angle
+  pub address : served_address m.address ≡ Some made.address
+
+-- such a mailbox where its address can be served, and else a group without members
+abbrev pub StandsForMailboxIf : Bool → MailboxValue → ElementValue → Type 0
+StandsForMailboxIf true m (One made) = IsServedMailbox m made
+StandsForMailboxIf true m (Group name members) = ⊥
+StandsForMailboxIf false m made = made ≡ Group (mailbox_units m) []
+
+abbrev pub StandsForMailbox : MailboxValue → ElementValue → Type 0
+StandsForMailbox m made = StandsForMailboxIf (is_plain m) m made
+
+-- the same group with such members where all their addresses can be served, and else one without members
+abbrev pub StandsForGroupIf : Bool → List UnitValue → List MailboxValue → ElementValue → Type 0
+StandsForGroupIf true name members (One made) = ⊥
+StandsForGroupIf true name members (Group same made) = (same ≡ name) × AllZip IsServedMailbox members made
+StandsForGroupIf false name members made = made ≡ Group (group_units name members) []
+
+abbrev pub StandsForElement : ElementValue → ElementValue → Type 0
+StandsForElement (One m) made = StandsForMailbox m made
+StandsForElement (Group name members) made = StandsForGroupIf (list_all is_plain members) name members made
+
+-- The pieces, with a space between any two, are a list of what stands for these elements, with these comments.
+pub record AreAddressesAgain (elements : List ElementValue) (comments : List CommentValue) (pieces : List (List ℕ)) : Type 0 where
+  pub made : List ElementValue
+  pub each : AllZip StandsForElement elements made
+  pub says : SaysAddresses (join_with_byte 32 pieces) made comments
+  pub begins : Stops is_white (join_with_byte 32 pieces)
+  pub ends : StopsBehind is_white (join_with_byte 32 pieces)
+  pub some : 0 < length pieces
+  pub are_pieces : AllByRecursion IsLinePiece pieces

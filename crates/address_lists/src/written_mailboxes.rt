@@ -1,0 +1,121 @@
+//! The writer of mailboxes.
+ghost use Rattle.std.specs.Prelude.{◌≡◌, ◌∷◌, ◌++◌, [], Some, OnOk};
+ghost use Rattle.field_tokens.specs.Comments.{AddsPieces};
+ghost use Rattle.address_lists.specs.Addresses.{address_text};
+ghost use Rattle.address_lists.specs.Paths.{in_angles};
+ghost use Rattle.address_lists.specs.Phrases.{IsPhrase};
+ghost use Rattle.address_lists.specs.AddressLists.{IsNamed, IsMailbox};
+ghost use Rattle.address_lists.specs.ListPieces.{served_address, MailboxPieces};
+ghost use Rattle.address_lists.specs.ListWriting.{CanBeWritten, NamedPieces};
+ghost use Rattle.address_lists.specs.Views.{values_of};
+ghost use Rattle.address_lists.specs.ListViews.{mailbox_value};
+
+use crate::emptied::{mailbox_units, write_emptied};
+use crate::lexemes::{Lexeme, split_at_mark};
+use crate::paths::push_address;
+use crate::served::served;
+use crate::writing::{push_core, split_core, write_comments};
+use crate::{Address, Mailbox};
+use mail_wire::values::{Memory, Octets};
+use std::alloc::Global;
+
+fn push_bare(alloc: Global, address: &Address, pieces: &mut Vec<Octets>) -> Result<(), Memory>
+    ensures { OnOk result (pieces.new.items ≡ pieces.old.items ++ address_text address.now ∷ []) }
+{
+    let mut text = Octets::new(alloc);
+    push_address(&mut text, address)?;
+    pieces.push(text)?;
+    Ok(())
+}
+
+fn push_angled(alloc: Global, address: &Address, pieces: &mut Vec<Octets>) -> Result<(), Memory>
+    ensures { OnOk result (pieces.new.items ≡ pieces.old.items ++ in_angles (address_text address.now) ∷ []) }
+{
+    let mut text = Octets::new(alloc);
+    text.push(b'<')?;
+    push_address(&mut text, address)?;
+    text.push(b'>')?;
+    pieces.push(text)?;
+    Ok(())
+}
+
+/// Puts the pieces of a phrase last, an address in angle brackets, and the other comments.
+fn write_named(
+    alloc: Global,
+    before: &[Lexeme<'_>],
+    behind: &[Lexeme<'_>],
+    address: &Address,
+    pieces: &mut Vec<Octets>,
+) -> Result<(), Memory>
+    requires phrase { IsPhrase (values_of before.now) }
+    requires before { CanBeWritten (values_of before.now) }
+    requires behind { CanBeWritten (values_of behind.now) }
+    ensures { OnOk result (AddsPieces (NamedPieces (values_of before.now) (values_of behind.now) (address_text address.now)) pieces.old.items pieces.new.items) }
+{
+    let (core, trail) = split_core(before);
+    push_core(alloc, core, pieces)?;
+    push_angled(alloc, address, pieces)?;
+    write_comments(alloc, trail, pieces)?;
+    write_comments(alloc, behind, pieces)
+}
+
+/// Puts the pieces of a mailbox in angle brackets last.
+fn write_angled(
+    alloc: Global,
+    lexemes: &[Lexeme<'_>],
+    mailbox: &Mailbox,
+    address: &Address,
+    pieces: &mut Vec<Octets>,
+) -> Result<(), Memory>
+    requires writable { CanBeWritten (values_of lexemes.now) }
+    requires mailbox { IsNamed (values_of lexemes.now) (mailbox_value mailbox.now) }
+    requires served { served_address (mailbox_value mailbox.now).address ≡ Some address.now }
+    ensures { OnOk result (AddsPieces (MailboxPieces (values_of lexemes.now)) pieces.old.items pieces.new.items) }
+{
+    let Some((before, behind)) = split_at_mark(lexemes, b'<') else {
+        unreachable!();
+    };
+    if mailbox.phrase {
+        return write_named(alloc, before, behind, address, pieces);
+    }
+    push_angled(alloc, address, pieces)?;
+    write_comments(alloc, lexemes, pieces)
+}
+
+/// Puts the pieces of a mailbox last that is served so.
+fn write_served(
+    alloc: Global,
+    lexemes: &[Lexeme<'_>],
+    mailbox: &Mailbox,
+    address: &Address,
+    pieces: &mut Vec<Octets>,
+) -> Result<(), Memory>
+    requires writable { CanBeWritten (values_of lexemes.now) }
+    requires mailbox { IsMailbox (values_of lexemes.now) (mailbox_value mailbox.now) }
+    requires served { served_address (mailbox_value mailbox.now).address ≡ Some address.now }
+    ensures { OnOk result (AddsPieces (MailboxPieces (values_of lexemes.now)) pieces.old.items pieces.new.items) }
+{
+    if mailbox.angle {
+        return write_angled(alloc, lexemes, mailbox, address, pieces);
+    }
+    push_bare(alloc, address, pieces)?;
+    write_comments(alloc, lexemes, pieces)
+}
+
+/// Puts the pieces of a mailbox last.
+pub fn write_mailbox(
+    alloc: Global,
+    lexemes: &[Lexeme<'_>],
+    mailbox: &Mailbox,
+    pieces: &mut Vec<Octets>,
+) -> Result<(), Memory>
+    requires writable { CanBeWritten (values_of lexemes.now) }
+    requires mailbox { IsMailbox (values_of lexemes.now) (mailbox_value mailbox.now) }
+    ensures { OnOk result (AddsPieces (MailboxPieces (values_of lexemes.now)) pieces.old.items pieces.new.items) }
+{
+    let Some(address) = served(alloc, &mailbox.address)? else {
+        let units = mailbox_units(alloc, mailbox)?;
+        return write_emptied(alloc, &units, lexemes, pieces);
+    };
+    write_served(alloc, lexemes, mailbox, &address, pieces)
+}
