@@ -77,7 +77,7 @@ structured_some octets f high kind =
 
 pub decide_unstructured : (kind : Kind) → IsBuiltKind kind → (kind ≡ Unstructured) ⊎ IsStructured kind
 decide_unstructured Unstructured built = inl refl
-decide_unstructured Addresses built = absurd built
+decide_unstructured Addresses built = inr (tt, λ e. cc e)
 decide_unstructured Phrases built = inr (tt, λ e. cc e)
 decide_unstructured (Params kind) built = absurd built
 decide_unstructured Ids built = absurd built

@@ -208,6 +208,8 @@ IsSameMeaning-made octets f words pieces is kind has u have =
     record {
       name = refl;
       meaning = Units (units_from false [] back.orig);
+      made_meaning = Units (units_from false [] back.orig);
+      stands = refl;
       means = record {
         value = plain_text words;
         has_value = HasValue-orig f.body words pieces is.body has back;

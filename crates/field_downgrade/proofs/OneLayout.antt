@@ -19,7 +19,7 @@ use Rattle.encoded_words.specs.Folding.{Piece, word_pieces}
 use Rattle.encoded_words.proofs.AllUnits.{HasUnits-some}
 use Rattle.field_downgrade.specs.declared.kind.Kind.TheVariants.{Unstructured}
 use Rattle.field_downgrade.specs.Kinds.{kind_named}
-use Rattle.field_downgrade.specs.Stands.{HasFieldLayout, Copied, Made, HasHighLayout, OfWords, OfPieces, Encapsulated, KeptMalformed, Meaning, Units, Means, IsMalformed, ValuePieces, OfPhrases, OfPlain, downgraded_of, is_encoding_name}
+use Rattle.field_downgrade.specs.Stands.{HasFieldLayout, Copied, Made, HasHighLayout, OfWords, OfPieces, Encapsulated, KeptMalformed, Meaning, Units, Means, IsMalformed, ValuePieces, OfPhrases, OfAddresses, OfPlain, downgraded_of, is_encoding_name}
 use Rattle.field_downgrade.proofs.StructuredValues.{ValuePieces-once, ValuePieces-says}
 use Rattle.field_downgrade.proofs.OneMeaning.{HasValue-once}
 
@@ -272,6 +272,7 @@ words_mean f value kind has malformed = let said = units_mean f value kind has i
 
 not_unstructured : (name value : List ℕ) (pieces : List (List ℕ)) → ValuePieces name value pieces → kind_named name ≡ Unstructured → ⊥
 not_unstructured name value pieces (OfPhrases kind p) unstructured = let no = sym kind ∙ unstructured in cc no
+not_unstructured name value pieces (OfAddresses kind p) unstructured = let no = sym kind ∙ unstructured in cc no
 not_unstructured name value pieces (OfPlain kind p) unstructured = let no = sym kind ∙ unstructured in cc no
 
 one_value : (f : FieldParts) (value other : List ℕ) (words others : List (List ℕ)) → HasValue f.body value → HasValue f.body other → AreBWords value words → AreBWords other others → words ≡ others

@@ -32,7 +32,7 @@ use Rattle.field_tokens.specs.declared.TokenKind.TheVariants.{Atom, Special}
 use Rattle.field_tokens.specs.Tokens.{TokenValue, AreTokens}
 use Rattle.field_tokens.specs.Squeezed.{words_of}
 use Rattle.field_tokens.proofs.TokenLemmas.{class, kind_is}
-use Rattle.field_downgrade.specs.Stands.{IsHighField, is_encoding_name, IsSameMeaning, Meaning, Units, Keywords, PlainText, Says, IsMalformed, KeepsValue, Means, ValuePieces, downgraded_of}
+use Rattle.field_downgrade.specs.Stands.{IsHighField, is_encoding_name, IsSameMeaning, Meaning, Units, Keywords, AddressList, PlainText, Says, IsMalformed, KeepsValue, Means, ValuePieces, downgraded_of}
 use Rattle.field_downgrade.proofs.Made.{IsPiece, ArePieces, made-folded, made-shows, words_are, name_ascii}
 use Rattle.field_downgrade.proofs.Pieces.{behind}
 use Rattle.field_downgrade.proofs.StructuredValues.{AreReadSo}
@@ -85,6 +85,8 @@ pub IsSameMeaning-pieces : (f : FieldParts) (value : List ℕ) (pieces : List (L
 IsSameMeaning-pieces f value pieces meaning has says read = record {
   name = refl;
   meaning = meaning;
+  made_meaning = read.made;
+  stands = read.stands;
   means = record { value = value; has_value = has; says = says };
   made_means = record { value = join_with_byte 32 pieces; has_value = HasValue-spaced pieces read.lines read.some read.begins read.ends; says = read.says };
 }
@@ -230,5 +232,6 @@ still_malformed f value words has u some are encoding meaning means =
 
     by : (meaning : Meaning) → Says f.name (join_with_byte 32 words) meaning → (rest : List ℕ) → join_with_byte 32 words ≡ 61 ∷ rest → ⊥
     by (Units units) says rest e = let no = sym says.0 ∙ plain in cc no
+    by (AddressList elements comments) says rest e = let no = sym says.0 ∙ plain in cc no
     by (Keywords phrases comments) says rest e = let no = sym says.0 ∙ plain in cc no
     by (PlainText said comments) says rest e = no_atom (join_with_byte 32 words) rest said comments e (subst (λ b. SaysPlain b (join_with_byte 32 words) said comments) encoding says.1)

@@ -6,16 +6,18 @@ use Rattle.mail_wire.specs.Lines.{crlf}
 use Rattle.encoded_words.specs.Folding.{made_body, word_pieces}
 use Rattle.encapsulated_fields.specs.Encapsulated.{Encapsulates, downgraded_name}
 use Rattle.utf8_fields.specs.Parts.{FieldParts, HasValue, SplitsEnding, field_octets}
-use Rattle.field_downgrade.specs.declared.kind.Kind.TheVariants.{Unstructured, Phrases, Plain}
+use Rattle.field_downgrade.specs.declared.kind.Kind.TheVariants.{Unstructured, Addresses, Phrases, Plain}
 use Rattle.field_downgrade.specs.declared.kind.Kind.{Kind}
 use Rattle.field_downgrade.specs.PlainTexts.{SaysPlain}
 use Rattle.address_lists.specs.PhraseLists.{SaysPhrases}
+use Rattle.address_lists.specs.AddressLists.{ElementValue}
+use Rattle.address_lists.specs.ListPieces.{SaysAddresses}
 use Rattle.field_tokens.specs.Comments.{CommentValue}
 use Rattle.encoded_words.specs.Words.{UnitValue}
-use Rattle.field_downgrade.proofs.StructuredValues.{decide_structured}
+use Rattle.field_downgrade.proofs.StructuredValues.{StructuredKind, IsPhrases, IsAddresses, IsPlainText, decide_structured}
 use Rattle.field_downgrade.specs.Kinds.{kind_named}
 use Rattle.field_downgrade.specs.Layout.{made_of, spaced}
-use Rattle.field_downgrade.specs.Stands.{IsMalformed, Meaning, Units, Keywords, PlainText, Says, ValuePieces, OfPieces, Encapsulated, KeptMalformed, downgraded_of, is_encoding_name}
+use Rattle.field_downgrade.specs.Stands.{IsMalformed, Meaning, Units, Keywords, AddressList, PlainText, Says, ValuePieces, OfPieces, Encapsulated, KeptMalformed, downgraded_of, is_encoding_name}
 use Rattle.field_downgrade.specs.Steps.{Adds, AddsWordField, IsStructured, MakesField, OfOther}
 use Rattle.field_downgrade.proofs.OneMeaning.{HasValue-once}
 
@@ -73,16 +75,31 @@ pub none_of_phrases : (name value : List ℕ) → kind_named name ≡ Phrases �
     → (meaning : Meaning) → ¬ (Says name value meaning)
 none_of_phrases name value kind none (Units us) says = let other = sym kind ∙ says.0 in cc other
 none_of_phrases name value kind none (Keywords phrases comments) says = none phrases comments says.1
+none_of_phrases name value kind none (AddressList elements comments) says = let other = sym kind ∙ says.0 in cc other
 none_of_phrases name value kind none (PlainText said comments) says = let other = sym kind ∙ says.0 in cc other
 
-pub none_of_plain : (name value : List ℕ) → IsStructured (kind_named name) → kind_named name ≢ Phrases → ((said : List ℕ) (comments : List CommentValue) → ¬ (SaysPlain (is_encoding_name name) value said comments))
+-- a value that is no list of addresses, where one is wanted, says nothing
+pub none_of_addresses : (name value : List ℕ) → kind_named name ≡ Addresses → ((elements : List ElementValue) (comments : List CommentValue) → ¬ (SaysAddresses value elements comments))
     → (meaning : Meaning) → ¬ (Says name value meaning)
-none_of_plain name value is other none (Units us) says = is.1 says.0
-none_of_plain name value is other none (Keywords phrases comments) says = other says.0
-none_of_plain name value is other none (PlainText said comments) says = none said comments says.1
+none_of_addresses name value kind none (Units us) says = let other = sym kind ∙ says.0 in cc other
+none_of_addresses name value kind none (Keywords phrases comments) says = let other = sym kind ∙ says.0 in cc other
+none_of_addresses name value kind none (AddressList elements comments) says = none elements comments says.1
+none_of_addresses name value kind none (PlainText said comments) says = let other = sym kind ∙ says.0 in cc other
 
-pub plain_left : (kind : Kind) → IsStructured kind → kind ≢ Phrases → kind ≡ Plain
-plain_left kind is other = elim (decide_structured kind is) [ inl phrases ↦ absurd (other phrases) | inr plain ↦ plain ]
+pub none_of_plain : (name value : List ℕ) → IsStructured (kind_named name) → kind_named name ≢ Phrases → kind_named name ≢ Addresses → ((said : List ℕ) (comments : List CommentValue) → ¬ (SaysPlain (is_encoding_name name) value said comments))
+    → (meaning : Meaning) → ¬ (Says name value meaning)
+none_of_plain name value is other another none (Units us) says = is.1 says.0
+none_of_plain name value is other another none (Keywords phrases comments) says = other says.0
+none_of_plain name value is other another none (AddressList elements comments) says = another says.0
+none_of_plain name value is other another none (PlainText said comments) says = none said comments says.1
+
+pub plain_left : (kind : Kind) → IsStructured kind → kind ≢ Phrases → kind ≢ Addresses → kind ≡ Plain
+plain_left kind is other another = by (decide_structured kind is)
+  where
+    by : StructuredKind kind → kind ≡ Plain
+    by (IsPhrases e) = absurd (other e)
+    by (IsAddresses e) = absurd (another e)
+    by (IsPlainText e) = e
 
 -- what follows where there is nothing
 pub none_weaker : {A E P Q : Type 0} (r : Result (Option A) E) → (P → Q) → IfOk r (λ o. IfNone o P) → IfOk r (λ o. IfNone o Q)

@@ -30,7 +30,7 @@ unbuilt_why raw p once (Hard f high hard) = inr (high.high, rw (once f high.is_f
 -- whether fields of a kind can be rewritten
 pub decide_kind : (kind : Kind) → IsBuiltKind kind ⊎ ¬ (IsBuiltKind kind)
 decide_kind Unstructured = inl tt
-decide_kind Addresses = inr (λ no. no)
+decide_kind Addresses = inl tt
 decide_kind Phrases = inl tt
 decide_kind (Params kind) = inr (λ no. no)
 decide_kind Ids = inr (λ no. no)

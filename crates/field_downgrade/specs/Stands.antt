@@ -1,13 +1,16 @@
 -- The layout of a field, and when a made field stands for the original (RFC 6857).
 use Rattle.std.specs.Prelude.{◌≡◌, ℕ, Bool, true, false, List, [], ◌∷◌, codes, ⊤}
-use Rattle.std.specs.List.{list_all}
+use Rattle.std.specs.List.{AllZip, list_all}
 use Rattle.mail_wire.specs.Octets.{is_ascii, same_name}
 use Rattle.encoded_words.specs.Words.{UnitValue, Text}
 use Rattle.encoded_words.specs.Units.{HasUnits}
 use Rattle.encoded_words.specs.Pieces.{AreBWords}
 use Rattle.encoded_words.specs.Folding.{Piece, made_body, word_pieces}
 use Rattle.field_tokens.specs.Comments.{CommentValue}
+use Rattle.address_lists.specs.AddressLists.{ElementValue}
 use Rattle.address_lists.specs.PhraseLists.{SaysPhrases, PhrasesPieces}
+use Rattle.address_lists.specs.ListPieces.{SaysAddresses, AddressesPieces}
+use Rattle.address_lists.specs.ListReadBack.{StandsForElement}
 use Rattle.encapsulated_fields.specs.Encapsulated.{downgraded_name}
 use Rattle.field_downgrade.specs.declared.kind.Kind.{Kind}
 use Rattle.field_downgrade.specs.declared.kind.Kind.TheVariants.{Unstructured, Addresses, Phrases, Params, Ids, Path, Typed, Trace, Plain}
@@ -36,7 +39,7 @@ abbrev pub IsBuiltKind : Kind → Type 0
 IsBuiltKind Unstructured = ⊤
 IsBuiltKind Phrases = ⊤
 IsBuiltKind Plain = ⊤
-IsBuiltKind Addresses = ⊥
+IsBuiltKind Addresses = ⊤
 IsBuiltKind (Params kind) = ⊥
 IsBuiltKind Ids = ⊥
 IsBuiltKind Path = ⊥
@@ -62,6 +65,8 @@ pub data Meaning : Type 0 where
   Units : List UnitValue → Meaning
   -- the units of phrases, and comments
   Keywords : List (List UnitValue) → List CommentValue → Meaning
+  -- the elements of a list of addresses, and comments
+  AddressList : List ElementValue → List CommentValue → Meaning
   -- a text without its comments, and the comments
   PlainText : List ℕ → List CommentValue → Meaning
 
@@ -69,6 +74,7 @@ pub data Meaning : Type 0 where
 abbrev pub Says : List ℕ → List ℕ → Meaning → Type 0
 Says name value (Units units) = (kind_named name ≡ Unstructured) × HasUnits value units
 Says name value (Keywords phrases comments) = (kind_named name ≡ Phrases) × SaysPhrases value phrases comments
+Says name value (AddressList elements comments) = (kind_named name ≡ Addresses) × SaysAddresses value elements comments
 Says name value (PlainText said comments) = (kind_named name ≡ Plain) × SaysPlain (is_encoding_name name) value said comments
 
 -- what a field means, by its kind
@@ -84,6 +90,7 @@ IsMalformed f = (meaning : Meaning) → ¬ Means f meaning
 -- the pieces of the value of a structured field of this name
 pub data ValuePieces (name value : List ℕ) (pieces : List (List ℕ)) : Type 0 where
   OfPhrases : kind_named name ≡ Phrases → PhrasesPieces value pieces → ValuePieces name value pieces
+  OfAddresses : kind_named name ≡ Addresses → AddressesPieces value pieces → ValuePieces name value pieces
   OfPlain : kind_named name ≡ Plain → PlainPieces (is_encoding_name name) value pieces → ValuePieces name value pieces
 
 -- `Downgraded-` before the name, colon, the pieces, and CRLF where the original has it (RFC 6857, 3.1)
@@ -110,12 +117,21 @@ pub data HasFieldLayout (octets made : List ℕ) : Type 0 where
   -- another one is made anew
   Made : (f g : FieldParts) → IsHighField octets f → IsBuiltName f.name → HasHighLayout f g → made ≡ field_octets g → HasFieldLayout octets made
 
--- the name and the meaning are the same
+-- What stands for a meaning is that meaning, but for lists of addresses: their elements are served, and correspond in order.
+abbrev pub StandsForMeaning : Meaning → Meaning → Type 0
+StandsForMeaning (Units units) made = made ≡ Units units
+StandsForMeaning (Keywords phrases comments) made = made ≡ Keywords phrases comments
+StandsForMeaning (AddressList elements comments) made = (served : List ElementValue) × (made ≡ AddressList served comments) × AllZip StandsForElement elements served
+StandsForMeaning (PlainText said comments) made = made ≡ PlainText said comments
+
+-- the name is the same, and the meaning stands for the other
 pub record IsSameMeaning (f g : FieldParts) : Type 0 where
   pub name : g.name ≡ f.name
   pub meaning : Meaning
+  pub made_meaning : Meaning
   pub means : Means f meaning
-  pub made_means : Means g meaning
+  pub made_means : Means g made_meaning
+  pub stands : StandsForMeaning meaning made_meaning
 
 -- the units of the one value are the other value as text
 pub record KeepsValue (f g : FieldParts) : Type 0 where

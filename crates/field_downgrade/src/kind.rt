@@ -126,6 +126,12 @@ pub(crate) fn is_unstructured(name: &[u8]) -> bool
     matches!(kind_of(name), Kind::Unstructured)
 }
 
+pub(crate) fn is_addresses(name: &[u8]) -> bool
+    ensures { IsTrue result ↔ (kind_named name.now ≡ Kind.Addresses) }
+{
+    matches!(kind_of(name), Kind::Addresses)
+}
+
 /// Whether fields of a name are phrases that commas divide.
 pub(crate) fn is_phrases(name: &[u8]) -> bool
     ensures { IsTrue result ↔ (kind_named name.now ≡ Kind.Phrases) }

@@ -8,6 +8,8 @@ ghost use Rattle.utf8_fields.specs.Views.{parts_of};
 ghost use Rattle.encoded_words.specs.Words.{UnitValue};
 ghost use Rattle.encoded_words.specs.Folding.{made_body};
 ghost use Rattle.field_tokens.specs.Comments.{CommentValue};
+ghost use Rattle.address_lists.specs.AddressLists.{ElementValue};
+ghost use Rattle.address_lists.specs.ListPieces.{SaysAddresses, AddressesPieces};
 ghost use Rattle.address_lists.specs.PhraseLists.{SaysPhrases, PhrasesPieces};
 ghost use Rattle.encapsulated_fields.specs.Encapsulated.{IsFieldName};
 ghost use Rattle.field_downgrade.specs.Kinds.{kind_named};
@@ -15,12 +17,12 @@ ghost use Rattle.field_downgrade.specs.Layout.{made_of, spaced};
 ghost use Rattle.field_downgrade.specs.Stands.{IsMalformed, Meaning, Says, ValuePieces, downgraded_of, is_encoding_name as is_encoding_of};
 ghost use Rattle.field_downgrade.specs.Steps.{Adds, AddsWordField, IsStructured, MakesField};
 
-use crate::kind::is_phrases;
+use crate::kind::{is_addresses, is_phrases};
 use crate::lines::begin_line;
 use crate::plain::rewrite_plain;
 use crate::values::value_of;
-use address_lists::AddressFault;
 use address_lists::phrase_lists::rewrite_phrases;
+use address_lists::{AddressFault, rewrite_list};
 use encapsulated_fields::encapsulate;
 use encoded_words::push_words;
 use mail_wire::text::is_same_name;
@@ -48,6 +50,19 @@ fn phrase_pieces(alloc: Global, value: &[u8]) -> Result<Option<Vec<Octets>>, Mem
     }
 }
 
+// The pieces of a list of addresses.
+fn address_pieces(alloc: Global, value: &[u8]) -> Result<Option<Vec<Octets>>, Memory>
+    ensures some { IfOk result (λ o. IfSome o (λ pieces. AddressesPieces value.now pieces.items)) }
+    ensures none { IfOk result (λ o. IfNone o ((elements : List ElementValue) (comments : List CommentValue)
+        → ¬ SaysAddresses value.now elements comments)) }
+{
+    match rewrite_list(alloc, value) {
+        Ok(pieces) => Ok(Some(pieces)),
+        Err(AddressFault::Malformed) => Ok(None),
+        Err(AddressFault::Memory) => Err(Memory),
+    }
+}
+
 // The pieces of a value, where it is one of its kind.
 fn pieces_of(alloc: Global, name: &[u8], value: &[u8]) -> Result<Option<Vec<Octets>>, Memory>
     requires { IsStructured (kind_named name.now) }
@@ -56,6 +71,9 @@ fn pieces_of(alloc: Global, name: &[u8], value: &[u8]) -> Result<Option<Vec<Octe
 {
     if is_phrases(name) {
         return phrase_pieces(alloc, value);
+    }
+    if is_addresses(name) {
+        return address_pieces(alloc, value);
     }
     rewrite_plain(alloc, is_encoding_name(name), value)
 }

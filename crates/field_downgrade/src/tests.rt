@@ -143,6 +143,39 @@ fn rows_of_keywords(rt: HostRuntime) -> Result<(), Fail> {
 }
 
 #[test]
+fn rows_of_addresses(rt: HostRuntime) -> Result<(), Fail> {
+    assert!(rt;
+        gives(
+            &rt,
+            "From: José <josé@example.com>\r\n".as_bytes(),
+            b"From:\r\n =?UTF-8?B?Sm9zw6kgam9zw6lAZXhhbXBsZS5jb20=?=\r\n :;\r\n"
+        )
+    );
+    assert!(rt;
+        gives(
+            &rt,
+            "To: Ann <a@bücher.example>, (x) b@example.com\r\n".as_bytes(),
+            b"To:\r\n Ann\r\n <a@xn--bcher-kva.example>,\r\n (x) b@example.com\r\n"
+        )
+    );
+    assert!(rt;
+        gives(
+            &rt,
+            "Cc: Team: a@bücher.example;\r\n".as_bytes(),
+            b"Cc:\r\n Team\r\n :\r\n a@xn--bcher-kva.example\r\n ;\r\n"
+        )
+    );
+    assert!(rt;
+        gives(
+            &rt,
+            "To: é\r\n".as_bytes(),
+            b"Downgraded-To:\r\n =?UTF-8?B?w6k=?=\r\n"
+        )
+    );
+    Ok(())
+}
+
+#[test]
 fn rows_of_dates_and_encodings(rt: HostRuntime) -> Result<(), Fail> {
     assert!(rt;
         gives(
@@ -178,7 +211,7 @@ fn rows_of_dates_and_encodings(rt: HostRuntime) -> Result<(), Fail> {
 #[test]
 fn first_unbuilt_is_where_it_stands(rt: HostRuntime) -> Result<(), Fail> {
     assert!(rt; unbuilt_at(&rt, "-: é\r\n\r\n") == Some(0));
-    assert!(rt; unbuilt_at(&rt, "A: b\r\nTo: é\r\n\r\n") == Some(6));
+    assert!(rt; unbuilt_at(&rt, "A: b\r\nReturn-Path: é\r\n\r\n") == Some(6));
     assert!(rt; unbuilt_at(&rt, "A: é\r\n-x: é\r\n") == Some(7));
     assert!(rt; unbuilt_at(&rt, "A: é\r\nDate: é\r\nReceived: é\r\n") == Some(17));
     assert!(rt; unbuilt_at(&rt, "To: a\r\ncontent-type: a\r\n") == Some(7));

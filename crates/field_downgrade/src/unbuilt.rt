@@ -12,7 +12,10 @@ use utf8_fields::parts::split_field;
 fn is_built_kind(kind: Kind) -> bool
     ensures { IsTrue result ↔ IsBuiltKind kind }
 {
-    matches!(kind, Kind::Unstructured | Kind::Phrases | Kind::Plain)
+    matches!(
+        kind,
+        Kind::Unstructured | Kind::Addresses | Kind::Phrases | Kind::Plain
+    )
 }
 
 // Whether a field of this name with an octet above 127 is unbuilt.

@@ -56,7 +56,12 @@ fn rows_of_downgrade(rt: HostRuntime) -> Result<(), Fail> {
             0,
             "Keywords:\r\n =?UTF-8?B?w6k=?=\r\n ,\r\n b\r\nDate:\r\n 1\r\n (\r\n =?UTF-8?B?w6k=?=\r\n )\r\n",
         ),
-        ("A: b\r\nTo: é\r\n\r\n", 10, "not built at 6\r\n"),
+        (
+            "To: Ann <a@bücher.example>\r\n",
+            0,
+            "To:\r\n Ann\r\n <a@xn--bcher-kva.example>\r\n",
+        ),
+        ("A: b\r\nReceived: é\r\n\r\n", 10, "not built at 6\r\n"),
         ("Subject", 7, "refused\r\n"),
         ("A: b\n", 7, "refused\r\n"),
     ] {
