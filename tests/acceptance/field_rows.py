@@ -91,7 +91,5 @@ def plain():
     ]
 
 
-def rows():
-    """Name, message, status and surrogate."""
-    for name, field, lines in [*unstructured(), *phrases(), *plain()]:
-        yield name, f"{field}\r\n\r\n".encode(), 0, "".join(line + "\r\n" for line in [*lines, ""]).encode()
+def fields():
+    return [*unstructured(), *phrases(), *plain()]

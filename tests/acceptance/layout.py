@@ -8,26 +8,31 @@ otherwise. To write units means: each text as B encoded words, each opaque unit 
   white at each side: beside an encoded word all of it, beside another word all but the octet farthest from the core, and
   at an end of the value nothing. It becomes B words. What stands between is one piece, copied with its folds. Before a
   core, and before a copied piece that follows one, stands the octet of the white there that was left out, or a space.
-- Keywords are phrases divided by commas, each with comments around it. From the first token of a place that is no gap to
-  the phrase's end ASCII octets are one copied piece; else the phrase's units are written, or `""` where there is none, and
-  then the comments there. The other comments of the place follow, and a piece `,` stands between two places.
+- Keywords are phrases divided by commas, each with comments around it. The pieces of a phrase are followed by the other
+  comments of its place, and a piece `,` stands between two places.
+- Lists of addresses are told in addresses.py, the pieces of phrases and comments in pieces.py.
 - Date, Resent-Date, MIME-Version and Content-Transfer-Encoding are ASCII but for comments: one piece has the tokens with one
   space where a gap or comment stood, and the comments follow. Content-Transfer-Encoding is a single atom.
-- A comment of ASCII octets is one piece. Another one is the piece `(`, its nested comments and the runs between them, each
-  ASCII run as one piece and others by their units, and the piece `)`.
 - Where the value isn't in its grammar, the made field has `Downgraded-` before the name and the whole value as B words.
   Content-Transfer-Encoding keeps its name then."""
 
+import addresses
+import pieces
 import tokens
 import units
 
+ADDRESSES = frozenset(
+    name.lower()
+    for name in b"""
+    From Sender Reply-To To Cc Bcc Resent-From Resent-Sender Resent-Reply-To Resent-To Resent-Cc Resent-Bcc
+    """.split()
+)
 PHRASES = frozenset([b"keywords"])
 ENCODING = b"content-transfer-encoding"
 PLAIN = frozenset([b"date", b"resent-date", b"mime-version", ENCODING])
 NOT_BUILT = frozenset(
     name.lower()
     for name in b"""
-    From Sender Reply-To To Cc Bcc Resent-From Resent-Sender Resent-Reply-To Resent-To Resent-Cc Resent-Bcc
     Content-Type Content-Disposition
     Message-ID Resent-Message-ID In-Reply-To References Content-ID
     Return-Path Original-Recipient Final-Recipient Received
@@ -44,35 +49,37 @@ def made_field(name, body):
     """The name and the pieces, each behind its white octet."""
     kind, value = name.lower(), value_of(body)
     try:
+        if kind in ADDRESSES:
+            return name, spaced(addresses.list_pieces(value))
         if kind in PHRASES:
             return name, spaced(phrases_pieces(value))
         if kind in PLAIN:
             return name, spaced(plain_pieces(value, kind == ENCODING))
     except tokens.Malformed:
-        made = name if kind == ENCODING else b"Downgraded-" + name
-        return made, spaced(units.b_words(value))
+        kept = name if kind == ENCODING else b"Downgraded-" + name
+        return kept, spaced(units.b_words(value))
     return name, unstructured_pieces(body)
 
 
-def spaced(pieces):
-    return [b" " + piece for piece in pieces]
+def spaced(made):
+    return [b" " + piece for piece in made]
 
 
 def unstructured_pieces(body):
     words = list(units.WORD.finditer(body))
-    pieces, copied_from, white = [], 0, b" "
+    made, copied_from, white = [], 0, b" "
     for first, last in cores_of(words):
         if first > copied_from:
-            pieces.append(white + body[words[copied_from].start() : words[first - 1].end()])
+            made.append(white + body[words[copied_from].start() : words[first - 1].end()])
         before, left = side_of(body, words, first - 1, slice(0, 1), slice(1, None))
         white, right = side_of(body, words, last, slice(-1, None), slice(0, -1))
         between = body[words[first].start() : words[last].end()].replace(b"\r\n", b"")
-        made = units.b_words(left + between + right)
-        pieces += [before + made[0], *spaced(made[1:])]
+        core = units.b_words(left + between + right)
+        made += [before + core[0], *spaced(core[1:])]
         copied_from = last + 1
     if copied_from < len(words):
-        pieces.append(white + body[words[copied_from].start() : words[-1].end()])
-    return pieces
+        made.append(white + body[words[copied_from].start() : words[-1].end()])
+    return made
 
 
 def cores_of(words):
@@ -104,44 +111,19 @@ def side_of(body, words, number, farthest, others):
     return run[farthest], run[others]
 
 
-def comment_pieces(comment):
-    if comment.isascii():
-        return [comment]
-    pieces = [b"("]
-    for kind, octets in tokens.comment_items(comment):
-        if kind == "comment":
-            pieces += comment_pieces(octets)
-        else:
-            pieces += [octets] if octets.isascii() else units.pieces(units.of_run(octets))
-    return [*pieces, b")"]
-
-
-def all_comment_pieces(found):
-    return [piece for comment in tokens.comments(found) for piece in comment_pieces(comment)]
-
-
 def phrases_pieces(value):
-    pieces = []
+    made = []
     for place in tokens.split(tokens.tokens(value, "Mail"), b","):
-        pieces += [b",", *place_pieces(place)]
-    return pieces[1:]
-
-
-def place_pieces(place):
-    phrase = tokens.phrase_of(place)
-    # up to the phrase's end, and what follows it
-    end = max(number for number, token in enumerate(place) if not token.is_blank()) + 1
-    part, rest = tokens.without_gaps_first(place[:end]), place[end:]
-    text = tokens.text_of(part)
-    if text.isascii():
-        return [text, *all_comment_pieces(rest)]
-    return [*(units.pieces(tokens.phrase_units(phrase)) or [b'""']), *all_comment_pieces(part), *all_comment_pieces(rest)]
+        tokens.phrase_of(place)
+        part, rest = tokens.at_last_word(place)
+        made += [b",", *pieces.of_phrase(part), *pieces.of_comments(rest)]
+    return made[1:]
 
 
 def plain_pieces(value, is_encoding):
     found = plain_tokens(value, is_encoding)
     text = tokens.squeezed(found)
-    return [*([text] if text else []), *all_comment_pieces(found)]
+    return [*([text] if text else []), *pieces.of_comments(found)]
 
 
 def plain_tokens(value, is_encoding):

@@ -1,6 +1,8 @@
-"""What a field says, by the rules alone: fields that say the same have the same meaning, however they are written. Nothing
-here was taken from the program, and nothing here writes a field."""
+"""What a field says, by the rules alone: fields that say the same have the same meaning, however they are written. Of
+addresses it is what the field of a surrogate has to say. Nothing here was taken from the program, and nothing here writes a
+field."""
 
+import addresses
 import layout
 import tokens
 import units
@@ -10,6 +12,8 @@ def of_field(name, body):
     """What the value says, or None where it isn't in its grammar."""
     kind, value = name.lower(), layout.value_of(body)
     try:
+        if kind in layout.ADDRESSES:
+            return of_addresses(value)
         if kind in layout.PHRASES:
             return of_phrases(value)
         if kind in layout.PLAIN:
@@ -36,6 +40,21 @@ def of_comment(comment):
 
 def of_comments(found):
     return [of_comment(comment) for comment in tokens.comments(found)]
+
+
+def of_addresses(value):
+    told = [of_element(element) for _, element in addresses.read_list(value) if element]
+    return told, of_comments(tokens.tokens(value, "Mail"))
+
+
+def of_element(element):
+    """A mailbox, or a group and its mailboxes. One that can't be served is a group without mailboxes, whose name says it all."""
+    if not element.is_served():
+        return "group", of_units(units.joined(element.name_texts())), []
+    name = None if element.units() is None else of_units(element.units())
+    if isinstance(element, addresses.Group):
+        return "group", name, [of_element(mailbox) for _, mailbox in element.members]
+    return "mailbox", name, element.local, addresses.served_domain(element.domain)
 
 
 def of_phrases(value):

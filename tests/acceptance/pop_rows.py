@@ -14,6 +14,7 @@ ANN = mailbox([])
 TWO = journal(domain(b"example.org"), account(b"ann@example.org", b"pw"), account(b"bob@example.org", b""), message(1, b"A: b\r\n"))
 DOTS = mailbox([b"A: b\r\n\r\n.\r\n..\r\nx.\r\n\r\n.x"])
 LINE_MAX = 65_536
+UNBUILT = "Message-ID: <é@x>\r\n".encode()
 
 
 def octets_of(lines):
@@ -125,8 +126,8 @@ def of_journals():
             ANN + message(0, b"A: b\r\n", flags=31, date=b" 9-jUN-0000 99:99:99 -9999")),
         refused("a line that is no field", ANN + message(0, b"x\r\n"), 5, b"bad journal at %d" % len(ANN)),
         refused("a bare LF in the body", ANN + message(0, b"A: b\r\n\r\nx\n"), 5, b"bad journal at %d" % len(ANN)),
-        refused("an address field", ANN + message(0, "To: é\r\n".encode()), 10, b"not built at %d" % len(ANN)),
-        refused("an address field in no folder", ANN + message(9, "To: é\r\n".encode(), flags=99), 10, b"not built at %d" % len(ANN)),
+        refused("an identifier", ANN + message(0, UNBUILT), 10, b"not built at %d" % len(ANN)),
+        refused("an identifier in no folder", ANN + message(9, UNBUILT, flags=99), 10, b"not built at %d" % len(ANN)),
         refused("the first of two faults", ANN + domain(b"-") + b"\0\0\0\1\x09", 10, b"not built at %d" % len(ANN)),
     ]
 

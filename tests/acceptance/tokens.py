@@ -105,6 +105,16 @@ def without_gaps_first(found):
     return found[1:] if found and found[0].kind == "gap" else found
 
 
+def words_of(found):
+    return [token for token in found if not token.is_blank()]
+
+
+def at_last_word(found):
+    """The tokens up to the last one that is no gap and no comment, and those behind it."""
+    end = max((number + 1 for number, token in enumerate(found) if not token.is_blank()), default=0)
+    return found[:end], found[end:]
+
+
 def neighbours(found):
     """Each token that is no gap and no comment, and whether one of these stands before it and behind it; the ends count as such."""
     for at, token in enumerate(found):
