@@ -93,6 +93,43 @@ def deep_comment(size):
     yield b")" * 64 + b"\r\n\r\nx\r\n"
 
 
+def many_addresses(count):
+    """So many addresses, each with a name and a domain beyond ASCII."""
+    yield "To: Zoë <z@bücher.example>".encode()
+    for at in range(0, count, 1000):
+        addresses = range(at, min(at + 1000, count))
+        yield "".join(f", Zoë <z{number:06}@bücher.example>" for number in addresses).encode()
+    yield b"\r\n\r\nx\r\n"
+
+
+def large_group(count):
+    """One group of so many addresses."""
+    yield "To: Bücherfreunde: z@bücher.example".encode()
+    for at in range(0, count, 1000):
+        addresses = range(at, min(at + 1000, count))
+        yield "".join(f", z{number:06}@bücher.example" for number in addresses).encode()
+    yield b";\r\n\r\nx\r\n"
+
+
+def empty_places(count):
+    """So many empty places behind an address."""
+    yield "To: Zoë <z@example.org>".encode() + b"," * count + b"\r\n\r\nx\r\n"
+
+
+def comments_between(count):
+    """So many comments between two addresses."""
+    yield "To: Zoë <z@example.org>".encode()
+    for at in range(0, count, 1000):
+        comments = range(at, min(at + 1000, count))
+        yield "".join(f" (été {number:06})" for number in comments).encode()
+    yield b", a@example.org\r\n\r\nx\r\n"
+
+
+def quoted_local_part(size):
+    """An address with a quoted local part of so many octets."""
+    yield "To: Zoë <\"".encode() + b"y z" * (size // 3) + b"\"@example.org>\r\n\r\nx\r\n"
+
+
 MIB = 1 << 20
 
 # name, what writes the message, n; each is measured at n and at 2n
@@ -108,6 +145,11 @@ CASES = [
     ("50,000 and 100,000 keywords", many_phrases, 50_000),
     ("a date with 20,000 and 40,000 comments", many_comments, 20_000),
     ("a date with a comment 64 deep around 512 KiB and 1 MiB", deep_comment, MIB // 2),
+    ("a To with 50,000 and 100,000 addresses", many_addresses, 50_000),
+    ("a group of 50,000 and 100,000 addresses", large_group, 50_000),
+    ("a To with 100,000 and 200,000 empty places", empty_places, 100_000),
+    ("20,000 and 40,000 comments between two addresses", comments_between, 20_000),
+    ("a quoted local part of 512 KiB and 1 MiB", quoted_local_part, MIB // 2),
 ]
 
 
