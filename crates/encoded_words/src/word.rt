@@ -31,7 +31,7 @@ fn find_byte(octets: &[u8], byte: u8) -> Option<usize>
 }
 
 /// What stands before the first such byte, and what stands behind it.
-fn split_at_byte(octets: &[u8], byte: u8) -> Option<(&[u8], &[u8])>
+pub fn split_at_byte(octets: &[u8], byte: u8) -> Option<(&[u8], &[u8])>
     ensures found { IfSome result (λ x. (octets.now ≡ x.0.now ++ byte ∷ x.1.now) × (lacks byte x.0.now ≡ true)) }
     ensures none { IfNone result (lacks byte octets.now ≡ true) }
 {
@@ -60,7 +60,7 @@ fn is_name_octet(octet: u8) -> bool
 }
 
 /// Whether each octet may stand in a charset or a language.
-fn are_name_octets(octets: &[u8]) -> bool
+pub fn are_name_octets(octets: &[u8]) -> bool
     ensures { result ≡ list_all is_name_octet_of octets.now }
 {
     octets.iter().all(|b| is_name_octet(*b))
@@ -163,7 +163,7 @@ fn parts_of(word: &[u8]) -> Option<Parts<'_>>
 }
 
 /// The value of a hexadecimal digit.
-fn hex_value(octet: u8) -> Option<u8>
+pub fn hex_value(octet: u8) -> Option<u8>
     ensures { SomeIff result (digit_value octet < 16) (digit_value octet) }
 {
     match octet {
@@ -243,7 +243,7 @@ fn decode(alloc: Global, letter: u8, text: &[u8]) -> Result<Option<Vec<u8>>, Mem
 }
 
 /// Whether a charset, in any case, names these octets as text.
-fn names_text(charset: &[u8], octets: &[u8]) -> bool
+pub fn names_text(charset: &[u8], octets: &[u8]) -> bool
     ensures { result ≡ gives_text (str_to_ascii_lowercase charset.now) octets.now }
 {
     if charset.eq_ignore_ascii_case(b"utf-8") {
@@ -254,7 +254,7 @@ fn names_text(charset: &[u8], octets: &[u8]) -> bool
 }
 
 /// Octets in lower case.
-fn lower_case(alloc: Global, octets: &[u8]) -> Result<Octets, Memory>
+pub fn lower_case(alloc: Global, octets: &[u8]) -> Result<Octets, Memory>
     ensures { IfOk result (λ o. o ≡ str_to_ascii_lowercase octets.now) }
 {
     let lower = octets

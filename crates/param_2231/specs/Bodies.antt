@@ -1,5 +1,5 @@
 -- The body of a field with parameters (RFC 2045, 5.1; RFC 2183, 2): a main part, and parameters, each behind a semicolon.
-use Rattle.std.specs.Prelude.{◌≡◌, ℕ, ◌+◌, ◌-◌, ◌==◌, Bool, true, false, not, ◌&&◌, ◌||◌, if◌then◌else◌, List, [], ◌∷◌, length, take, drop, codes, Option, Some, None, filter, All}
+use Rattle.std.specs.Prelude.{◌≡◌, ℕ, ◌⊎◌, ◌++◌, ◌+◌, ◌-◌, ◌<◌, ◌==◌, Bool, true, false, not, ◌&&◌, ◌||◌, if◌then◌else◌, List, [], ◌∷◌, length, take, drop, codes, Option, Some, None, filter}
 use Rattle.std.specs.List.{list_all, list_any, slice_split}
 use Rattle.std.specs.Str.{bytes_eq, str_to_ascii_lowercase}
 use Rattle.mail_wire.specs.Octets.{is_ascii}
@@ -8,7 +8,8 @@ use Rattle.field_tokens.specs.declared.Token.{Token}
 use Rattle.field_tokens.specs.declared.TokenKind.{TokenKind}
 use Rattle.field_tokens.specs.declared.TokenKind.TheVariants.{Atom, Quoted, Literal, Special, Gap, Comment}
 use Rattle.field_tokens.specs.Tokens.{HasTokens, octets_at}
-use Rattle.field_tokens.specs.Trees.{Tree, HasComment}
+use Rattle.field_tokens.specs.Trees.{Tree, tree_of, HasComment}
+use Rattle.field_tokens.specs.declared.Comment.{Comment as CommentOf}
 use Rattle.field_tokens.specs.Squeezed.{is_blank, run_octets}
 use Rattle.param_2231.specs.declared.ParamKind.{ParamKind}
 use Rattle.param_2231.specs.declared.ParamKind.TheVariants.{Content, Disposition}
@@ -71,11 +72,15 @@ is_main Disposition text (a ∷ b ∷ more) = false
 abbrev pub is_plain_token : List ℕ → Token → Bool
 is_plain_token text token = is_atom token.kind || list_any (λ mark. is_mark_at text mark token) (codes "/[]?=")
 
+-- no other token, or the next one stands directly behind the token
+abbrev pub touches_first : Token → List Token → Bool
+touches_first token [] = true
+touches_first token (next ∷ more) = token.span.at + token.span.len == next.span.at
+
 -- each token stands directly behind the one before it
 abbrev pub touch : List Token → Bool
 touch [] = true
-touch (a ∷ []) = true
-touch (a ∷ b ∷ more) = (a.span.at + a.span.len == b.span.at) && touch (b ∷ more)
+touch (token ∷ more) = touches_first token more && touch more
 
 -- a quoted string alone
 abbrev pub are_quoted : List Token → Bool
@@ -102,11 +107,15 @@ inner octets = take (length octets - 2) (drop 1 octets)
 abbrev pub content_of : List ℕ → List Token → List ℕ
 content_of text value = if are_quoted value then unquoted (inner (run_octets text value)) else run_octets text value
 
--- the section is a parameter: a name, an equals sign and a value, with gaps and comments around each
-pub record IsParameter (text : List ℕ) (section : List Token) (name : List ℕ) (value : List Token) : Type 0 where
+-- these tokens stand as the name, the equals sign and the value of a parameter
+abbrev pub is_parameter : List ℕ → Token → Token → List Token → Bool
+is_parameter text atom equals value = is_atom atom.kind && (is_mark_at text 61 equals && (are_quoted value || are_plain text value))
+
+-- tokens that are no gaps and no comments are a parameter: a name, an equals sign and a value
+pub record IsParameterOf (text : List ℕ) (tokens : List Token) (name : List ℕ) (value : List Token) : Type 0 where
   pub atom : Token
   pub equals : Token
-  pub tokens : solid section ≡ atom ∷ equals ∷ value
+  pub tokens_are : tokens ≡ atom ∷ equals ∷ value
   pub is_name : is_atom atom.kind ≡ true
   pub is_equals : is_mark_at text 61 equals ≡ true
   pub is_value : (are_quoted value || are_plain text value) ≡ true
@@ -123,19 +132,32 @@ SaysOctets false first content charset octets = (charset ≡ []) × (octets ≡ 
 SaysOctets true false content charset octets = (charset ≡ []) × IsEscaped content octets
 SaysOctets true true content charset octets = (text : List ℕ) × IsExtended content charset text × IsEscaped text octets
 
-pub record IsPiece (text : List ℕ) (section : List Token) (piece : Piece) : Type 0 where
-  pub name : List ℕ
-  pub value : List Token
+-- the name and the value are this piece
+pub record IsPieceOf (text name : List ℕ) (value : List Token) (piece : Piece) : Type 0 where
   pub parts : NameParts
-  pub is_parameter : IsParameter text section name value
   pub has_parts : HasNameParts name parts
   pub says : SaysOctets parts.is_extended (is_first parts.number) (content_of text value) piece.charset piece.octets
   pub base_is : piece.base ≡ str_to_ascii_lowercase parts.base
   pub number_is : piece.number ≡ parts.number
+  pub written_is : piece.written ≡ name ++ 61 ∷ run_octets text value
+
+-- the section, with gaps and comments around its tokens, is this piece
+pub record IsPiece (text : List ℕ) (section : List Token) (piece : Piece) : Type 0 where
+  pub name : List ℕ
+  pub value : List Token
+  pub is_parameter : IsParameterOf text (solid section) name value
+  pub is_piece : IsPieceOf text name value piece
 
 -- a section that holds more than gaps and comments
 abbrev pub is_filled : List Token → Bool
 is_filled section = list_any (λ token. not (is_blank token.kind)) section
+
+-- The tokens are a section and what is behind its semicolon, where there is one. Where there is none, no filled section follows.
+pub record SplitsSection (text : List ℕ) (tokens section behind : List Token) : Type 0 where
+  pub others : List (List Token)
+  pub first : sections_of text tokens ≡ section ∷ others
+  pub same : filter is_filled others ≡ filter is_filled (sections_of text behind)
+  pub shorter : 0 < length tokens → length behind < length tokens
 
 -- a piece for each section
 abbrev pub ArePieces : List ℕ → List (List Token) → List Piece → Type 0
@@ -149,15 +171,33 @@ HaveComments text [] trees = trees ≡ []
 HaveComments text (token ∷ tokens) trees =
     (tree : Tree) × (more : List Tree) × HasComment text token tree × HaveComments text tokens more × (trees ≡ tree ∷ more)
 
--- The text has this main part, in lower case, these pieces, in the order of their places, and these comments. Places
--- without a parameter are passed over.
-pub record HasBody (kind : ParamKind) (text main : List ℕ) (pieces : List Piece) (comments : List Tree) : Type 0 where
-  pub tokens : List Token
-  pub has_tokens : HasTokens Mime text tokens
+-- new is old, and the piece that the section is, where it is filled
+abbrev pub PushesPiece : List ℕ → List Token → List Piece → List Piece → Type 0
+PushesPiece text section old new = ((is_filled section ≡ false) × (new ≡ old))
+    ⊎ ((piece : Piece) × (is_filled section ≡ true) × IsPiece text section piece × (new ≡ old ++ piece ∷ []))
+
+-- the section is filled, and is no piece
+abbrev pub IsNoPiece : List ℕ → List Token → Type 0
+IsNoPiece text section = (is_filled section ≡ true) × ((piece : Piece) → ¬ IsPiece text section piece)
+
+-- new is old, and the comment that the token is, where it is one
+abbrev pub PushesComment : List ℕ → Token → List CommentOf → List CommentOf → Type 0
+PushesComment text token old new = ((is_comment token.kind ≡ false) × (new ≡ old))
+    ⊎ ((comment : CommentOf) × (is_comment token.kind ≡ true) × HasComment text token (tree_of comment) × (new ≡ old ++ comment ∷ []))
+
+-- The tokens are this main part, in lower case, and these pieces, in the order of their places. Places without a parameter are
+-- passed over.
+pub record IsBody (kind : ParamKind) (text : List ℕ) (tokens : List Token) (main : List ℕ) (pieces : List Piece) : Type 0 where
   pub first : List Token
   pub others : List (List Token)
   pub sections : sections_of text tokens ≡ first ∷ others
   pub is_main_part : is_main kind text (solid first) ≡ true
   pub main_is : main ≡ str_to_ascii_lowercase (run_octets text (solid first))
   pub are_pieces : ArePieces text (filter is_filled others) pieces
+
+-- The text has this main part, these pieces and these comments.
+pub record HasBody (kind : ParamKind) (text main : List ℕ) (pieces : List Piece) (comments : List Tree) : Type 0 where
+  pub tokens : List Token
+  pub has_tokens : HasTokens Mime text tokens
+  pub is_body : IsBody kind text tokens main pieces
   pub have_comments : HaveComments text (filter (λ token. is_comment token.kind) tokens) comments

@@ -1,15 +1,25 @@
 -- Parameters from their pieces (RFC 2231, 3).
-use Rattle.std.specs.Prelude.{◌≡◌, ℕ, zero, suc, ◌+◌, ◌*◌, ◌<◌, ◌==◌, Bool, false, ◌&&◌, if◌then◌else◌, List, [], ◌∷◌, ◌++◌, length, filter, is_some}
-use Rattle.std.specs.List.{flat_map, list_any}
+use Rattle.std.specs.Prelude.{◌≡◌, ℕ, zero, suc, ◌+◌, ◌*◌, ◌<◌, ◌==◌, Bool, true, false, ◌&&◌, if◌then◌else◌, nat_lt, List, [], ◌∷◌, ◌++◌, length, filter, is_some}
+use Rattle.std.specs.List.{flat_map, list_any, list_all}
+use Rattle.mail_wire.specs.Octets.{is_ascii}
 use Rattle.std.specs.Option.{option_map_or}
 use Rattle.std.specs.Char.{digit_value}
 use Rattle.std.specs.Str.{bytes_eq}
 use Rattle.encoded_words.specs.Words.{UnitValue}
+use Rattle.encoded_words.specs.Values.{value_of}
+use Rattle.field_tokens.specs.declared.Style.TheVariants.{Mime}
+use Rattle.field_tokens.specs.declared.Token.{Token}
+use Rattle.field_tokens.specs.Tokens.{HasTokens}
 use Rattle.field_tokens.specs.Trees.{Tree}
+use Rattle.field_tokens.specs.Squeezed.{comments_of}
+use Rattle.field_tokens.specs.Comments.{CommentValue, CommentsSay}
 use Rattle.param_2231.specs.declared.ParamKind.{ParamKind}
 use Rattle.param_2231.specs.Extended.{unit_of}
 use Rattle.param_2231.specs.declared.Piece.{Piece}
-use Rattle.param_2231.specs.Bodies.{HasBody}
+use Rattle.param_2231.specs.declared.Param.{Param}
+use Rattle.param_2231.specs.declared.roles.Role.{Role}
+use Rattle.param_2231.specs.declared.roles.Role.TheVariants.{GoesOn, Begins}
+use Rattle.param_2231.specs.Bodies.{HasBody, IsBody}
 
 -- the number that decimal digits go on to, behind those of this number
 abbrev pub decimal_onward : ℕ → List ℕ → ℕ
@@ -69,9 +79,56 @@ params_behind pieces before (piece ∷ more) =
 abbrev pub params_of : List Piece → List ParamValue
 params_of pieces = params_behind pieces [] pieces
 
+-- The pieces are these parameters. The parts of each name have the numbers from 0 on.
+pub record AreParams (pieces : List Piece) (params : List ParamValue) : Type 0 where
+  pub are_numbered : (base : List ℕ) → AreNumbered (parts_named base pieces)
+  pub params_are : params ≡ params_of pieces
+
 -- The text has this main part, these parameters and these comments.
 pub record HasParams (kind : ParamKind) (text main : List ℕ) (params : List ParamValue) (comments : List Tree) : Type 0 where
   pub pieces : List Piece
   pub body : HasBody kind text main pieces comments
-  pub are_numbered : (base : List ℕ) → AreNumbered (parts_named base pieces)
-  pub params_are : params ≡ params_of pieces
+  pub are_params : AreParams pieces params
+
+-- The text has this main part and these parameters.
+pub record HasSaidBody (kind : ParamKind) (text main : List ℕ) (params : List ParamValue) : Type 0 where
+  pub tokens : List Token
+  pub has_tokens : HasTokens Mime text tokens
+  pub pieces : List Piece
+  pub is_body : IsBody kind text tokens main pieces
+  pub are_params : AreParams pieces params
+
+-- The text has this main part and these parameters, and its comments say this.
+pub record SaysParams (kind : ParamKind) (text main : List ℕ) (params : List ParamValue) (comments : List CommentValue) : Type 0 where
+  pub body : HasSaidBody kind text main params
+  pub comments_say : CommentsSay (comments_of body.has_tokens.values) comments
+
+-- ---- what is asked of each piece
+
+-- the pieces of the parameter that a piece is, or is a part of
+abbrev pub own_pieces : List Piece → Piece → List Piece
+own_pieces pieces piece = if is_some piece.number then parts_named piece.base pieces else piece ∷ []
+
+-- no name and no value of the parameter has an octet above 127
+abbrev pub is_ascii_parameter : List Piece → Piece → Bool
+is_ascii_parameter pieces piece = list_all (λ own. list_all is_ascii own.written) (own_pieces pieces piece)
+
+-- another parameter has this name, too
+abbrev pub is_doubled : List ParamValue → List ℕ → Bool
+is_doubled params name = nat_lt 1 (length (filter (λ param. bytes_eq param.name name) params))
+
+-- the role of a piece behind those before it
+abbrev pub IsRole : List Piece → List Piece → Piece → Role → Type 0
+IsRole pieces before piece (GoesOn is_ascii) = (goes_on before piece ≡ true) × (is_ascii ≡ is_ascii_parameter pieces piece)
+IsRole pieces before piece (Begins unit is_ascii is_doubled_name) = (goes_on before piece ≡ false) × (value_of unit ≡ unit_at pieces piece)
+    × (is_ascii ≡ is_ascii_parameter pieces piece) × (is_doubled_name ≡ is_doubled (params_of pieces) piece.base)
+
+-- a role for each piece behind those before
+abbrev pub AreRoles : List Piece → List Piece → List Piece → List Role → Type 0
+AreRoles pieces before [] roles = roles ≡ []
+AreRoles pieces before (piece ∷ more) roles = (role : Role) × (others : List Role) × (roles ≡ role ∷ others) × IsRole pieces before piece role
+    × AreRoles pieces (before ++ piece ∷ []) more others
+
+-- what a parameter is seen as
+abbrev pub param_value : Param → ParamValue
+param_value param = record { name = param.name; unit = value_of param.value }

@@ -3,3 +3,10 @@ pub mod Names
 pub mod Extended
 pub mod Bodies
 pub mod Joining
+pub mod Layout
+pub mod ByName
+pub mod Slots
+pub mod ParamsReadBack
+pub mod Parts
+pub mod Given
+pub mod GlobalTypes

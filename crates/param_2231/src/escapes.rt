@@ -1,24 +1,13 @@
 //! The octets of extended values, read and written.
-ghost use Rattle.std.specs.Prelude.{◌≡◌, ◌<◌, ℕ, List, [], ◌∷◌, ◌++◌, length, IfOk, OnOk, IfSome, IfNone};
+ghost use Rattle.std.specs.Prelude.{◌≡◌, ◌<◌, ◌≤◌, ℕ, List, [], ◌∷◌, ◌++◌, length, IfOk, OnOk, IfSome, IfNone};
 ghost use Rattle.std.specs.Option.{SomeIff};
 ghost use Rattle.std.specs.Char.{digit_value};
 ghost use Rattle.param_2231.specs.Escapes.{BeginsEscaped, IsEscaped, is_attribute_octet as is_attribute_octet_of, escaped_octet, escaped};
 
+use encoded_words::word::hex_value;
 use mail_wire::values::{Memory, Octets};
 use percent_encoding::percent_encode_byte;
 use std::alloc::Global;
-
-/// The value of a hexadecimal digit.
-fn hex_value(octet: u8) -> Option<u8>
-    ensures { SomeIff result (digit_value octet < 16) (digit_value octet) }
-{
-    match octet {
-        b'0'..=b'9' => Some(octet - b'0'),
-        b'A'..=b'F' => Some(octet - b'A' + 10),
-        b'a'..=b'f' => Some(octet - b'a' + 10),
-        _ => None,
-    }
-}
 
 /// The first octet that a text spells, and the text behind it.
 fn first_octet(text: &[u8]) -> Option<(u8, &[u8])>
@@ -68,6 +57,14 @@ fn is_attribute_octet(octet: u8) -> bool
     ensures { result ≡ is_attribute_octet_of octet }
 {
     octet.is_ascii_alphanumeric() || b"!#$&+-.^_`{|}~".contains(&octet)
+}
+
+/// How many octets spell an octet.
+pub(crate) fn escaped_len(octet: u8) -> usize
+    ensures spelled { result ≡ length (escaped_octet octet) }
+    ensures few { result ≤ 3 }
+{
+    if is_attribute_octet(octet) { 1 } else { 3 }
 }
 
 /// Puts what spells an octet last.

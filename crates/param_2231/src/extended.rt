@@ -6,24 +6,10 @@ ghost use Rattle.encoded_words.specs.Words.{is_name_octet as is_name_octet_of, g
 ghost use Rattle.encoded_words.specs.Values.{value_of};
 ghost use Rattle.param_2231.specs.Extended.{IsExtended, is_text_of, unit_of as unit_value};
 
-use crate::names::split_at_byte;
 use encoded_words::Unit;
+use encoded_words::word::{are_name_octets, lower_case, names_text, split_at_byte};
 use mail_wire::values::{Memory, Octets};
 use std::alloc::Global;
-
-/// Whether an octet may stand in a charset.
-fn is_name_octet(octet: u8) -> bool
-    ensures { result ≡ is_name_octet_of octet }
-{
-    (33..=126).contains(&octet) && !b"()<>@,;:\\\"/[]?.=*".contains(&octet)
-}
-
-/// Whether each octet may stand in a charset.
-fn are_name_octets(octets: &[u8]) -> bool
-    ensures { result ≡ list_all is_name_octet_of octets.now }
-{
-    octets.iter().all(|octet| is_name_octet(*octet))
-}
 
 /// The charset and the text of an extended value, and nothing exactly where it has none.
 pub fn split_extended(value: &[u8]) -> Option<(&[u8], &[u8])>
@@ -42,17 +28,6 @@ pub fn split_extended(value: &[u8]) -> Option<(&[u8], &[u8])>
     Some((charset, text))
 }
 
-/// Whether a charset that is given, in any case, names these octets as text.
-fn names_text(charset: &[u8], octets: &[u8]) -> bool
-    ensures { result ≡ gives_text (str_to_ascii_lowercase charset.now) octets.now }
-{
-    if charset.eq_ignore_ascii_case(b"utf-8") {
-        str::from_utf8(octets).is_ok()
-    } else {
-        charset.eq_ignore_ascii_case(b"us-ascii") && octets.is_ascii()
-    }
-}
-
 /// Whether octets of a charset, or of none, are text.
 fn is_text(charset: &[u8], octets: &[u8]) -> bool
     ensures { result ≡ is_text_of (str_to_ascii_lowercase charset.now) octets.now }
@@ -62,17 +37,6 @@ fn is_text(charset: &[u8], octets: &[u8]) -> bool
     } else {
         names_text(charset, octets)
     }
-}
-
-/// Octets in lower case.
-pub(crate) fn lower_case(alloc: Global, octets: &[u8]) -> Result<Octets, Memory>
-    ensures { IfOk result (λ o. o ≡ str_to_ascii_lowercase octets.now) }
-{
-    let lower = octets
-        .iter()
-        .map(|octet| octet.to_ascii_lowercase())
-        .collect(alloc)?;
-    Ok(Octets::from_vec(lower))
 }
 
 /// What octets of a charset, or of none, say. Where they are no text, they come from no encoded word.

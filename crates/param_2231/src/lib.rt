@@ -1,12 +1,30 @@
 //! Parameters of Content-Type and Content-Disposition (RFC 2045, 5.1; RFC 2231).
 #![tactic(auto)]
 
+pub mod bodies;
+mod by_name;
 pub mod escapes;
 pub mod extended;
+pub mod global_types;
+mod joining;
 pub mod laws;
+pub mod lists;
 pub mod names;
+pub mod numbers;
+mod reading;
+pub mod rewriting;
+mod roles;
+mod tokens;
+pub mod writing;
 
+pub use bodies::read_body;
+use encoded_words::Unit;
+use field_tokens::Comment;
+use lists::{ParamList, Pieces};
 use mail_wire::values::Octets;
+pub use reading::read_params;
+pub use rewriting::rewrite_params;
+pub use writing::write_param;
 
 /// Which of the two fields with parameters.
 #[derive(Clone, Copy, Debug, PartialEq, Eq)]
@@ -28,4 +46,40 @@ pub struct Piece {
     pub charset: Octets,
     /// The octets of its value.
     pub octets: Octets,
+    /// Its name, `=` and its value as they are written.
+    pub written: Octets,
+}
+
+/// A parameter: its name in lower case, and what it says.
+#[derive(Drop)]
+pub struct Param {
+    pub name: Octets,
+    pub value: Unit,
+}
+
+/// What a field with parameters says.
+#[derive(Drop)]
+pub struct Params {
+    /// The main part in lower case.
+    pub main: Octets,
+    pub list: ParamList,
+    /// The comments, in the order of their places.
+    pub comments: Vec<Comment>,
+}
+
+/// The body of a field with parameters.
+#[derive(Drop)]
+pub struct Body {
+    /// The main part in lower case.
+    pub main: Octets,
+    pub pieces: Pieces,
+    /// The comments, in the order of their places.
+    pub comments: Vec<Comment>,
+}
+
+/// Why a text was not read.
+#[derive(Clone, Copy, Debug, PartialEq, Eq)]
+pub enum ParamFault {
+    Malformed,
+    Memory,
 }

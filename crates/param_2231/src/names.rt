@@ -6,6 +6,7 @@ ghost use Rattle.encoded_words.specs.Parts.{lacks};
 ghost use Rattle.encoded_words.specs.Words.{language_suffix};
 ghost use Rattle.param_2231.specs.Names.{is_decimal_digit, leads_with_zero as leads_with_zero_of, IsNumber, NameParts, HasNameParts, HasSuffix, HasBehind, IsBase, star_suffix, parts_value};
 
+use encoded_words::word::split_at_byte;
 use mail_wire::text::is_ascii;
 
 /// A parameter's name by its parts.
@@ -17,24 +18,6 @@ pub struct Name<'a> {
     pub number: Option<&'a [u8]>,
     /// Whether the value has `%XX` for octets.
     pub is_extended: bool,
-}
-
-/// The place of the first such byte.
-fn find_byte(octets: &[u8], byte: u8) -> Option<usize>
-    ensures { result ≡ position (λ x. x == byte) octets.now }
-{
-    octets.iter().position(|octet| *octet == byte)
-}
-
-/// What stands before the first such byte, and what stands behind it.
-pub(crate) fn split_at_byte(octets: &[u8], byte: u8) -> Option<(&[u8], &[u8])>
-    ensures found { IfSome result (λ x. (octets.now ≡ x.0.now ++ byte ∷ x.1.now) × (lacks byte x.0.now ≡ true)) }
-    ensures none { IfNone result (lacks byte octets.now ≡ true) }
-{
-    let Some(at) = find_byte(octets, byte) else {
-        return None;
-    };
-    Some((&octets[..at], &octets[at + 1..]))
 }
 
 /// What stands before the first star, and what stands behind it.

@@ -1,0 +1,15 @@
+use Rattle.std.proofs.Common.{sym, ◌∙◌}
+use Rattle.std.proofs.lemmas.Result.{on_ok_weaker}
+use Rattle.encoded_words.specs.Values.{value_of}
+use Rattle.param_2231.specs.Layout.{is_short}
+use Rattle.param_2231.proofs.ParamWriting.{no_whole, adds_whole}
+use Rattle.param_2231.proofs.writing.push_param.Goals as goal
+
+pub returns-then-is_whole : goal.returns-then-is_whole
+returns-then-is_whole c =
+    on_ok_weaker c.push_whole.result (adds_whole c.args.name.now (value_of c.args.unit.now) c.args.whole _ _ (sym c.is_whole.ensures ∙ c.if-is_whole.true)) c.push_whole.ensures
+
+pub returns : goal.returns
+returns c =
+    let parts = (no_whole c.args.whole (is_short (value_of c.args.unit.now)) (sym c.is_whole.ensures ∙ c.if-is_whole.false)).0 in
+    rw (parts) c.push_parts.ensures

@@ -1,0 +1,391 @@
+//! The rewriting of parameters in ASCII.
+ghost use Rattle.std.specs.Prelude.{◌≡◌, ◌<◌, ◌++◌, ◌∷◌, [], ℕ, true, false, List, length, IfOk, IfSome, IfNone, OnOk};
+ghost use Rattle.std.specs.Str.{str_to_ascii_lowercase};
+ghost use Rattle.field_tokens.specs.declared.Style.TheVariants.{Mime};
+ghost use Rattle.field_tokens.specs.Tokens.{HasTokens};
+ghost use Rattle.field_tokens.specs.Comments.{AddsPieces};
+ghost use Rattle.param_2231.specs.Joining.{ParamValue, params_of, AreRoles, HasSaidBody};
+ghost use Rattle.encoded_words.specs.Words.{Text};
+ghost use Rattle.encoded_words.specs.Values.{value_of};
+ghost use Rattle.param_2231.specs.Parts.{IsWritableUnit};
+ghost use Rattle.param_2231.specs.Layout.{GivesWhere, PiecesGive, with_semicolons as with_semicolons_of, is_global as is_global_of, written_main as written_main_of, ParamsPieces};
+ghost use Rattle.param_2231.specs.Given.{RoleGives, IsWritableRole, ended, GiveComments};
+
+use crate::bodies::{is_comment, read_parts, read_tokens};
+use crate::roles::{Role, roles};
+use crate::writing::push_param;
+use crate::{ParamFault, ParamKind, Piece};
+use encoded_words::Unit;
+use field_tokens::Token;
+use field_tokens::comments::write_comment;
+use mail_wire::values::{Memory, Octets};
+use std::alloc::Global;
+
+fn push_copy(alloc: Global, octets: &[u8], pieces: &mut Vec<Octets>) -> Result<(), Memory>
+    ensures { OnOk result (pieces.new.items ≡ pieces.old.items ++ octets.now ∷ []) }
+{
+    let piece = Octets::from_slice(alloc, octets)?;
+    pieces.push(piece)?;
+    Ok(())
+}
+
+/// Whether a main part is the type of messages whose headers are UTF-8.
+fn is_global(kind: ParamKind, main: &[u8]) -> bool
+    ensures { result ≡ is_global_of kind (str_to_ascii_lowercase main.now) }
+{
+    match kind {
+        ParamKind::Content => main.eq_ignore_ascii_case(b"message/global"),
+        ParamKind::Disposition => false,
+    }
+}
+
+/// A main part, opened where it is the type of messages whose headers are UTF-8.
+fn written_main(
+    alloc: Global,
+    kind: ParamKind,
+    open_global: bool,
+    main: Octets,
+) -> Result<Octets, Memory>
+    ensures { IfOk result (λ made. made ≡ written_main_of open_global kind (str_to_ascii_lowercase main) main) }
+{
+    if open_global && is_global(kind, main.as_slice()) {
+        return Octets::from_slice(alloc, b"message/rfc822");
+    }
+    Ok(main)
+}
+
+/// Puts what a piece gives last that goes on with its parameter.
+fn push_more(
+    alloc: Global,
+    piece: &Piece,
+    is_ascii: bool,
+    made: &mut Vec<Octets>,
+) -> Result<(), Memory>
+    ensures { OnOk result (AddsPieces (GivesWhere is_ascii true false piece.now.written piece.now.base (Text [])) made.old.items made.new.items) }
+{
+    if is_ascii {
+        return push_copy(alloc, piece.written.as_slice(), made);
+    }
+    Ok(())
+}
+
+/// Puts what a piece gives last that begins a parameter.
+fn push_begun(
+    alloc: Global,
+    piece: &Piece,
+    unit: &Unit,
+    is_ascii: bool,
+    is_doubled: bool,
+    made: &mut Vec<Octets>,
+) -> Result<(), Memory>
+    requires { IsWritableUnit (value_of unit.now) }
+    ensures { OnOk result (AddsPieces (GivesWhere is_ascii false is_doubled piece.now.written piece.now.base (value_of unit.now)) made.old.items made.new.items) }
+{
+    if is_ascii {
+        return push_copy(alloc, piece.written.as_slice(), made);
+    }
+    push_param(alloc, piece.base.as_slice(), unit, is_doubled, made)
+}
+
+/// Puts what a piece gives last.
+fn push_given(
+    alloc: Global,
+    piece: &Piece,
+    role: &Role,
+    made: &mut Vec<Octets>,
+) -> Result<(), Memory>
+    requires { IsWritableRole role.now }
+    ensures { OnOk result (AddsPieces (RoleGives piece.now role.now) made.old.items made.new.items) }
+{
+    match role {
+        Role::GoesOn { is_ascii } => push_more(alloc, piece, *is_ascii, made),
+        Role::Begins {
+            unit,
+            is_ascii,
+            is_doubled,
+        } => push_begun(alloc, piece, unit, *is_ascii, *is_doubled, made),
+    }
+}
+
+/// The first piece, and those behind it.
+fn split_piece(pieces: &[Piece]) -> (&Piece, &[Piece])
+    requires { 0 < length pieces.now }
+    ensures { pieces.now ≡ result.0.now ∷ result.1.now }
+{
+    (&pieces[0], &pieces[1..])
+}
+
+/// The first role, and those behind it.
+fn split_role(roles: &[Role]) -> (&Role, &[Role])
+    requires { 0 < length roles.now }
+    ensures { roles.now ≡ result.0.now ∷ result.1.now }
+{
+    (&roles[0], &roles[1..])
+}
+
+/// Puts what the pieces give last.
+fn push_all_given(
+    alloc: Global,
+    pieces: &[Piece],
+    roles: &[Role],
+    made: &mut Vec<Octets>,
+) -> Result<(), Memory>
+    requires { AreRoles pieces.now [] pieces.now roles.now }
+    ensures { OnOk result (AddsPieces (PiecesGive pieces.now (params_of pieces.now) [] pieces.now) made.old.items made.new.items) }
+{
+    let mut behind = pieces;
+    let mut left = roles;
+    while !behind.is_empty() {
+        let (piece, more) = split_piece(behind);
+        let (role, others) = split_role(left);
+        push_given(alloc, piece, role, made)?;
+        behind = more;
+        left = others;
+    }
+    Ok(())
+}
+
+/// The first list of octets, and those behind it.
+fn split_octets(lists: &[Octets]) -> (&Octets, &[Octets])
+    requires { 0 < length lists.now }
+    ensures { lists.now ≡ result.0.now ∷ result.1.now }
+{
+    (&lists[0], &lists[1..])
+}
+
+/// Puts a copy of a piece last, with a semicolon where it isn't the last one.
+fn push_ended(
+    alloc: Global,
+    piece: &[u8],
+    is_last: bool,
+    made: &mut Vec<Octets>,
+) -> Result<(), Memory>
+    ensures { OnOk result (made.new.items ≡ made.old.items ++ ended is_last piece.now ∷ []) }
+{
+    let mut copy = Octets::from_slice(alloc, piece)?;
+    if !is_last {
+        copy.push(b';')?;
+    }
+    made.push(copy)?;
+    Ok(())
+}
+
+/// The pieces with a semicolon behind each but the last.
+fn with_semicolons(alloc: Global, pieces: &[Octets]) -> Result<Vec<Octets>, Memory>
+    ensures { IfOk result (λ made. made.items ≡ with_semicolons_of pieces.now) }
+{
+    let mut made = Vec::new(alloc);
+    let mut rest = pieces;
+    while !rest.is_empty() {
+        let (piece, behind) = split_octets(rest);
+        push_ended(alloc, piece.as_slice(), behind.is_empty(), &mut made)?;
+        rest = behind;
+    }
+    Ok(made)
+}
+
+/// Puts the pieces of the comments among all tokens of a text last.
+fn write_comments(
+    alloc: Global,
+    text: &[u8],
+    tokens: &[Token],
+    pieces: &mut Vec<Octets>,
+) -> Result<(), Memory>
+    requires { HasTokens Mime text.now tokens.now }
+    ensures { OnOk result (AddsPieces (GiveComments text.now tokens.now) pieces.old.items pieces.new.items) }
+{
+    let mut rest = text;
+    for token in tokens {
+        let (octets, after) = rest.split_at(token.span.len);
+        if is_comment(token.kind) {
+            write_comment(alloc, octets, pieces)?;
+        }
+        rest = after;
+    }
+    Ok(())
+}
+
+/// A main part and what the pieces give.
+fn main_and_given(
+    alloc: Global,
+    main: Octets,
+    pieces: &[Piece],
+    roles: &[Role],
+) -> Result<Vec<Octets>, Memory>
+    requires { AreRoles pieces.now [] pieces.now roles.now }
+    ensures { IfOk result (λ made. AddsPieces (PiecesGive pieces.now (params_of pieces.now) [] pieces.now) (main ∷ []) made.items) }
+{
+    let mut made = Vec::new(alloc);
+    made.push(main)?;
+    push_all_given(alloc, pieces, roles, &mut made)?;
+    Ok(made)
+}
+
+/// The pieces of a text, and nothing exactly where it has no parameters.
+fn pieces_of(
+    alloc: Global,
+    kind: ParamKind,
+    text: &[u8],
+    open_global: bool,
+) -> Result<Option<Vec<Octets>>, Memory>
+    ensures found { IfOk result (λ o. IfSome o (λ made. ParamsPieces kind open_global text.now made.items)) }
+    ensures none { IfOk result (λ o. IfNone o ((main : List ℕ) (params : List ParamValue) → ¬ HasSaidBody kind text.now main params)) }
+{
+    let Some(tokens) = read_tokens(alloc, text)? else {
+        return Ok(None);
+    };
+    let Some((main, pieces)) = read_parts(alloc, kind, text, &tokens)? else {
+        return Ok(None);
+    };
+    let Some(roles) = roles(alloc, &pieces)? else {
+        return Ok(None);
+    };
+    let main = written_main(alloc, kind, open_global, main)?;
+    let given = main_and_given(alloc, main, &pieces, &roles)?;
+    let mut made = with_semicolons(alloc, &given)?;
+    write_comments(alloc, text, &tokens, &mut made)?;
+    Ok(Some(made))
+}
+
+/// The pieces of a text in ASCII: its main part, its parameters and its comments. `open_global` says that the type of
+/// messages whose headers are UTF-8 becomes the type of other messages.
+pub fn rewrite_params(
+    alloc: Global,
+    kind: ParamKind,
+    text: &[u8],
+    open_global: bool,
+) -> Result<Vec<Octets>, ParamFault>
+    ensures ok { IfOk result (λ pieces. ParamsPieces kind open_global text.now pieces.items) }
+    ensures malformed { result ≡ Err ParamFault.Malformed → (main : List ℕ) (params : List ParamValue)
+        → ¬ HasSaidBody kind text.now main params }
+{
+    match pieces_of(alloc, kind, text, open_global) {
+        Ok(Some(pieces)) => Ok(pieces),
+        Ok(None) => Err(ParamFault::Malformed),
+        Err(_) => Err(ParamFault::Memory),
+    }
+}
+
+#[cfg(test)]
+mod tests {
+    use super::*;
+    use std::test::Fail;
+
+    fn has_pieces(
+        alloc: Global,
+        kind: ParamKind,
+        text: &str,
+        wanted: &[&str],
+    ) -> Result<bool, Fail> {
+        let pieces = rewrite_params(alloc, kind, text.as_bytes(), true).map_err(|_| "no pieces")?;
+        if pieces.len() != wanted.len() {
+            return Ok(false);
+        }
+        for (piece, text) in pieces.iter().zip(wanted) {
+            if piece.as_slice() != text.as_bytes() {
+                return Ok(false);
+            }
+        }
+        Ok(true)
+    }
+
+    #[test]
+    fn a_file_name_is_extended(rt: HostRuntime) -> Result<(), Fail> {
+        assert!(rt;
+            has_pieces(
+                rt.alloc(),
+                ParamKind::Disposition,
+                "attachment; filename=\"é.txt\"",
+                &["attachment;", "filename*=UTF-8''%C3%A9.txt"]
+            )?
+        );
+        assert!(rt;
+            has_pieces(
+                rt.alloc(),
+                ParamKind::Disposition,
+                "a;x*=utf-8'é'",
+                &["a;", "x*=UTF-8''"]
+            )?
+        );
+        Ok(())
+    }
+
+    #[test]
+    fn a_long_value_is_cut_between_characters(rt: HostRuntime) -> Result<(), Fail> {
+        assert!(rt;
+            has_pieces(
+                rt.alloc(),
+                ParamKind::Disposition,
+                "attachment; filename=ééééééééééa",
+                &[
+                    "attachment;",
+                    "filename*0*=UTF-8''%C3%A9%C3%A9%C3%A9%C3%A9%C3%A9%C3%A9%C3%A9%C3%A9%C3%A9%C3%A9;",
+                    "filename*1*=a"
+                ]
+            )?
+        );
+        assert!(rt;
+            has_pieces(
+                rt.alloc(),
+                ParamKind::Disposition,
+                "attachment; filename=éééééééééあ",
+                &[
+                    "attachment;",
+                    "filename*0*=UTF-8''%C3%A9%C3%A9%C3%A9%C3%A9%C3%A9%C3%A9%C3%A9%C3%A9%C3%A9;",
+                    "filename*1*=%E3%81%82"
+                ]
+            )?
+        );
+        Ok(())
+    }
+
+    #[test]
+    fn doubled_names_are_written_whole(rt: HostRuntime) -> Result<(), Fail> {
+        assert!(rt;
+            has_pieces(
+                rt.alloc(),
+                ParamKind::Disposition,
+                "attachment; filename=é; filename=b",
+                &["attachment;", "filename*=UTF-8''%C3%A9;", "filename=b"]
+            )?
+        );
+        assert!(rt;
+            has_pieces(
+                rt.alloc(),
+                ParamKind::Disposition,
+                "a;x=ééééééééééé;x*0=b",
+                &[
+                    "a;",
+                    "x*=UTF-8''%C3%A9%C3%A9%C3%A9%C3%A9%C3%A9%C3%A9%C3%A9%C3%A9%C3%A9%C3%A9%C3%A9;",
+                    "x*0=b"
+                ]
+            )?
+        );
+        Ok(())
+    }
+
+    #[test]
+    fn messages_with_utf8_headers_are_opened(rt: HostRuntime) -> Result<(), Fail> {
+        assert!(rt;
+            has_pieces(
+                rt.alloc(),
+                ParamKind::Content,
+                "Message/Global; a=é",
+                &["message/rfc822;", "a*=UTF-8''%C3%A9"]
+            )?
+        );
+        Ok(())
+    }
+
+    #[test]
+    fn other_texts_are_malformed(rt: HostRuntime) -> Result<(), Fail> {
+        let text = "é".as_bytes();
+        assert!(rt;
+            matches!(
+                rewrite_params(rt.alloc(), ParamKind::Disposition, text, false),
+                Err(ParamFault::Malformed)
+            )
+        );
+        Ok(())
+    }
+}

@@ -1,0 +1,266 @@
+//! The writer of parameters.
+ghost use Rattle.std.specs.Prelude.{◌≡◌, ◌<◌, ◌≤◌, ◌||◌, ◌++◌, ◌∷◌, ◌↔◌, [], not, nat_lt, false, length, codes, IfOk, OnOk, IsTrue, IsUtf8};
+ghost use Rattle.std.specs.Str.{IsCharBoundary};
+ghost use Rattle.encoded_words.specs.Values.{value_of};
+ghost use Rattle.field_tokens.specs.Comments.{AddsPieces};
+ghost use Rattle.param_2231.specs.Escapes.{escaped};
+ghost use Rattle.param_2231.specs.Layout.{number_digits, charset_of as charset_value, octets_in as octets_value, IsPartOf, charset_part, whole_piece, numbered_piece, is_short as is_short_value, ParamPieces};
+ghost use Rattle.param_2231.specs.Parts.{IsCuttable, IsWritableUnit, IsFitting, IsLastBoundary, IsLastEnd};
+
+use crate::escapes::{escaped_len, push_escaped};
+use encoded_words::Unit;
+use itoa::Buffer;
+use mail_wire::values::{Memory, Octets};
+use std::alloc::Global;
+
+/// The most octets that spell a whole value, or a part of one.
+const MOST: usize = 60;
+
+/// What a unit's charset is called.
+fn charset_of(unit: &Unit) -> &[u8]
+    ensures { result.now ≡ charset_value (value_of unit.now) }
+{
+    match unit {
+        Unit::Text(_) => b"UTF-8",
+        Unit::Opaque { charset, .. } => charset.as_slice(),
+    }
+}
+
+fn octets_in(unit: &Unit) -> &[u8]
+    ensures { result.now ≡ octets_value (value_of unit.now) }
+{
+    match unit {
+        Unit::Text(octets) => octets.as_slice(),
+        Unit::Opaque { octets, .. } => octets.as_slice(),
+    }
+}
+
+/// How many octets, from the first one on, are spelled by so few octets as one part may have.
+fn fitting(octets: &[u8]) -> usize
+    ensures { IsFitting octets.now result }
+{
+    let mut fits = 0;
+    let mut spelled = 0;
+    for octet in octets {
+        let more = spelled + escaped_len(*octet);
+        if more > MOST {
+            return fits;
+        }
+        spelled = more;
+        fits += 1;
+    }
+    fits
+}
+
+/// Whether no character goes on at a place.
+fn is_boundary(octets: &[u8], at: usize) -> bool
+    requires { at ≤ length octets.now }
+    ensures { IsTrue result ↔ IsCharBoundary octets.now at }
+{
+    at == octets.len() || !matches!(octets[at], 128..=191)
+}
+
+/// The last place between two characters up to a place. It is at most three octets before that.
+fn last_boundary(octets: &[u8], at: usize) -> usize
+    requires bound { at ≤ length octets.now }
+    requires utf8 { IsUtf8 octets.now }
+    ensures { IsLastBoundary octets.now at result }
+{
+    let mut end = at;
+    while !is_boundary(octets, end) {
+        end -= 1;
+    }
+    end
+}
+
+/// The last place up to a place where a part may end.
+fn last_end(unit: &Unit, octets: &[u8], at: usize) -> usize
+    requires bound { at ≤ length octets.now }
+    requires text { IsCuttable (value_of unit.now) octets.now }
+    ensures { IsLastEnd (value_of unit.now) octets.now at result }
+{
+    match unit {
+        Unit::Text(_) => last_boundary(octets, at),
+        Unit::Opaque { .. } => at,
+    }
+}
+
+/// The first part of octets, and the octets behind it.
+fn split_part<'a>(unit: &Unit, octets: &'a [u8]) -> (&'a [u8], &'a [u8])
+    requires some { 0 < length octets.now }
+    requires text { IsCuttable (value_of unit.now) octets.now }
+    ensures whole { octets.now ≡ result.0.now ++ result.1.now }
+    ensures part { IsPartOf (value_of unit.now) result.0.now result.1.now }
+    ensures behind { IsCuttable (value_of unit.now) result.1.now }
+{
+    octets.split_at(last_end(unit, octets, fitting(octets)))
+}
+
+/// Puts a charset and no language last.
+fn push_charset(made: &mut Octets, unit: &Unit) -> Result<(), Memory>
+    ensures { OnOk result (made.new ≡ made.old ++ charset_part (value_of unit.now)) }
+{
+    made.push_slice(charset_of(unit))?;
+    made.push_slice(b"''")
+}
+
+/// Puts a whole value last.
+fn push_whole(
+    alloc: Global,
+    name: &[u8],
+    unit: &Unit,
+    pieces: &mut Vec<Octets>,
+) -> Result<(), Memory>
+    ensures { OnOk result (pieces.new.items ≡ pieces.old.items ++ whole_piece name.now (value_of unit.now) ∷ []) }
+{
+    let mut piece = Octets::from_slice(alloc, name)?;
+    piece.push_slice(b"*=")?;
+    push_charset(&mut piece, unit)?;
+    push_escaped(&mut piece, octets_in(unit))?;
+    pieces.push(piece)?;
+    Ok(())
+}
+
+/// Puts the digits of a number last.
+fn push_number(piece: &mut Octets, number: usize) -> Result<(), Memory>
+    ensures { OnOk result (piece.new ≡ piece.old ++ number_digits number) }
+{
+    let mut digits = Buffer::new();
+    piece.push_slice(digits.format(number).as_bytes())
+}
+
+/// What stands before the value of a numbered piece.
+fn begin_piece(alloc: Global, name: &[u8], number: usize) -> Result<Octets, Memory>
+    ensures { IfOk result (λ piece. piece ≡ name.now ++ codes "*" ++ number_digits number ++ codes "*=") }
+{
+    let mut piece = Octets::from_slice(alloc, name)?;
+    piece.push(b'*')?;
+    push_number(&mut piece, number)?;
+    piece.push_slice(b"*=")?;
+    Ok(piece)
+}
+
+/// Puts the first of several pieces last.
+fn push_first(
+    alloc: Global,
+    name: &[u8],
+    unit: &Unit,
+    part: &[u8],
+    pieces: &mut Vec<Octets>,
+) -> Result<(), Memory>
+    ensures { OnOk result (pieces.new.items ≡ pieces.old.items ++ numbered_piece name.now 0 (charset_part (value_of unit.now) ++ escaped part.now) ∷ []) }
+{
+    let mut piece = begin_piece(alloc, name, 0)?;
+    push_charset(&mut piece, unit)?;
+    push_escaped(&mut piece, part)?;
+    pieces.push(piece)?;
+    Ok(())
+}
+
+/// Puts another of several pieces last.
+fn push_part(
+    alloc: Global,
+    name: &[u8],
+    number: usize,
+    part: &[u8],
+    pieces: &mut Vec<Octets>,
+) -> Result<(), Memory>
+    ensures { OnOk result (pieces.new.items ≡ pieces.old.items ++ numbered_piece name.now number (escaped part.now) ∷ []) }
+{
+    let mut piece = begin_piece(alloc, name, number)?;
+    push_escaped(&mut piece, part)?;
+    pieces.push(piece)?;
+    Ok(())
+}
+
+/// Puts the pieces of a value that is not short last.
+fn push_parts(
+    alloc: Global,
+    name: &[u8],
+    unit: &Unit,
+    pieces: &mut Vec<Octets>,
+) -> Result<(), Memory>
+    requires text { IsWritableUnit (value_of unit.now) }
+    requires long { is_short_value (value_of unit.now) ≡ false }
+    ensures { OnOk result (AddsPieces (ParamPieces false name.now (value_of unit.now)) pieces.old.items pieces.new.items) }
+{
+    let (first, behind) = split_part(unit, octets_in(unit));
+    push_first(alloc, name, unit, first, pieces)?;
+    let mut rest = behind;
+    let mut number = 1;
+    while !rest.is_empty() {
+        let (part, after) = split_part(unit, rest);
+        push_part(alloc, name, number, part, pieces)?;
+        number += 1;
+        rest = after;
+    }
+    Ok(())
+}
+
+/// Whether octets are spelled by so few octets as one part may have.
+fn is_short(octets: &[u8]) -> bool
+    ensures { result ≡ not (nat_lt 60 (length (escaped octets.now))) }
+{
+    fitting(octets) == octets.len()
+}
+
+/// Whether a value is to be written whole.
+fn is_whole(unit: &Unit, whole: bool) -> bool
+    ensures { result ≡ (whole || is_short_value (value_of unit.now)) }
+{
+    whole || is_short(octets_in(unit))
+}
+
+/// Puts the pieces of a parameter last: one, where it has to be whole.
+pub(crate) fn push_param(
+    alloc: Global,
+    name: &[u8],
+    unit: &Unit,
+    whole: bool,
+    pieces: &mut Vec<Octets>,
+) -> Result<(), Memory>
+    requires { IsWritableUnit (value_of unit.now) }
+    ensures { OnOk result (AddsPieces (ParamPieces whole name.now (value_of unit.now)) pieces.old.items pieces.new.items) }
+{
+    if is_whole(unit, whole) {
+        return push_whole(alloc, name, unit, pieces);
+    }
+    push_parts(alloc, name, unit, pieces)
+}
+
+/// Puts the pieces of a parameter last.
+pub fn write_param(
+    alloc: Global,
+    name: &[u8],
+    value: &Unit,
+    pieces: &mut Vec<Octets>,
+) -> Result<(), Memory>
+    requires { IsWritableUnit (value_of value.now) }
+    ensures { OnOk result (AddsPieces (ParamPieces false name.now (value_of value.now)) pieces.old.items pieces.new.items) }
+{
+    push_param(alloc, name, value, false, pieces)
+}
+
+#[cfg(test)]
+mod tests {
+    use super::*;
+    use std::test::Fail;
+
+    #[test]
+    fn octets_of_another_charset_are_cut_anywhere(rt: HostRuntime) -> Result<(), Fail> {
+        let unit = Unit::Opaque {
+            charset: Octets::from_slice(rt.alloc(), b"iso-8859-1").map_err(|_| "memory")?,
+            octets: Octets::from_slice(rt.alloc(), &[0xE9; 21]).map_err(|_| "memory")?,
+            source: Octets::new(rt.alloc()),
+        };
+        let mut pieces = Vec::new(rt.alloc());
+        write_param(rt.alloc(), b"x", &unit, &mut pieces).map_err(|_| "memory")?;
+        assert_eq!(rt; pieces.len(), 2);
+        assert_eq!(rt;
+            pieces[0].as_slice(),
+            b"x*0*=iso-8859-1''%E9%E9%E9%E9%E9%E9%E9%E9%E9%E9%E9%E9%E9%E9%E9%E9%E9%E9%E9%E9".as_slice()
+        );
+        assert_eq!(rt; pieces[1].as_slice(), b"x*1*=%E9".as_slice());
+        Ok(())
+    }
+}
