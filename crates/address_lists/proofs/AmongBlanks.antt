@@ -1,6 +1,6 @@
 -- Gaps and comments before and behind an element.
 use Rattle.std.proofs.Common.{◌≡◌, ℕ, Bool, true, false, not, inl, inr, List, [], ◌∷◌, ◌++◌, refl, sym, ap, ◌∙◌, subst}
-use Rattle.std.proofs.lemmas.Bool.{and_parts, and_from, both_ways}
+use Rattle.std.proofs.lemmas.Bool.{and_parts, and_from}
 use Rattle.std.proofs.lemmas.List.{append_assoc, append-nil}
 use Rattle.std.proofs.lemmas.List.Elements.{filter-append}
 use Rattle.std.proofs.lemmas.List.Folds.{list_all-append}
@@ -14,12 +14,11 @@ use Rattle.field_tokens.specs.declared.TokenKind.TheVariants.{Atom, Quoted, Lite
 use Rattle.field_tokens.specs.Tokens.{TokenValue}
 use Rattle.address_lists.specs.declared.Address.{Address}
 use Rattle.address_lists.specs.Lexemes.{is_blank_token, are_blank, words_of, is_special_kind, is_mark, contents}
-use Rattle.address_lists.specs.Addresses.{is_domain, IsAddress}
+use Rattle.address_lists.specs.Addresses.{IsAddress}
 use Rattle.address_lists.specs.Phrases.{may_stand_in_phrase, IsPhrase, phrase_items, SaysPhrase}
 use Rattle.address_lists.specs.AddressLists.{Divided, MailboxValue, IsBare, IsNamed, IsMailbox, SayParts, AreDivided, IsOneMailbox, ElementValue, One, Group, IsGroup, IsElement, SaysPlace}
 use Rattle.address_lists.proofs.SoundLemmas.{contents-words}
-use Rattle.address_lists.proofs.PhraseWriting.{phrase_items-append}
-use Rattle.address_lists.proofs.PhrasesAgain.{blank_separators, phrase_before, units_before}
+use Rattle.address_lists.proofs.PhrasesAgain.{blank_separators}
 
 -- What may be said of tokens with gaps and comments at their ends as well as without.
 pub record StandsAmongBlanks (P : List TokenValue → Type 0) : Type 0 where

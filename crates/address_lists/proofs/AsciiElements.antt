@@ -1,23 +1,22 @@
 -- An element that is ASCII stands for itself.
-use Rattle.std.proofs.Common.{◌≡◌, ℕ, ◌-◌, ◌<◌, Bool, true, false, ◌&&◌, inl, inr, List, [], ◌∷◌, ◌++◌, length, take, drop, is_some, Some, refl, sym, ap, ◌∙◌, subst, arith}
+use Rattle.std.proofs.Common.{◌≡◌, ℕ, ◌-◌, Bool, true, false, inl, inr, List, [], ◌∷◌, ◌++◌, length, take, drop, is_some, Some, refl, sym, ap, ◌∙◌, subst, arith}
 use Rattle.std.proofs.lemmas.Bool.{and_parts, and_from}
 use Rattle.std.proofs.lemmas.List.{append-nil, take-append-drop}
 use Rattle.std.proofs.lemmas.List.Folds.{list_all-append}
 use Rattle.std.specs.List.{AllByRecursion, AllZip, list_all}
 use Rattle.mail_wire.specs.Octets.{is_ascii}
 use Rattle.mail_wire.proofs.Feeding.{all-append}
-use Rattle.encoded_words.specs.Words.{UnitValue}
 use Rattle.field_tokens.specs.declared.Style.TheVariants.{Mail}
 use Rattle.field_tokens.specs.declared.TokenKind.{TokenKind}
 use Rattle.field_tokens.specs.declared.TokenKind.TheVariants.{Atom, Quoted, Literal, Special, Gap, Comment}
 use Rattle.field_tokens.specs.Tokens.{TokenValue, AreTokens}
-use Rattle.field_tokens.specs.Squeezed.{is_gap, octets_of, comments_of}
+use Rattle.field_tokens.specs.Squeezed.{octets_of, comments_of}
 use Rattle.field_tokens.specs.Comments.{CommentValue, CommentsSay}
 use Rattle.field_tokens.proofs.Parts.{EndsNoGap-append, tokens_some, comments_of-append}
 use Rattle.address_lists.specs.declared.Address.{Address}
-use Rattle.address_lists.specs.Lexemes.{HasTokenValues, unquoted, inner_octets, content_of, content, contents}
+use Rattle.address_lists.specs.Lexemes.{HasTokenValues, inner_octets, content_of, content, contents}
 use Rattle.address_lists.specs.Addresses.{IsAddress}
-use Rattle.address_lists.specs.AddressLists.{Divided, MailboxValue, IsRoutedOrNot, IsMailbox, SayParts, AreDivided, IsOneMailbox, AreMembers, ElementValue, One, Group, IsElement}
+use Rattle.address_lists.specs.AddressLists.{Divided, MailboxValue, IsRoutedOrNot, IsMailbox, SayParts, IsOneMailbox, AreMembers, ElementValue, One, Group, IsElement}
 use Rattle.address_lists.specs.ListPieces.{served_address, is_plain, HasText}
 use Rattle.address_lists.specs.ListReadBack.{IsServedMailbox, StandsForElement}
 use Rattle.address_lists.proofs.SoundLemmas.{unquoted_all}

@@ -31,7 +31,7 @@ use Rattle.address_lists.proofs.AddressListTexts.{addresses_of}
 
 -- ---- marks
 
-splits_or_lacks : (m : ℕ) (ts : List TokenValue) → ((before after : List TokenValue) × SplitsAt m ts before after) ⊎ (lacks m ts ≡ true)
+pub splits_or_lacks : (m : ℕ) (ts : List TokenValue) → ((before after : List TokenValue) × SplitsAt m ts before after) ⊎ (lacks m ts ≡ true)
 splits_or_lacks m [] = inr refl
 splits_or_lacks m (t ∷ ts) = elim (cases_Bool (is_mark m t)) [
   | inl is ↦ inl ([], ts, record { at = t; whole = refl; is_at = is; first = refl })
@@ -44,10 +44,10 @@ splits_or_lacks m (t ∷ ts) = elim (cases_Bool (is_mark m t)) [
 -- ---- addresses
 
 -- some value is right, or none
-abbrev Found : {V : Type 0} → (V → Type 0) → Type 0
+abbrev pub Found : {V : Type 0} → (V → Type 0) → Type 0
 Found {V = V} P = ((v : V) × P v) ⊎ ((v : V) → ¬ P v)
 
-decide_address : (ts : List TokenValue) → Found (IsAddress ts)
+pub decide_address : (ts : List TokenValue) → Found (IsAddress ts)
 decide_address ts = elim (splits_or_lacks 64 ts) [
   | inr l ↦ inr (λ a is. address_missing ts a l is)
   | inl s ↦ elim (cases_Bool (are_dotted (is_part true) (words_of s.0))) [

@@ -1,8 +1,8 @@
 -- A group without members that stands for what can't be served.
 use Rattle.std.proofs.Common.{◌≡◌, ℕ, ◌<◌, Bool, true, false, inl, inr, List, [], ◌∷◌, ◌++◌, length, codes, if◌then◌else◌, refl, sym, ap, ◌∙◌, subst, arith}
-use Rattle.std.proofs.lemmas.List.{append_assoc, append-nil, length-append}
+use Rattle.std.proofs.lemmas.List.{append_assoc, length-append}
 use Rattle.std.proofs.lemmas.Str.{IsUtf8-append}
-use Rattle.std.specs.List.{AllByRecursion, list_all}
+use Rattle.std.specs.List.{AllByRecursion}
 use Rattle.std.specs.Str.{IsUtf8}
 use Rattle.mail_wire.proofs.Feeding.{all-append}
 use Rattle.encoded_words.specs.Words.{UnitValue, Text, Opaque}
@@ -18,11 +18,10 @@ use Rattle.field_tokens.specs.Comments.{CommentValue, CommentsSay, CommentsPiece
 use Rattle.field_tokens.proofs.Parts.{comments_of-append}
 use Rattle.field_tokens.proofs.TokenLines.{ascii_line}
 use Rattle.address_lists.specs.declared.Address.{Address}
-use Rattle.address_lists.specs.Lexemes.{are_blank}
 use Rattle.address_lists.specs.Addresses.{IsAddress, local_text, address_text}
-use Rattle.address_lists.specs.Phrases.{IsPhrase, phrase_items, SaysPhrase}
+use Rattle.address_lists.specs.Phrases.{phrase_items, SaysPhrase}
 use Rattle.address_lists.specs.PhrasePieces.{UnitsPieces}
-use Rattle.address_lists.specs.AddressLists.{Divided, MailboxValue, IsRoutedOrNot, IsNamed, IsMailbox, SayParts, AreDivided, IsOneMailbox, AreMembers, IsGroup}
+use Rattle.address_lists.specs.AddressLists.{Divided, MailboxValue, IsRoutedOrNot, IsMailbox, SayParts, IsOneMailbox, AreMembers, IsGroup}
 use Rattle.address_lists.specs.ListPieces.{mailbox_units, member_units, members_units, group_units, no_members}
 use Rattle.address_lists.proofs.SoundLemmas.{IsSound, sound_front, sound_rest, contents_utf8, contents_line}
 use Rattle.address_lists.proofs.SoundPhrases.{AreAtomOctets, sound_items, sound_atoms}

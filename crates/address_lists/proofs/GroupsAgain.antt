@@ -1,24 +1,21 @@
 -- What the pieces of a group read as.
-use Rattle.std.proofs.Common.{◌≡◌, ℕ, ◌<◌, Bool, true, false, ◌&&◌, ◌⊎◌, inl, inr, List, [], ◌∷◌, ◌++◌, length, refl, sym, ap, ◌∙◌, subst, arith}
+use Rattle.std.proofs.Common.{◌≡◌, ℕ, Bool, true, false, inl, inr, List, [], ◌∷◌, ◌++◌, refl, sym, ap, ◌∙◌, subst, arith}
 use Rattle.std.proofs.lemmas.Bool.{and_parts, and_from, both_ways}
 use Rattle.std.proofs.lemmas.List.{append_assoc, append-nil}
 use Rattle.std.proofs.lemmas.List.Folds.{list_all-append}
 use Rattle.std.specs.List.{AllByRecursion, AllZip, list_all}
 use Rattle.mail_wire.specs.Octets.{is_ascii}
 use Rattle.encoded_words.specs.Words.{UnitValue}
-use Rattle.encoded_words.specs.PhraseUnits.{HasPhraseUnits}
 use Rattle.encoded_words.specs.Written.{WriteAll}
-use Rattle.field_tokens.specs.declared.Style.TheVariants.{Mail}
 use Rattle.field_tokens.specs.Tokens.{TokenValue}
 use Rattle.field_tokens.specs.Squeezed.{octets_of, comments_of, space}
 use Rattle.field_tokens.specs.Comments.{CommentValue, CommentsSay, CommentsPieces}
 use Rattle.field_tokens.proofs.Parts.{comments_of-append}
 use Rattle.address_lists.specs.Lexemes.{HasTokenValues, is_blank_token, is_mark, are_blank}
-use Rattle.address_lists.specs.Phrases.{IsPhrase, phrase_items}
 use Rattle.address_lists.specs.PhrasePieces.{PlacePieces}
-use Rattle.address_lists.specs.AddressLists.{Divided, MailboxValue, IsMailbox, SayParts, AreDivided, IsOneMailbox, AreMembers, ElementValue, One, Group, IsGroup, IsElement}
+use Rattle.address_lists.specs.AddressLists.{Divided, MailboxValue, SayParts, AreDivided, IsOneMailbox, AreMembers, Group, IsGroup}
 use Rattle.address_lists.specs.ListPieces.{is_plain, group_units, no_members, MemberPieces, with_comma, MembersPieces, InnerPieces, GroupPieces, Kept, Emptied}
-use Rattle.address_lists.specs.ListReadBack.{IsServedMailbox, StandsForElement}
+use Rattle.address_lists.specs.ListReadBack.{IsServedMailbox}
 use Rattle.address_lists.proofs.SoundLemmas.{IsSound, sound_front, sound_rest}
 use Rattle.address_lists.proofs.PlaceTokens.{HasTokenValues-part}
 use Rattle.address_lists.proofs.WritingLemmas.{mark}
@@ -26,11 +23,11 @@ use Rattle.address_lists.proofs.ListLemmas.{one_walked, one_once, members_not_bl
 use Rattle.address_lists.proofs.DividedLemmas.{divided_once}
 use Rattle.address_lists.proofs.PhrasesAgain.{CommentsSay-append, say_both, phrase_before, units_before, PlacePieces-read}
 use Rattle.address_lists.proofs.PhraseListsAgain.{comma}
-use Rattle.address_lists.proofs.MadeTokens.{AreMade, made_two, made_divided, made_mark, MadePhrase, again_phrase, AreCommentsOfLine, text_line_comments, MadeBehind, comments_behind}
+use Rattle.address_lists.proofs.MadeTokens.{AreMade, made_two, made_divided, made_mark, MadePhrase, again_phrase, text_line_comments, MadeBehind, comments_behind}
 use Rattle.address_lists.proofs.AmongBlanks.{divided_put, mailboxes_behind, mailboxes_before}
 use Rattle.address_lists.proofs.EmptiedGroups.{members_sound, group_stands, emptied_again}
-use Rattle.address_lists.proofs.MailboxesAgain.{IsMailboxAgain, IsElementAgain, text_sound, mark_comments, line_rest, IsMailboxIn, plain_again}
-use Rattle.address_lists.proofs.AsciiElements.{IsElementIn, ascii_member_again}
+use Rattle.address_lists.proofs.MailboxesAgain.{IsMailboxAgain, IsElementAgain, text_sound, mark_comments, IsMailboxIn, plain_again}
+use Rattle.address_lists.proofs.AsciiElements.{ascii_member_again}
 
 -- ---- tokens around a mark
 

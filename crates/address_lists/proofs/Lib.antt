@@ -42,3 +42,5 @@ pub mod MailboxesAgain
 pub mod AsciiElements
 pub mod GroupsAgain
 pub mod PlacesAgain
+pub mod PathPiecesLemmas
+pub mod PathPiecesAgain

@@ -4,8 +4,7 @@ use Rattle.std.proofs.lemmas.Bool.{and_parts, and_from, not-true}
 use Rattle.std.proofs.lemmas.List.{append_assoc, append-nil, length-append}
 use Rattle.std.proofs.lemmas.List.Folds.{list_all-append}
 use Rattle.std.specs.List.{AllByRecursion, list_all, join_with_byte}
-use Rattle.mail_wire.specs.Octets.{is_ascii, is_white}
-use Rattle.mail_wire.specs.Spans.{Stops, StopsBehind}
+use Rattle.mail_wire.specs.Octets.{is_ascii}
 use Rattle.mail_wire.proofs.Feeding.{all-append}
 use Rattle.encoded_words.specs.Words.{UnitValue}
 use Rattle.encoded_words.specs.PhraseUnits.{HasPhraseUnits}
@@ -17,8 +16,8 @@ use Rattle.field_tokens.specs.Groups.{IsGroup}
 use Rattle.field_tokens.specs.Tokens.{comment_marks, TokenValue, AreTokens, IsLine}
 use Rattle.field_tokens.specs.Squeezed.{octets_of, is_gap, is_comment, comments_of, space, apart, IsPart}
 use Rattle.field_tokens.specs.Comments.{CommentValue, CommentsSay, CommentsPieces, AreWritableComments, AreLineComments, IsLinePiece, AreWritten}
-use Rattle.field_tokens.proofs.Parts.{BeginsNoGap, EndsNoGap, EndsNoGap-append, AreTokens-append, AreTokens-space, AreTokens-begin, AreTokens-end, apart_begins, apart_some, apart_ends, AreTokens-apart, comments_of-append, comments_of-apart, comment_part, comment_parts, comments_are_parts, comment_parts-comments, comment_parts-octets}
-use Rattle.field_tokens.proofs.TokenLines.{comments_are_comments, comments_are_lines, writable_lines, plain_lines, joined_line}
+use Rattle.field_tokens.proofs.Parts.{BeginsNoGap, EndsNoGap, EndsNoGap-append, AreTokens-append, AreTokens-space, apart_begins, apart_some, apart_ends, AreTokens-apart, comments_of-apart, comment_part, comment_parts, comments_are_parts, comment_parts-comments, comment_parts-octets}
+use Rattle.field_tokens.proofs.TokenLines.{comments_are_comments, comments_are_lines}
 use Rattle.field_tokens.proofs.LinePieces.{CommentsPieces-line, CommentsPieces-there}
 use Rattle.field_tokens.proofs.WrittenComments.{CommentsPieces-written}
 use Rattle.address_lists.specs.Lexemes.{HasTokenValues, is_blank_token, are_blank}
@@ -27,9 +26,8 @@ use Rattle.address_lists.specs.PhraseReadBack.{IsPhraseAgain}
 use Rattle.address_lists.specs.ListPieces.{with_comma}
 use Rattle.address_lists.specs.declared.Address.{Address}
 use Rattle.address_lists.specs.Addresses.{local_text, address_text}
-use Rattle.address_lists.specs.Paths.{in_angles}
 use Rattle.address_lists.proofs.PhrasesAgain.{IsHead, groups, join_two}
-use Rattle.address_lists.proofs.PhraseListsAgain.{comma, again_some, lines_of}
+use Rattle.address_lists.proofs.PhraseListsAgain.{comma, again_some}
 use Rattle.address_lists.proofs.ServedLemmas.{HasNoBlank, WritesAddress}
 use Rattle.address_lists.proofs.WritingLemmas.{mark}
 

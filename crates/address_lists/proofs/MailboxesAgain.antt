@@ -1,16 +1,14 @@
 -- What the pieces of a mailbox read as.
-use Rattle.std.proofs.Common.{◌≡◌, ℕ, ◌<◌, Bool, true, false, inl, inr, List, [], ◌∷◌, ◌++◌, length, is_some, Option, Some, None, refl, sym, ap, ◌∙◌, subst, arith}
-use Rattle.std.proofs.lemmas.Bool.{and_parts, and_from, both_ways, cases_Bool}
-use Rattle.std.proofs.lemmas.List.{append_assoc, append-nil, length-append, take-append-drop}
+use Rattle.std.proofs.Common.{◌≡◌, ℕ, Bool, true, false, inl, inr, List, [], ◌∷◌, ◌++◌, is_some, Some, None, refl, sym, ap, ◌∙◌, subst, arith}
+use Rattle.std.proofs.lemmas.Bool.{and_parts, and_from}
+use Rattle.std.proofs.lemmas.List.{append_assoc, append-nil}
 use Rattle.std.proofs.lemmas.List.Folds.{list_all-append}
 use Rattle.std.specs.List.{AllByRecursion, list_all}
 use Rattle.std.specs.Str.{bytes_eq}
 use Rattle.mail_wire.specs.Octets.{is_ascii}
-use Rattle.mail_wire.proofs.Feeding.{all-append}
 use Rattle.encoded_words.specs.Words.{UnitValue}
 use Rattle.encoded_words.specs.PhraseUnits.{HasPhraseUnits}
 use Rattle.encoded_words.specs.Written.{WriteAll}
-use Rattle.field_tokens.specs.declared.Style.TheVariants.{Mail}
 use Rattle.field_tokens.specs.declared.TokenKind.{TokenKind}
 use Rattle.field_tokens.specs.declared.TokenKind.TheVariants.{Atom, Quoted, Literal, Special, Gap, Comment}
 use Rattle.field_tokens.specs.TokenOctets.{is_line_octet}
@@ -23,11 +21,11 @@ use Rattle.address_lists.specs.Lexemes.{HasTokenValues, is_special_kind, is_mark
 use Rattle.address_lists.specs.Addresses.{address_text}
 use Rattle.address_lists.specs.Paths.{IsAngled, in_angles}
 use Rattle.address_lists.specs.Phrases.{IsPhrase, phrase_items, SaysPhrase}
-use Rattle.address_lists.specs.PhrasePieces.{PhrasePieces, HasCore, PlacePieces}
+use Rattle.address_lists.specs.PhrasePieces.{PhrasePieces, HasCore}
 use Rattle.address_lists.specs.PhraseReadBack.{IsPhraseAgain}
 use Rattle.address_lists.specs.AddressLists.{MailboxValue, IsBare, IsRoutedOrNot, IsNamedBy, IsMailbox, ElementValue, One, Group, IsElement}
 use Rattle.address_lists.specs.ListPieces.{served_address, is_plain, mailbox_units, no_members, MailboxPieces, Bare, Angled, Named, Emptied}
-use Rattle.address_lists.specs.ListReadBack.{IsServedMailbox, StandsForMailboxIf, StandsForElement}
+use Rattle.address_lists.specs.ListReadBack.{IsServedMailbox, StandsForElement}
 use Rattle.address_lists.proofs.SoundLemmas.{IsSound, tokens_sound, sound_front, sound_rest}
 use Rattle.address_lists.proofs.PlaceTokens.{HasTokenValues-part}
 use Rattle.address_lists.proofs.WritingLemmas.{mark}
@@ -35,7 +33,7 @@ use Rattle.address_lists.proofs.PhraseWriting.{phrase_core, core_comments}
 use Rattle.address_lists.proofs.PhrasesAgain.{CommentsSay-append, say_both, phrase_before, units_before, core_units, PlacePieces-read}
 use Rattle.address_lists.proofs.ListLemmas.{IsMailbox-once}
 use Rattle.address_lists.proofs.ServedLemmas.{WritesAddress, address_served}
-use Rattle.address_lists.proofs.MadeTokens.{AreMade, made_two, made_address, no_blank_comments, MadePhrase, again_phrase, AreCommentsOfLine, text_line_comments, comments_behind}
+use Rattle.address_lists.proofs.MadeTokens.{AreMade, made_two, made_address, no_blank_comments, again_phrase, AreCommentsOfLine, text_line_comments, comments_behind}
 use Rattle.address_lists.proofs.AmongBlanks.{before_blanks, mailbox_among}
 use Rattle.address_lists.proofs.EmptiedGroups.{mailbox_sound, mailbox_stands, emptied_again}
 
@@ -100,14 +98,14 @@ bare_again ts m served values comments has is e say are =
 
 -- ---- angle brackets
 
-abbrev bracketed : List TokenValue → List TokenValue
+abbrev pub bracketed : List TokenValue → List TokenValue
 bracketed ts = mark 60 ∷ (ts ++ mark 62 ∷ [])
 
 angles_all : (q : ℕ → Bool) → q 60 ≡ true → q 62 ≡ true → (text : List ℕ) → list_all q text ≡ true → list_all q (in_angles text) ≡ true
 angles_all q a b text h =
     and_from (q 60) (list_all q (text ++ 62 ∷ [])) a (list_all-append q text (62 ∷ []) ∙ and_from (list_all q text) (list_all q (62 ∷ [])) h (and_from (q 62) true b refl))
 
-made_angles : (served : Address) (w : WritesAddress served) → AreMade (bracketed w.tokens) (in_angles (address_text served) ∷ [])
+pub made_angles : (served : Address) (w : WritesAddress served) → AreMade (bracketed w.tokens) (in_angles (address_text served) ∷ [])
 made_angles served w = record {
   are_tokens = (address_text served ++ 62 ∷ [], refl, (60, refl, refl), w.writes.are_tokens (mark 62 ∷ []) (62 ∷ []) refl ([], refl, (62, refl, refl), refl));
   begins = refl;
@@ -117,7 +115,7 @@ made_angles served w = record {
   each = (record { some = omega arith; ascii = angles_all is_ascii refl refl (address_text served) w.ascii; line = angles_all is_line_octet refl refl (address_text served) w.line }, tt);
 }
 
-brackets_no_comments : (served : Address) (w : WritesAddress served) → comments_of (bracketed w.tokens) ≡ []
+pub brackets_no_comments : (served : Address) (w : WritesAddress served) → comments_of (bracketed w.tokens) ≡ []
 brackets_no_comments served w = comments_of-append w.tokens (mark 62 ∷ []) ∙ ap (λ r. r ++ []) (no_blank_comments w.tokens w.no_blank)
 
 routed_served : (ts : List TokenValue) (a served : Address) → AllByRecursion IsSound ts → IsRoutedOrNot ts a → served_address a ≡ Some served → WritesAddress served

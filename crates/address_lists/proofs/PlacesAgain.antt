@@ -4,7 +4,7 @@ use Rattle.std.proofs.lemmas.Bool.{and_parts, and_from, both_ways, cases_Bool, o
 use Rattle.std.proofs.lemmas.Bool.Decides.{nat_tests}
 use Rattle.std.proofs.lemmas.List.{append_assoc, append-nil}
 use Rattle.std.proofs.lemmas.List.Folds.{list_all-append}
-use Rattle.std.specs.List.{AllByRecursion, AllZip, list_all, list_any, join_with_byte}
+use Rattle.std.specs.List.{AllZip, list_all, list_any, join_with_byte}
 use Rattle.mail_wire.specs.Octets.{is_white, is_ascii}
 use Rattle.encoded_words.specs.Words.{UnitValue}
 use Rattle.field_tokens.specs.declared.Style.TheVariants.{Mail}
@@ -29,9 +29,9 @@ use Rattle.address_lists.proofs.PhrasesAgain.{CommentsSay-append, say_both}
 use Rattle.address_lists.proofs.PhraseListsAgain.{comma, lines_of}
 use Rattle.address_lists.proofs.MadeTokens.{AreMade, made_two, made_divided, AreCommentsOfLine, text_line_comments, comments_made, comments_behind}
 use Rattle.address_lists.proofs.AmongBlanks.{before_blanks, blank_more, element_among, divided_put, places_behind}
-use Rattle.address_lists.proofs.MailboxesAgain.{IsElementAgain, mark_comments, IsMailboxIn, MailboxPieces-read}
+use Rattle.address_lists.proofs.MailboxesAgain.{IsElementAgain, mark_comments, MailboxPieces-read}
 use Rattle.address_lists.proofs.AsciiElements.{IsElementIn, ascii_element_again}
-use Rattle.address_lists.proofs.GroupsAgain.{CutsText, cut_text, GroupPieces-read}
+use Rattle.address_lists.proofs.GroupsAgain.{cut_text, GroupPieces-read}
 
 -- ---- elements
 

@@ -1,17 +1,16 @@
 -- The text of an address as it is served is read back.
-use Rattle.std.proofs.Common.{◌≡◌, ℕ, ◌<◌, Bool, true, false, not, ◌||◌, eqb, cond, inl, inr, List, [], ◌∷◌, ◌++◌, length, Option, Some, None, refl, sym, ap, ◌∙◌, subst, arith}
+use Rattle.std.proofs.Common.{◌≡◌, ℕ, Bool, true, false, not, ◌||◌, eqb, inl, inr, List, [], ◌∷◌, ◌++◌, Option, Some, None, refl, sym, ap, ◌∙◌, subst, arith}
 use Rattle.std.proofs.lemmas.Bool.{and_parts, and_from, cases_Bool}
 use Rattle.std.proofs.lemmas.Bool.Decides.{nat_tests}
 use Rattle.std.proofs.lemmas.List.{append_assoc}
 use Rattle.std.proofs.lemmas.List.Elements.{All-weaker}
 use Rattle.std.proofs.lemmas.List.Folds.{list_all-append}
 use Rattle.std.proofs.lemmas.List.Sums.{list_all-from_AllPass}
-use Rattle.std.specs.List.{AllByRecursion, All, flat_map, list_all}
+use Rattle.std.specs.List.{AllByRecursion, flat_map, list_all}
 use Rattle.mail_wire.specs.Octets.{is_ascii}
-use Rattle.mail_wire.specs.Spans.{Stops}
 use Rattle.field_tokens.specs.declared.Style.TheVariants.{Mail}
 use Rattle.field_tokens.specs.TokenOctets.{is_atom_octet, is_line_octet}
-use Rattle.field_tokens.specs.Tokens.{TokenValue, AreTokens}
+use Rattle.field_tokens.specs.Tokens.{TokenValue}
 use Rattle.field_tokens.proofs.LinePieces.{list_weaker}
 use Rattle.ace_domains.specs.Domains.{is_atom_octet as is_name_atom_octet, IsAtom, is_name_octet, normal_form, SameDomain}
 use Rattle.ace_domains.proofs.FormLemmas.{form_own, form_name, form_domain}

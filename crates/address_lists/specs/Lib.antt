@@ -9,6 +9,7 @@ pub mod AddressLists
 pub mod PhraseLists
 pub mod ListPieces
 pub mod ListReadBack
+pub mod PathPieces
 pub mod PhraseListSteps
 pub mod Walks
 pub mod ListViews

@@ -1,5 +1,5 @@
 -- What the pieces of a list of addresses read as.
-use Rattle.std.specs.Prelude.{◌≡◌, ℕ, ◌<◌, Bool, true, false, List, [], ◌∷◌, length, Some}
+use Rattle.std.specs.Prelude.{◌≡◌, ℕ, ◌<◌, Bool, true, false, List, [], length, Some}
 use Rattle.std.specs.List.{AllByRecursion, AllZip, list_all, join_with_byte}
 use Rattle.mail_wire.specs.Octets.{is_white}
 use Rattle.mail_wire.specs.Spans.{Stops, StopsBehind}

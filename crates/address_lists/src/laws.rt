@@ -1,5 +1,5 @@
 //! Laws of addresses and their texts.
-ghost use Rattle.std.specs.Prelude.{◌≡◌, ℕ, ◌⊎◌, false, List, Option};
+ghost use Rattle.std.specs.Prelude.{◌≡◌, ℕ, ◌⊎◌, false, List, Option, Some};
 ghost use Rattle.std.specs.List.{list_all};
 ghost use Rattle.mail_wire.specs.Octets.{is_ascii};
 ghost use Rattle.address_lists.specs.Paths.{HasPath};
@@ -9,8 +9,9 @@ ghost use Rattle.field_tokens.specs.Trees.{Tree};
 ghost use Rattle.address_lists.specs.PhraseLists.{SaysPhrases, PhrasesPieces};
 ghost use Rattle.address_lists.specs.PhraseListSteps.{ArePhrasesAgain};
 ghost use Rattle.address_lists.specs.AddressLists.{ElementValue, HasAddresses};
-ghost use Rattle.address_lists.specs.ListPieces.{SaysAddresses, AddressesPieces};
+ghost use Rattle.address_lists.specs.ListPieces.{served_address, SaysAddresses, AddressesPieces};
 ghost use Rattle.address_lists.specs.ListReadBack.{AreAddressesAgain};
+ghost use Rattle.address_lists.specs.PathPieces.{SaysPath, PathPieces, IsPathAgain};
 ghost use Rattle.address_lists.specs.declared.Address.{Address};
 
 /// A text is the path of one address at most, or of none.
@@ -77,4 +78,29 @@ pub fn written_addresses_are_read_back()
     ensures { (text : List ℕ) (pieces : List (List ℕ)) (elements : List ElementValue) (comments : List CommentValue)
         → list_all is_ascii text ≡ false → AddressesPieces text pieces → SaysAddresses text elements comments
         → AreAddressesAgain elements comments pieces }
+{}
+
+/// A text says one path at most, and so one list of comments, and is written in one way.
+pub fn served_paths_are_one()
+    ensures answer { (text : List ℕ) (a b : Option Address) (cs ds : List CommentValue) → SaysPath text a cs → SaysPath text b ds → a ≡ b }
+    ensures comments { (text : List ℕ) (a b : Option Address) (cs ds : List CommentValue) → SaysPath text a cs → SaysPath text b ds → cs ≡ ds }
+    ensures pieces { (text : List ℕ) (ps qs : List (List ℕ)) → PathPieces text ps → PathPieces text qs → ps ≡ qs }
+{}
+
+/// Of each text it is decided whether it says a path, and it has pieces exactly where that is one of an address that can be
+/// served.
+pub fn served_paths_are_there()
+    ensures decided { (text : List ℕ) → ((answer : Option Address) × (comments : List CommentValue) × SaysPath text answer comments)
+        ⊎ ((answer : Option Address) (comments : List CommentValue) → ¬ SaysPath text answer comments) }
+    ensures pieces { (text : List ℕ) (address served : Address) (comments : List CommentValue) → SaysPath text (Some address) comments
+        → served_address address ≡ Some served → (pieces : List (List ℕ)) × PathPieces text pieces }
+    ensures paths { (text : List ℕ) (pieces : List (List ℕ)) → PathPieces text pieces
+        → (address : Address) × (comments : List CommentValue) × SaysPath text (Some address) comments }
+{}
+
+/// The pieces of a path, with a space between any two, are the path of the same address as it is served, with the same
+/// comments, and each of them is ASCII.
+pub fn written_paths_are_read_back()
+    ensures { (text : List ℕ) (pieces : List (List ℕ)) (address : Address) (comments : List CommentValue) → PathPieces text pieces
+        → SaysPath text (Some address) comments → IsPathAgain address comments pieces }
 {}

@@ -14,6 +14,7 @@ pub mod phrases;
 mod places;
 mod rewriting;
 mod served;
+pub mod served_paths;
 pub mod small_lists;
 #[cfg(test)]
 mod tests;
@@ -26,6 +27,7 @@ pub use lists::read_list;
 use mail_wire::values::Octets;
 pub use paths::{read_path, write_address};
 pub use rewriting::rewrite_list;
+pub use served_paths::rewrite_path;
 pub use small_lists::{Elements, Mailboxes, Units};
 
 /// An address: its local part without quoting, and its domain as it stands, each without gaps and comments.

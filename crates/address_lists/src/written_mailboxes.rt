@@ -28,7 +28,12 @@ fn push_bare(alloc: Global, address: &Address, pieces: &mut Vec<Octets>) -> Resu
     Ok(())
 }
 
-fn push_angled(alloc: Global, address: &Address, pieces: &mut Vec<Octets>) -> Result<(), Memory>
+/// Puts an address in angle brackets last.
+pub(crate) fn push_angled(
+    alloc: Global,
+    address: &Address,
+    pieces: &mut Vec<Octets>,
+) -> Result<(), Memory>
     ensures { OnOk result (pieces.new.items ≡ pieces.old.items ++ in_angles (address_text address.now) ∷ []) }
 {
     let mut text = Octets::new(alloc);

@@ -1,0 +1,154 @@
+-- A text says one path at most, which is written in one way.
+use Rattle.std.proofs.Common.{◌≡◌, ℕ, true, false, ◌⊎◌, inl, inr, List, [], ◌∷◌, ◌++◌, Option, Some, None, IfNone, refl, sym, ap, ◌∙◌}
+use Rattle.std.proofs.lemmas.Bool.{both_ways, cases_Bool}
+use Rattle.std.specs.Str.{IsUtf8}
+use Rattle.field_tokens.specs.declared.Style.TheVariants.{Mail}
+use Rattle.field_tokens.specs.Tokens.{TokenValue}
+use Rattle.field_tokens.specs.Squeezed.{comments_of}
+use Rattle.field_tokens.specs.Comments.{CommentValue, CommentsPieces, AddsPieces}
+use Rattle.field_tokens.proofs.CommentValues.{CommentsSay-once, CommentsSay-some, CommentsPieces-once, CommentsPieces-some}
+use Rattle.field_tokens.proofs.DecideTokens.{decide_tokens}
+use Rattle.address_lists.specs.declared.Address.{Address}
+use Rattle.address_lists.specs.Lexemes.{HasTokenValues, are_blank}
+use Rattle.address_lists.specs.Addresses.{address_text}
+use Rattle.address_lists.specs.Paths.{IsFirstAngled, IsPathOf, IsPath, HasPath, in_angles}
+use Rattle.address_lists.specs.AddressLists.{MailboxValue}
+use Rattle.address_lists.specs.ListPieces.{served_address}
+use Rattle.address_lists.specs.PathPieces.{SaysPath, PathPieces, ServesPath}
+use Rattle.address_lists.proofs.PathLemmas.{HasTokenValues-once, HasPath-once, IsPath-once, angled_made, angles_once, no_open, no_close, something_behind, path_angles, path_of_tokens, KnownPath, no_address_path}
+use Rattle.address_lists.proofs.SoundPhrases.{text_comments}
+use Rattle.address_lists.proofs.WritableTokens.{text_can, mailbox_writable}
+use Rattle.address_lists.proofs.DecideAddresses.{Found, splits_or_lacks, decide_address}
+
+-- ---- what a text says
+
+pub record SamePath (a b : Option Address) (cs ds : List CommentValue) : Type 0 where
+  pub answer : a ≡ b
+  pub comments : cs ≡ ds
+
+pub SaysPath-once : (text : List ℕ) (a b : Option Address) (cs ds : List CommentValue) → SaysPath text a cs → SaysPath text b ds → SamePath a b cs ds
+SaysPath-once text a b cs ds p q =
+    let same = HasTokenValues-once text p.tokens q.tokens p.has q.has in
+    record { answer = IsPath-once p.tokens a b p.is_path (rw (same) q.is_path); comments = CommentsSay-once (comments_of p.tokens) cs ds p.comments_say (rw (same) q.comments_say) }
+
+pub path_says : (text : List ℕ) (ts : List TokenValue) (answer : Option Address) → HasTokenValues text ts → IsPath ts answer → (comments : List CommentValue) × SaysPath text answer comments
+path_says text ts answer has is =
+    let comments = CommentsSay-some (comments_of ts) (text_comments text ts has) in
+    (comments.0, record { tokens = ts; has = has; is_path = is; comments_say = comments.1 })
+
+-- ---- its pieces
+
+served_once : (a b s t : Address) → a ≡ b → served_address a ≡ Some s → served_address b ≡ Some t → s ≡ t
+served_once a b s t same p q = let both : Some s ≡ Some t = sym p ∙ ap served_address same ∙ q in cc both
+
+one_address : (ts : List TokenValue) (a b : Address) → IsPath ts (Some a) → IsPath ts (Some b) → a ≡ b
+one_address ts a b p q = let both : Some a ≡ Some b = IsPath-once ts (Some a) (Some b) p q in cc both
+
+pub PathPieces-once : (text : List ℕ) (pieces other : List (List ℕ)) → PathPieces text pieces → PathPieces text other → pieces ≡ other
+PathPieces-once text pieces other p q =
+    let same = HasTokenValues-once text p.tokens q.tokens p.has q.has in
+    let address = one_address p.tokens p.address q.address p.is_path (rw (same) q.is_path) in
+    let served = served_once p.address q.address p.served q.served address p.is_served q.is_served in
+    let comments = CommentsPieces-once (comments_of p.tokens) p.comments q.comments p.comments_are (rw (same) q.comments_are) in
+    p.pieces_are ∙ rw (served, comments) (sym q.pieces_are)
+
+-- what has pieces says a path
+pub PathPieces-says : (text : List ℕ) (pieces : List (List ℕ)) → PathPieces text pieces → (address : Address) × (comments : List CommentValue) × SaysPath text (Some address) comments
+PathPieces-says text pieces p = let says = path_says text p.tokens (Some p.address) p.has p.is_path in (p.address, says.0, says.1)
+
+-- a path whose address is served has pieces
+pub PathPieces-some : (text : List ℕ) (address served : Address) (comments : List CommentValue) → SaysPath text (Some address) comments → served_address address ≡ Some served
+    → (pieces : List (List ℕ)) × PathPieces text pieces
+PathPieces-some text address served comments says e =
+    let given = CommentsPieces-some (comments_of says.tokens) (text_comments text says.tokens says.has) in (
+      in_angles (address_text served) ∷ given.0,
+      record { tokens = says.tokens; has = says.has; address = address; served = served; is_path = says.is_path; is_served = e; comments = given.0; comments_are = given.1; pieces_are = refl },
+    )
+
+-- ---- whether a text says a path
+
+known : (ts before inner : List TokenValue) (answer : Option Address) → IsFirstAngled ts before inner → IsPath ts answer → KnownPath before inner answer
+known ts before inner answer first is =
+    let same = angles_once ts before is.before inner is.inner first (path_angles ts answer is) in
+    record { nothing_before = rw (same.before) is.nothing_before; holds = rw (same.inner) is.holds }
+
+path_made : (ts before inner : List TokenValue) (answer : Option Address) → IsFirstAngled ts before inner → are_blank before ≡ true → IsPathOf inner answer → IsPath ts answer
+path_made ts before inner answer first blank holds = record { before = before; inner = inner; angled = first.angled; nothing_before = blank; holds = holds }
+
+decide_angled : (ts before inner : List TokenValue) → IsFirstAngled ts before inner → Found (IsPath ts)
+decide_angled ts before inner first = elim (cases_Bool (are_blank before)) [
+  | inr other ↦ inr (λ answer is. both_ways (are_blank before) other (known ts before inner answer first is).nothing_before)
+  | inl nothing ↦ elim (cases_Bool (are_blank inner)) [
+    | inl blank ↦ inl (None, path_made ts before inner None first nothing blank)
+    | inr some ↦ elim (decide_address inner) [
+      | inl a ↦ inl (Some a.0, path_made ts before inner (Some a.0) first nothing a.1)
+      | inr none ↦ inr (λ answer is. no_address_path before inner answer some none (known ts before inner answer first is))
+    ]
+  ]
+]
+
+decide_is_path : (ts : List TokenValue) → Found (IsPath ts)
+decide_is_path ts = elim (splits_or_lacks 60 ts) [
+  | inr l ↦ inr (λ answer is. no_open ts is.before is.inner l (path_angles ts answer is))
+  | inl s ↦ elim (splits_or_lacks 62 s.1) [
+    | inr l ↦ inr (λ answer is. no_close ts s.0 s.1 is.before is.inner s.2 l (path_angles ts answer is))
+    | inl c ↦ elim (cases_Bool (are_blank c.1)) [
+      | inr other ↦ inr (λ answer is. something_behind ts s.0 s.1 c.0 c.1 is.before is.inner s.2 c.2 other (path_angles ts answer is))
+      | inl blank ↦ decide_angled ts s.0 c.0 (angled_made ts s.0 s.1 c.0 c.1 s.2 c.2 blank)
+    ]
+  ]
+]
+
+-- A text says a path, or it doesn't.
+pub decide_path : (text : List ℕ)
+    → ((answer : Option Address) × (comments : List CommentValue) × SaysPath text answer comments) ⊎ ((answer : Option Address) (comments : List CommentValue) → ¬ SaysPath text answer comments)
+decide_path text = elim (decide_tokens Mail text) [
+  | inr none ↦ inr (λ answer comments says. none says.tokens says.has)
+  | inl found ↦ elim (decide_is_path found.0) [
+    | inr none ↦ inr (λ answer comments says. none answer (rw (HasTokenValues-once text found.0 says.tokens found.1 says.has) says.is_path))
+    | inl is ↦ let says = path_says text found.0 is.0 found.1 is.1 in inl (is.0, says.0, says.1)
+  ]
+]
+
+-- ---- what the code reads
+
+-- the domain of a path's address is UTF-8
+pub path_utf8 : (text : List ℕ) (a : Address) → HasPath text (Some a) → IsUtf8 a.domain
+path_utf8 text a path =
+    let m : MailboxValue = record { phrase = false; display = []; angle = true; address = a } in
+    let is = path.is_path in
+    (mailbox_writable path.tokens m (text_can text path.tokens path.has_tokens)
+    (inr (record { before = is.before; inner = is.inner; angled = is.angled; named = record { says = (is.nothing_before, refl); address = inl is.holds; angle = refl } }))).domain
+
+-- a path of a known address is served as that is, or isn't
+pub path_not_served : (text : List ℕ) (a : Address) (found : Option Address) → HasPath text (Some a) → found ≡ served_address a → IfNone found ((served : Address) → ¬ ServesPath text served)
+path_not_served text a (Some served) path e = tt
+path_not_served text a None path e = λ served serves.
+    let same : Some a ≡ Some serves.address = HasPath-once text (Some a) (Some serves.address) path serves.has_path in
+    none_served a serves.address served (cc same) e serves.is_served
+  where
+    none_served : (a b served : Address) → a ≡ b → None ≡ served_address a → served_address b ≡ Some served → ⊥
+    none_served a b served same none some = let both : None ≡ Some served = none ∙ ap served_address same ∙ some in cc both
+
+-- the null path isn't served
+pub null_not_served : (text : List ℕ) → HasPath text None → (served : Address) → ServesPath text served → ⊥
+null_not_served text path served serves =
+    let both : None ≡ Some serves.address = HasPath-once text None (Some serves.address) path serves.has_path in
+    cc both
+
+pub PathPieces-made : (text : List ℕ) (ts : List TokenValue) (served : Address) (old mid new : List (List ℕ)) → ServesPath text served → HasTokenValues text ts → old ≡ []
+    → mid ≡ old ++ in_angles (address_text served) ∷ [] → AddsPieces (CommentsPieces (comments_of ts)) mid new → PathPieces text new
+PathPieces-made text ts served old mid new serves has none e adds = record {
+  tokens = ts;
+  has = has;
+  address = serves.address;
+  served = served;
+  is_path = path_of_tokens text ts (Some serves.address) has serves.has_path;
+  is_served = serves.is_served;
+  comments = adds.pieces;
+  comments_are = adds.holds;
+  pieces_are = adds.added ∙ ap (λ ps. ps ++ adds.pieces) (e ∙ ap (λ ps. ps ++ in_angles (address_text served) ∷ []) none);
+}
+
+pub not_served_no_pieces : (text : List ℕ) → ((served : Address) → ServesPath text served → ⊥) → (pieces : List (List ℕ)) → PathPieces text pieces → ⊥
+not_served_no_pieces text none pieces p = none p.served (record { address = p.address; has_path = record { tokens = p.tokens; has_tokens = p.has; is_path = p.is_path }; is_served = p.is_served })

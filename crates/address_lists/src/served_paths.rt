@@ -1,0 +1,106 @@
+//! The rewriting of paths.
+ghost use Rattle.std.specs.Prelude.{ℕ, List, IfOk, IfSome, IfNone};
+ghost use Rattle.address_lists.specs.PathPieces.{PathPieces, ServesPath};
+ghost use Rattle.address_lists.specs.declared.Address.{Address};
+
+use crate::lexemes::read_lexemes;
+use crate::paths::read_path;
+use crate::served::served;
+use crate::writing::write_comments;
+use crate::written_mailboxes::push_angled;
+use crate::{Address, AddressFault};
+use mail_wire::values::{Memory, Octets};
+use std::alloc::Global;
+
+/// The address of a path, as it is served.
+fn served_path(alloc: Global, text: &[u8]) -> Result<Option<Address>, Memory>
+    ensures some { IfOk result (λ o. IfSome o (ServesPath text.now)) }
+    ensures none { IfOk result (λ o. IfNone o ((served : Address) → ¬ ServesPath text.now served)) }
+{
+    match read_path(alloc, text) {
+        Ok(Some(address)) => served(alloc, &address),
+        Ok(None) => Ok(None),
+        Err(AddressFault::Malformed) => Ok(None),
+        Err(AddressFault::Memory) => Err(Memory),
+    }
+}
+
+/// The pieces of a path whose address is served so.
+fn path_pieces(alloc: Global, text: &[u8], served: &Address) -> Result<Vec<Octets>, Memory>
+    requires { ServesPath text.now served.now }
+    ensures { IfOk result (λ pieces. PathPieces text.now pieces.items) }
+{
+    let Ok(lexemes) = read_lexemes(alloc, text) else {
+        return Err(Memory);
+    };
+    let mut pieces = Vec::new(alloc);
+    push_angled(alloc, served, &mut pieces)?;
+    write_comments(alloc, &lexemes, &mut pieces)?;
+    Ok(pieces)
+}
+
+/// The pieces of a path. The null path has none, nor has one whose address can't be served.
+pub fn rewrite_path(alloc: Global, text: &[u8]) -> Result<Option<Vec<Octets>>, Memory>
+    ensures some { IfOk result (λ o. IfSome o (λ pieces. PathPieces text.now pieces.items)) }
+    ensures none { IfOk result (λ o. IfNone o ((pieces : List (List ℕ)) → ¬ PathPieces text.now pieces)) }
+{
+    let Some(address) = served_path(alloc, text)? else {
+        return Ok(None);
+    };
+    let pieces = path_pieces(alloc, text, &address)?;
+    Ok(Some(pieces))
+}
+
+#[cfg(test)]
+mod tests {
+    use super::*;
+    use std::test::Fail;
+
+    fn has_pieces(alloc: Global, text: &str, wanted: &[&str]) -> Result<bool, Fail> {
+        let found = rewrite_path(alloc, text.as_bytes()).map_err(|_| "memory")?;
+        let Some(pieces) = found else {
+            return Ok(false);
+        };
+        if pieces.len() != wanted.len() {
+            return Ok(false);
+        }
+        for (piece, octets) in pieces.iter().zip(wanted) {
+            if piece.as_slice() != octets.as_bytes() {
+                return Ok(false);
+            }
+        }
+        Ok(true)
+    }
+
+    fn has_none(alloc: Global, text: &str) -> Result<bool, Fail> {
+        let found = rewrite_path(alloc, text.as_bytes()).map_err(|_| "memory")?;
+        Ok(found.is_none())
+    }
+
+    #[test]
+    fn paths_are_served(rt: HostRuntime) -> Result<(), Fail> {
+        assert!(rt;
+            has_pieces(
+                rt.alloc(),
+                "<a@bücher.example>",
+                &["<a@xn--bcher-kva.example>"]
+            )?
+        );
+        assert!(rt;
+            has_pieces(
+                rt.alloc(),
+                "(é)<a@b>(c)",
+                &["<a@b>", "(", "=?UTF-8?B?w6k=?=", ")", "(c)"]
+            )?
+        );
+        Ok(())
+    }
+
+    #[test]
+    fn some_paths_have_no_pieces(rt: HostRuntime) -> Result<(), Fail> {
+        assert!(rt; has_none(rt.alloc(), "<é@x>")?);
+        assert!(rt; has_none(rt.alloc(), "<>(é)")?);
+        assert!(rt; has_none(rt.alloc(), "a@bücher.example")?);
+        Ok(())
+    }
+}
