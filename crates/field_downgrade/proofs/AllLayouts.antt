@@ -1,5 +1,5 @@
 -- Every field that can be rewritten has a served form.
-use Rattle.std.proofs.Common.{◌≡◌, ℕ, ◌≤◌, true, false, not, inl, inr, zero, suc, List, [], ◌∷◌, ◌++◌, length, map, drop, refl, sym, ap, ◌∙◌, arith}
+use Rattle.std.proofs.Common.{◌≡◌, ℕ, ◌≤◌, Bool, true, false, not, inl, inr, zero, suc, List, [], ◌∷◌, ◌++◌, length, map, drop, refl, sym, ap, ◌∙◌, arith}
 use Rattle.std.proofs.lemmas.Bool.{and_parts, and_from, both_ways, cases_Bool}
 use Rattle.std.proofs.lemmas.List.Elements.{All-head, All-tail}
 use Rattle.std.specs.List.{list_all, All, AllZip, concat}
@@ -15,15 +15,13 @@ use Rattle.field_downgrade.specs.declared.segments.Side.TheVariants.{Edge, Encod
 use Rattle.field_downgrade.specs.Words.{Word, plain_text, last_run, is_high}
 use Rattle.field_downgrade.specs.Layout.{CutsLeft, CutsRight, IsCopied, begins_high, ends_high, first_side, last_side, copied_pieces, made_of}
 use Rattle.field_downgrade.specs.Steps.{NeedsRun, SplitsCopied, SplitsCore, BeginsCore, BeginsEncoded, CanWrite, WritesSegment, WritesWords, MakesUnstructured}
-use Rattle.field_downgrade.specs.Stands.{IsBuilt, IsHighField}
-use Rattle.field_downgrade.specs.Unbuilt.{IsUnbuilt, AreBuilt}
+use Rattle.field_downgrade.specs.Stands.{IsHighField}
 use Rattle.field_downgrade.specs.Message.{IsServed, HasServedFields}
 use Rattle.field_downgrade.proofs.SegmentLemmas.{NotEncoded, EndsHigh, not_true}
 use Rattle.field_downgrade.proofs.Writing.{WritesOn, WritesOn-start, WritesOn-step, WritesOn-begins, WritesOn-end, WritesSegment-from, CanWrite-from, needs_left, needs_right, text_utf8, shorter}
-use Rattle.field_downgrade.proofs.UnbuiltLemmas.{IsBuilt-other}
-use Rattle.field_downgrade.proofs.Rewriting.{IsServed-words, IsServed-other, IsServed-kept}
-use Rattle.field_downgrade.proofs.AllStructured.{structured_some, decide_unstructured}
-use Rattle.field_downgrade.specs.Kinds.{kind_named}
+use Rattle.field_downgrade.proofs.Rewriting.{IsServed-words, IsServed-other}
+use Rattle.field_downgrade.proofs.AllStructured.{structured_some, decide_words}
+use Rattle.field_downgrade.proofs.NamingLemmas.{IsServed-ascii}
 use Rattle.field_downgrade.proofs.AllWords.{HasWords-some}
 
 -- The words before the first high one.
@@ -145,29 +143,27 @@ unstructured_some octets f high =
     let lines = more_lines (length copied.1) words.0 [] first copied.0 copied.1 (omega arith) (WritesOn-start words.0 copied.0 copied.1 [] first words.1.are_words words.2 copied.2 refl) in
     (field_octets (made_of f lines.1.pieces), record { words = words.0; pieces = lines.1.pieces; has_words = words.1; are_utf8 = words.2; have_pieces = lines.1.have; made_is = refl })
 
-pub IsServed-some : (octets : List ℕ) → IsField octets → IsBuilt octets → (made : List ℕ) × IsServed octets made
-IsServed-some octets is_any built = elim (cases_Bool (list_all is_ascii octets)) [
-  | inl ascii ↦ (octets, IsServed-kept octets is_any ascii)
+pub IsServed-some : (open_global : Bool) (octets : List ℕ) → IsField octets → (made : List ℕ) × IsServed open_global octets made
+IsServed-some open_global octets is_any = elim (cases_Bool (list_all is_ascii octets)) [
+  | inl ascii ↦ IsServed-ascii open_global octets is_any ascii
   | inr other ↦
       let f = is_any.parts in
       let high : IsHighField octets f = record { is_field = is_any.has_parts; high = other } in
-      elim (decide_unstructured (kind_named f.name) (built f high).kind) [
-        | inl kind ↦ let made = unstructured_some octets f high in (made.0, IsServed-words octets made.0 f high (built f high) kind made.1)
-        | inr kind ↦
-            let g = structured_some octets f high kind in (field_octets g.0, IsServed-other octets (field_octets g.0) f g.0 high (built f high) kind.1 g.1 refl)
+      elim (decide_words f) [
+        | inl keeps ↦ let made = unstructured_some octets f high in (made.0, IsServed-words open_global octets made.0 f high keeps made.1)
+        | inr other ↦ let g = structured_some open_global octets f high other in (field_octets g.0, IsServed-other open_global octets (field_octets g.0) f g.0 high other g.1 refl)
       ]
 ]
 
 -- The same for each field of a message.
-made_fields : (msg : List ℕ) (fields : List Field) → All (λ field. IsField (raw_of msg field)) fields → AreBuilt msg fields → (header : List (List ℕ)) × AllZip IsServed (map (raw_of msg) fields) header
-made_fields msg [] are built = ([], tt)
-made_fields msg (field ∷ fields) are built =
-    let first = IsServed-some (raw_of msg field) (All-head (λ field. IsField (raw_of msg field)) field fields are)
-    (IsBuilt-other (raw_of msg field) (All-head (λ field. ¬ (IsUnbuilt (raw_of msg field))) field fields built)) in
-    let more = made_fields msg fields (All-tail (λ field. IsField (raw_of msg field)) field fields are) (All-tail (λ field. ¬ (IsUnbuilt (raw_of msg field))) field fields built) in
+made_fields : (msg : List ℕ) (fields : List Field) → All (λ field. IsField (raw_of msg field)) fields → (header : List (List ℕ)) × AllZip (IsServed false) (map (raw_of msg) fields) header
+made_fields msg [] are = ([], tt)
+made_fields msg (field ∷ fields) are =
+    let first = IsServed-some false (raw_of msg field) (All-head (λ field. IsField (raw_of msg field)) field fields are) in
+    let more = made_fields msg fields (All-tail (λ field. IsField (raw_of msg field)) field fields are) in
     (first.0 ∷ more.0, (first.1, more.1))
 
-pub HasServedFields-some : (msg : List ℕ) (fields : List Field) (end : ℕ) → HasBlock msg fields end → AreBuilt msg fields → (made : List ℕ) × HasServedFields msg fields end made
-HasServedFields-some msg fields end block built =
-    let header = made_fields msg fields (have_parts msg fields (block_fields msg 0 fields end (omega arith) block)) built in
+pub HasServedFields-some : (msg : List ℕ) (fields : List Field) (end : ℕ) → HasBlock msg fields end → (made : List ℕ) × HasServedFields msg fields end made
+HasServedFields-some msg fields end block =
+    let header = made_fields msg fields (have_parts msg fields (block_fields msg 0 fields end (omega arith) block)) in
     (concat header.0 ++ drop end msg, record { header = header.0; each = header.1; whole = refl })

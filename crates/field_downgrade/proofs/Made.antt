@@ -20,12 +20,16 @@ use Rattle.utf8_fields.specs.Parts.{FieldParts, HasParts, HasValue, field_octets
 use Rattle.mail_wire.specs.Spans.{StopsBehind}
 use Rattle.utf8_fields.specs.Lines.{is_name_octet}
 use Rattle.field_downgrade.specs.Words.{AreUtf8, Word, AreWords, HasWords, run_of, last_run, plain_text, copied_octets, is_word_octet, is_gap_octet, is_high, word_octets}
+use Rattle.encoded_words.specs.Words.{UnitValue}
+use Rattle.encoded_words.specs.Units.{HasUnits}
+use Rattle.utf8_fields.specs.Parts.{HasValue}
 use Rattle.field_downgrade.specs.Layout.{first_side, last_side, Segment, segment_words, IsSegment, AreSegments, IsCopied, copied_pieces, Gives, GiveAll, HavePieces, made_of}
 use Rattle.encoded_words.specs.Folding.{Piece, word_pieces, made_body}
 use Rattle.field_downgrade.specs.declared.segments.Side.{Side}
 use Rattle.field_downgrade.specs.declared.kind.Kind.TheVariants.{Unstructured}
 use Rattle.field_downgrade.specs.Kinds.{kind_named}
-use Rattle.field_downgrade.specs.Stands.{IsSameMeaning, Units}
+use Rattle.field_downgrade.specs.Stands.{IsSameMeaning, Means, SaysAs, Units}
+use Rattle.field_downgrade.specs.Steps.{KeepsWords}
 use Rattle.field_downgrade.proofs.Units.{units_from, units_from-front}
 use Rattle.field_downgrade.proofs.Places.{without_ends-white}
 use Rattle.field_downgrade.proofs.Pieces.{behind, shown, AreWords-front, AreWords-back, last_white, chunks_first, AreUtf8-front, AreUtf8-back, white_utf8, plain_utf8, b_word-no_end, word_keeps, Ends-places}
@@ -200,26 +204,25 @@ HasValue-made words pieces are back = by pieces are
     }
 
 -- The made field means what the original does.
-pub IsSameMeaning-made : (octets : List ℕ) (f : FieldParts) (words : List Word) (pieces : List Piece) → HasParts octets f → kind_named f.name ≡ Unstructured → HasWords f.body words → AreUtf8 words
-    → HavePieces words pieces → IsSameMeaning f (made_of f pieces)
-IsSameMeaning-made octets f words pieces is kind has u have =
+-- what an unstructured field means
+means_units : (f : FieldParts) (value : List ℕ) (units : List UnitValue) → kind_named f.name ≡ Unstructured → HasValue f.body value → HasUnits value units → Means f (Units units)
+means_units f value units kind has says = record { value = value; has_value = has; says = subst (λ k. SaysAs k f.name value (Units units)) (sym kind) (units, refl, says) }
+
+pub IsSameMeaning-made : (open_global : Bool) (octets : List ℕ) (f : FieldParts) (words : List Word) (pieces : List Piece) → HasParts octets f → KeepsWords f.name → HasWords f.body words → AreUtf8 words
+    → HavePieces words pieces → IsSameMeaning open_global f (made_of f pieces)
+IsSameMeaning-made open_global octets f words pieces is keeps has u have =
     let back = IsReadBack-pieces words pieces has.are_words u have in
     let are = ArePieces-from words pieces has.are_words u have in
     record {
       name = refl;
+      no_hyphen = keeps.no_hyphen;
       meaning = Units (units_from false [] back.orig);
       made_meaning = Units (units_from false [] back.orig);
       stands = refl;
-      means = record {
-        value = plain_text words;
-        has_value = HasValue-orig f.body words pieces is.body has back;
-        says = (kind, record { lead = []; places = back.orig; white = refl; are_places = back.are_orig; whole = sym back.orig_octets; says = sym (units_from-front [] back.orig) });
-      };
-      made_means = record {
-        value = shown pieces;
-        has_value = HasValue-made words pieces are back;
-        says = (kind, record { lead = []; places = back.made; white = refl; are_places = back.are_made; whole = sym back.made_octets; says = back.units ∙ sym (units_from-front [] back.made) });
-      };
+      means = means_units f (plain_text words) (units_from false [] back.orig) keeps.kind (HasValue-orig f.body words pieces is.body has back)
+          (record { lead = []; places = back.orig; white = refl; are_places = back.are_orig; whole = sym back.orig_octets; says = sym (units_from-front [] back.orig) });
+      made_means = means_units (made_of f pieces) (shown pieces) (units_from false [] back.orig) keeps.kind (HasValue-made words pieces are back)
+          (record { lead = []; places = back.made; white = refl; are_places = back.are_made; whole = sym back.made_octets; says = back.units ∙ sym (units_from-front [] back.made) });
     }
 
 IsAscii-from : (xs : List ℕ) → list_all is_ascii xs ≡ true → IsAscii xs

@@ -1,5 +1,5 @@
 -- A field has one layout.
-use Rattle.std.proofs.Common.{◌≡◌, ℕ, ◌<◌, Bool, true, false, not, ◌||◌, ◌⊎◌, inl, inr, List, [], ◌∷◌, ◌++◌, length, refl, sym, ap, ◌∙◌, subst, arith}
+use Rattle.std.proofs.Common.{◌≡◌, ℕ, Option, None, Some, ◌<◌, Bool, true, false, not, ◌||◌, ◌⊎◌, inl, inr, List, [], ◌∷◌, ◌++◌, length, refl, sym, ap, ◌∙◌, subst, arith}
 use Rattle.std.proofs.lemmas.Bool.{and_parts, both_ways}
 use Rattle.std.proofs.lemmas.List.{append_assoc, length-append}
 use Rattle.std.specs.List.{list_all, list_any, flat_map}
@@ -11,16 +11,23 @@ use Rattle.encoded_words.specs.Pieces.{AreBWords}
 use Rattle.encoded_words.proofs.Chunks.{AreBWords-once}
 use Rattle.mail_wire.proofs.SpanLemmas.{span_once}
 use Rattle.field_downgrade.specs.declared.segments.Side.{Side}
-use Rattle.field_downgrade.specs.declared.segments.Side.TheVariants.{Edge, Encoded, Plain}
-use Rattle.utf8_fields.specs.Parts.{FieldParts, HasParts, HasValue, field_octets}
+use Rattle.field_downgrade.specs.declared.segments.Side.TheVariants.{Edge, Encoded, Plain as PlainSide}
+use Rattle.utf8_fields.specs.Parts.{FieldParts, HasValue, field_octets}
 use Rattle.field_downgrade.specs.Words.{Word, AreWords, HasWords, Divides, TellsEncoded, run_of, last_run, plain_text, word_octets, is_word_octet, is_gap_octet, is_high}
 use Rattle.field_downgrade.specs.Layout.{CutsLeft, CutsRight, Segment, segment_words, Parts, AreSegments, IsCopied, begins_high, ends_high, first_side, last_side, Gives, GiveAll, HavePieces, HasUnstructuredLayout, made_of, spaced}
 use Rattle.encoded_words.specs.Folding.{Piece, word_pieces}
 use Rattle.encoded_words.proofs.AllUnits.{HasUnits-some}
-use Rattle.field_downgrade.specs.declared.kind.Kind.TheVariants.{Unstructured}
+use Rattle.field_downgrade.specs.declared.kind.Kind.{Kind}
+use Rattle.field_downgrade.specs.declared.kind.Kind.TheVariants.{Unstructured, Addresses, Phrases, Params, Ids, Path, Typed, Trace, Plain}
 use Rattle.field_downgrade.specs.Kinds.{kind_named}
-use Rattle.field_downgrade.specs.Stands.{HasFieldLayout, Copied, Made, HasHighLayout, OfWords, OfPieces, Encapsulated, KeptMalformed, Meaning, Units, Means, IsMalformed, ValuePieces, OfPhrases, OfAddresses, OfPlain, downgraded_of, is_encoding_name}
-use Rattle.field_downgrade.proofs.StructuredValues.{ValuePieces-once, ValuePieces-says}
+use Rattle.address_lists.specs.declared.Address.{Address}
+use Rattle.field_tokens.specs.Comments.{CommentValue}
+use Rattle.utf8_fields.proofs.OneField.{HasParts-once}
+use Rattle.field_downgrade.specs.GlobalBodies.{ChangesGlobal}
+use Rattle.field_downgrade.specs.Stands.{BeginsHyphen, HasFieldLayout, Copied, Changed, Made, HasHighLayout, OfWords, OfPieces, Encapsulated, KeptMalformed, NamesMessage, IsChanged, Meaning, Units, PathTo, TypedAddress, SaysAs, PiecesAs, Means, IsMalformed, IsKeptAside, ByHyphen, ByIdentifiers, ByNullPath, ByPath, ByType, ByMalformed, downgraded_of, keeps_name}
+use Rattle.field_downgrade.proofs.KindValues.{PiecesAs-once, PiecesAs-says, HasNoForm, Nothing, OfIds, OfNullPath, OfPath, OfType, no_form_no_pieces}
+use Rattle.field_downgrade.proofs.StructuredFields.{structured_no_hyphen, not_unstructured, pieces_no_hyphen, KeptKind, KeptType, KeptEncoding, kept_kind, kept_structured}
+use Rattle.field_downgrade.proofs.GlobalBodiesLemmas.{ChangesGlobal-once}
 use Rattle.field_downgrade.proofs.OneMeaning.{HasValue-once}
 
 -- Words.
@@ -219,12 +226,12 @@ snoc_once (k ∷ xs) (j ∷ ys) x y e =
 left_once : (side : Side) (run a b : List ℕ) (x y : ℕ) → CutsLeft side run a x → CutsLeft side run b y → (a ≡ b) × (x ≡ y)
 left_once Edge run a b x y p q = (p.0 ∙ sym q.0, p.1 ∙ sym q.1)
 left_once Encoded run a b x y p q = (p.0 ∙ sym q.0, p.1 ∙ sym q.1)
-left_once Plain run a b x y p q = let e = sym p ∙ q in (cc e, cc e)
+left_once PlainSide run a b x y p q = let e = sym p ∙ q in (cc e, cc e)
 
 right_once : (side : Side) (run a b : List ℕ) (x y : ℕ) → CutsRight side run a x → CutsRight side run b y → (a ≡ b) × (x ≡ y)
 right_once Edge run a b x y p q = (p.0 ∙ sym q.0, p.1 ∙ sym q.1)
 right_once Encoded run a b x y p q = (p.0 ∙ sym q.0, p.1 ∙ sym q.1)
-right_once Plain run a b x y p q = snoc_once a b x y (sym p ∙ q)
+right_once PlainSide run a b x y p q = snoc_once a b x y (sym p ∙ q)
 
 gives_once : (side : Side) (run : List ℕ) (s : Segment) (ps qs : List Piece) → Gives side run s ps → Gives side run s qs → ps ≡ qs
 gives_once side run s ps qs p q =
@@ -260,54 +267,139 @@ layout_once f g h p q =
 
 -- an unstructured value says its units
 units_mean : (f : FieldParts) (value : List ℕ) → kind_named f.name ≡ Unstructured → HasValue f.body value → (meaning : Meaning) × Means f meaning
-units_mean f value kind has = let units = HasUnits-some value in (Units units.0, record { value = value; has_value = has; says = (kind, units.1) })
+units_mean f value kind has =
+    let units = HasUnits-some value in
+    (Units units.0, record { value = value; has_value = has; says = subst (λ k. SaysAs k f.name value (Units units.0)) (sym kind) (units.0, refl, units.1) })
 
 -- no value of a kind is malformed
-pieces_mean : (f : FieldParts) (value : List ℕ) (pieces : List (List ℕ)) → HasValue f.body value → ValuePieces f.name value pieces → IsMalformed f → ⊥
-pieces_mean f value pieces has values malformed =
-    let said = ValuePieces-says f.name value pieces values in malformed said.0 (record { value = value; has_value = has; says = said.1 })
+pieces_mean : (open_global : Bool) (f : FieldParts) (value : List ℕ) (pieces : List (List ℕ)) → HasValue f.body value → PiecesAs (kind_named f.name) open_global f.name value pieces → IsMalformed f → ⊥
+pieces_mean open_global f value pieces has values malformed =
+    let said = PiecesAs-says (kind_named f.name) open_global f.name value pieces values in malformed said.0 (record { value = value; has_value = has; says = said.1 })
 
 words_mean : (f : FieldParts) (value : List ℕ) → kind_named f.name ≡ Unstructured → HasValue f.body value → IsMalformed f → ⊥
 words_mean f value kind has malformed = let said = units_mean f value kind has in malformed said.0 said.1
-
-not_unstructured : (name value : List ℕ) (pieces : List (List ℕ)) → ValuePieces name value pieces → kind_named name ≡ Unstructured → ⊥
-not_unstructured name value pieces (OfPhrases kind p) unstructured = let no = sym kind ∙ unstructured in cc no
-not_unstructured name value pieces (OfAddresses kind p) unstructured = let no = sym kind ∙ unstructured in cc no
-not_unstructured name value pieces (OfPlain kind p) unstructured = let no = sym kind ∙ unstructured in cc no
 
 one_value : (f : FieldParts) (value other : List ℕ) (words others : List (List ℕ)) → HasValue f.body value → HasValue f.body other → AreBWords value words → AreBWords other others → words ≡ others
 one_value f value other words others has has' are are' =
     AreBWords-once other words others (subst (λ v. AreBWords v words) (HasValue-once f.body value other has has') are) are'
 
-high_once : (f g h : FieldParts) → HasHighLayout f g → HasHighLayout f h → g ≡ h
-high_once f g h (OfWords kind p) (OfWords kind' q) = layout_once f g h p q
-high_once f g h (OfWords kind p) (OfPieces value pieces has values e) = absurd (not_unstructured f.name value pieces values kind)
-high_once f g h (OfWords kind p) (Encapsulated value words malformed other has are e) = absurd (words_mean f value kind has malformed)
-high_once f g h (OfWords kind p) (KeptMalformed value words malformed encoding has are e) = absurd (words_mean f value kind has malformed)
-high_once f g h (OfPieces value pieces has values e) (OfWords kind q) = absurd (not_unstructured f.name value pieces values kind)
-high_once f g h (OfPieces value pieces has values e) (OfPieces value' pieces' has' values' e') =
+-- a meaning of a field is what its value says
+says_of : (f : FieldParts) (value : List ℕ) (meaning : Meaning) → HasValue f.body value → Means f meaning → SaysAs (kind_named f.name) f.name value meaning
+says_of f value meaning has means = subst (λ v. SaysAs (kind_named f.name) f.name v meaning) (HasValue-once f.body means.value value means.has_value has) means.says
+
+-- the kind of a field that means a path, or an address behind its type
+path_kind : (kind : Kind) (name value : List ℕ) (answer : Option Address) (comments : List CommentValue) → SaysAs kind name value (PathTo answer comments) → kind ≡ Path
+path_kind Unstructured name value answer comments says = let no = says.1 in cc no
+path_kind Phrases name value answer comments says = let no = says.2 in cc no
+path_kind Addresses name value answer comments says = let no = says.2 in cc no
+path_kind (Params kind) name value answer comments says = let no = says.3 in cc no
+path_kind Ids name value answer comments says = cc says
+path_kind Path name value answer comments says = refl
+path_kind Typed name value answer comments says = let no = says.2 in cc no
+path_kind Trace name value answer comments says = let no = says.3 in cc no
+path_kind Plain name value answer comments says = let no = says.2 in cc no
+
+typed_kind : (kind : Kind) (name value type text : List ℕ) → SaysAs kind name value (TypedAddress type text) → kind ≡ Typed
+typed_kind Unstructured name value type text says = let no = says.1 in cc no
+typed_kind Phrases name value type text says = let no = says.2 in cc no
+typed_kind Addresses name value type text says = let no = says.2 in cc no
+typed_kind (Params kind) name value type text says = let no = says.3 in cc no
+typed_kind Ids name value type text says = cc says
+typed_kind Path name value type text says = let no = says.2 in cc no
+typed_kind Typed name value type text says = refl
+typed_kind Trace name value type text says = let no = says.3 in cc no
+typed_kind Plain name value type text says = let no = says.2 in cc no
+
+-- the value of a field that is kept aside has no form
+aside_no_form : (f : FieldParts) (value : List ℕ) → HasValue f.body value → IsKeptAside f → BeginsHyphen f.name ⊎ HasNoForm (kind_named f.name) f.name value
+aside_no_form f value has (ByHyphen begins) = inl begins
+aside_no_form f value has (ByIdentifiers kind) = inr (OfIds kind)
+aside_no_form f value has (ByNullPath comments means) =
+    let says = says_of f value (PathTo None comments) has means in inr (OfNullPath comments says (path_kind (kind_named f.name) f.name value None comments says))
+aside_no_form f value has (ByPath address comments means unserved) =
+    let says = says_of f value (PathTo (Some address) comments) has means in
+    inr (OfPath address comments says unserved (path_kind (kind_named f.name) f.name value (Some address) comments says))
+aside_no_form f value has (ByType type text means differs) =
+    let says = says_of f value (TypedAddress type text) has means in inr (OfType type text says differs (typed_kind (kind_named f.name) f.name value type text says))
+aside_no_form f value has (ByMalformed malformed other) = inr (Nothing (λ meaning says. malformed meaning (record { value = value; has_value = has; says = says })))
+
+aside_no_pieces : (open_global : Bool) (f : FieldParts) (value : List ℕ) (pieces : List (List ℕ)) → HasValue f.body value → PiecesAs (kind_named f.name) open_global f.name value pieces → IsKeptAside f → ⊥
+aside_no_pieces open_global f value pieces has p aside = elim (aside_no_form f value has aside) [
+  | inl begins ↦ pieces_no_hyphen open_global f.name value pieces p begins
+  | inr why ↦ no_form_no_pieces (kind_named f.name) open_global f.name value pieces why p
+]
+
+-- such a field isn't made of its words, ...
+aside_no_words : (f : FieldParts) (value : List ℕ) → kind_named f.name ≡ Unstructured → ¬ (BeginsHyphen f.name) → HasValue f.body value → IsKeptAside f → ⊥
+aside_no_words f value kind none has aside = elim (aside_no_form f value has aside) [ inl begins ↦ none begins | inr why ↦ by why ]
+  where
+    by : HasNoForm (kind_named f.name) f.name value → ⊥
+    by (Nothing nothing) = let said = units_mean f value kind has in nothing said.0 (says_of f value said.0 has said.1)
+    by (OfIds e) = let no = sym kind ∙ e in cc no
+    by (OfNullPath comments says e) = let no = sym kind ∙ e in cc no
+    by (OfPath address comments says unserved e) = let no = sym kind ∙ e in cc no
+    by (OfType type text says differs e) = let no = sym kind ∙ e in cc no
+
+-- ... and doesn't keep its name
+aside_not_kept : (f : FieldParts) → IsMalformed f → keeps_name f.name ≡ true → IsKeptAside f → ⊥
+aside_not_kept f malformed keeps (ByHyphen begins) = structured_no_hyphen f.name (kept_structured f.name keeps) begins
+aside_not_kept f malformed keeps (ByIdentifiers kind) = by (kept_kind f.name keeps)
+  where
+    by : KeptKind f.name → ⊥
+    by (KeptType e) = let no = sym kind ∙ e in cc no
+    by (KeptEncoding e encoding) = let no = sym kind ∙ e in cc no
+aside_not_kept f malformed keeps (ByNullPath comments means) = malformed (PathTo None comments) means
+aside_not_kept f malformed keeps (ByPath address comments means unserved) = malformed (PathTo (Some address) comments) means
+aside_not_kept f malformed keeps (ByType type text means differs) = malformed (TypedAddress type text) means
+aside_not_kept f malformed keeps (ByMalformed malformed' other) = both_ways (keeps_name f.name) other keeps
+
+high_once : (open_global : Bool) (f g h : FieldParts) → HasHighLayout open_global f g → HasHighLayout open_global f h → g ≡ h
+high_once o f g h (OfWords kind none p) (OfWords kind' none' q) = layout_once f g h p q
+high_once o f g h (OfWords kind none p) (OfPieces value pieces has values e) = absurd (not_unstructured o f.name value pieces values kind)
+high_once o f g h (OfWords kind none p) (Encapsulated value words aside has are e) = absurd (aside_no_words f value kind none has aside)
+high_once o f g h (OfWords kind none p) (KeptMalformed value words malformed keeps has are e) = absurd (words_mean f value kind has malformed)
+high_once o f g h (OfPieces value pieces has values e) (OfWords kind none q) = absurd (not_unstructured o f.name value pieces values kind)
+high_once o f g h (OfPieces value pieces has values e) (OfPieces value' pieces' has' values' e') =
     let same : value ≡ value' = HasValue-once f.body value value' has has' in
-    let made : pieces ≡ pieces' = ValuePieces-once f.name value' pieces pieces' (subst (λ v. ValuePieces f.name v pieces) same values) values' in
+    let made : pieces ≡ pieces'
+    = PiecesAs-once (kind_named f.name) o f.name value' pieces pieces' (subst (λ v. PiecesAs (kind_named f.name) o f.name v pieces) same values) values' in
     e ∙ ap (λ ps. made_of f (spaced ps)) made ∙ sym e'
-high_once f g h (OfPieces value pieces has values e) (Encapsulated value' words malformed other has' are e') = absurd (pieces_mean f value pieces has values malformed)
-high_once f g h (OfPieces value pieces has values e) (KeptMalformed value' words malformed encoding has' are e') = absurd (pieces_mean f value pieces has values malformed)
-high_once f g h (Encapsulated value words malformed other has are e) (OfWords kind q) = absurd (words_mean f value kind has malformed)
-high_once f g h (Encapsulated value words malformed other has are e) (OfPieces value' pieces has' values e') = absurd (pieces_mean f value' pieces has' values malformed)
-high_once f g h (Encapsulated value words malformed other has are e) (Encapsulated value' words' malformed' other' has' are' e') =
+high_once o f g h (OfPieces value pieces has values e) (Encapsulated value' words aside has' are e') = absurd (aside_no_pieces o f value pieces has values aside)
+high_once o f g h (OfPieces value pieces has values e) (KeptMalformed value' words malformed keeps has' are e') = absurd (pieces_mean o f value pieces has values malformed)
+high_once o f g h (Encapsulated value words aside has are e) (OfWords kind none q) = absurd (aside_no_words f value kind none has aside)
+high_once o f g h (Encapsulated value words aside has are e) (OfPieces value' pieces has' values e') = absurd (aside_no_pieces o f value' pieces has' values aside)
+high_once o f g h (Encapsulated value words aside has are e) (Encapsulated value' words' aside' has' are' e') =
     e ∙ ap (λ ws. downgraded_of f (word_pieces 32 ws)) (one_value f value value' words words' has has' are are') ∙ sym e'
-high_once f g h (Encapsulated value words malformed other has are e) (KeptMalformed value' words' malformed' encoding has' are' e') = absurd (both_ways (is_encoding_name f.name) other encoding)
-high_once f g h (KeptMalformed value words malformed encoding has are e) (OfWords kind q) = absurd (words_mean f value kind has malformed)
-high_once f g h (KeptMalformed value words malformed encoding has are e) (OfPieces value' pieces has' values e') = absurd (pieces_mean f value' pieces has' values malformed)
-high_once f g h (KeptMalformed value words malformed encoding has are e) (Encapsulated value' words' malformed' other has' are' e') = absurd (both_ways (is_encoding_name f.name) other encoding)
-high_once f g h (KeptMalformed value words malformed encoding has are e) (KeptMalformed value' words' malformed' encoding' has' are' e') =
+high_once o f g h (Encapsulated value words aside has are e) (KeptMalformed value' words' malformed keeps has' are' e') = absurd (aside_not_kept f malformed keeps aside)
+high_once o f g h (KeptMalformed value words malformed keeps has are e) (OfWords kind none q) = absurd (words_mean f value kind has malformed)
+high_once o f g h (KeptMalformed value words malformed keeps has are e) (OfPieces value' pieces has' values e') = absurd (pieces_mean o f value' pieces has' values malformed)
+high_once o f g h (KeptMalformed value words malformed keeps has are e) (Encapsulated value' words' aside has' are' e') = absurd (aside_not_kept f malformed keeps aside)
+high_once o f g h (KeptMalformed value words malformed keeps has are e) (KeptMalformed value' words' malformed' keeps' has' are' e') =
     e ∙ ap (λ ws. made_of f (word_pieces 32 ws)) (one_value f value value' words words' has has' are are') ∙ sym e'
 
--- A field has one layout, where it has one list of parts.
-pub HasFieldLayout-once : (octets a b : List ℕ) → ((f g : FieldParts) → HasParts octets f → HasParts octets g → f ≡ g) → HasFieldLayout octets a → HasFieldLayout octets b → a ≡ b
-HasFieldLayout-once octets a b parts_once (Copied low e) (Copied low' e') = e ∙ sym e'
-HasFieldLayout-once octets a b parts_once (Copied low e) (Made f g high named layout e') = absurd (both_ways (list_all is_ascii octets) high.high low)
-HasFieldLayout-once octets a b parts_once (Made f g high named layout e) (Copied low e') = absurd (both_ways (list_all is_ascii octets) high.high low)
-HasFieldLayout-once octets a b parts_once (Made f g high named layout e) (Made f' g' high' named' layout' e') =
-    let same : f ≡ f' = parts_once f f' high.is_field high'.is_field in
-    let made : g ≡ g' = high_once f' g g' (subst (λ (p : FieldParts). HasHighLayout p g) same layout) layout' in
+-- the type of an opened message/global is renamed in one way
+names_once : (octets a b : List ℕ) → NamesMessage octets a → NamesMessage octets b → a ≡ b
+names_once octets a b p q =
+    let same : p.f ≡ q.f = HasParts-once octets p.f q.f p.is_field.is_field q.is_field.is_field in
+    let changes : ChangesGlobal q.f.body p.changed = subst (λ (f : FieldParts). ChangesGlobal f.body p.changed) same p.changes in
+    let changed : p.changed ≡ q.changed = ChangesGlobal-once q.f.body p.changed q.changed q.is_field.is_field.body changes q.changes in
+    p.made_is ∙ rw (same, changed) refl ∙ sym q.made_is
+
+fixed_not_named : (open_global : Bool) (octets made : List ℕ) → ¬ (IsChanged open_global octets) → open_global ≡ true → NamesMessage octets made → ⊥
+fixed_not_named false octets made fixed open_is names = cc open_is
+fixed_not_named true octets made fixed open_is names = fixed (made, names)
+
+-- A field has one layout.
+pub HasFieldLayout-once : (open_global : Bool) (octets a b : List ℕ) → HasFieldLayout open_global octets a → HasFieldLayout open_global octets b → a ≡ b
+HasFieldLayout-once o octets a b (Copied low fixed e) (Copied low' fixed' e') = e ∙ sym e'
+HasFieldLayout-once o octets a b (Copied low fixed e) (Changed opened names) = absurd (fixed_not_named o octets b fixed opened names)
+HasFieldLayout-once o octets a b (Copied low fixed e) (Made f g high layout e') = absurd (both_ways (list_all is_ascii octets) high.high low)
+HasFieldLayout-once o octets a b (Changed opened names) (Copied low fixed e) = absurd (fixed_not_named o octets a fixed opened names)
+HasFieldLayout-once o octets a b (Changed opened names) (Changed opened' names') = names_once octets a b names names'
+HasFieldLayout-once o octets a b (Changed opened names) (Made f g high layout e') = absurd (both_ways (list_all is_ascii octets) high.high names.is_field.ascii)
+HasFieldLayout-once o octets a b (Made f g high layout e) (Copied low fixed e') = absurd (both_ways (list_all is_ascii octets) high.high low)
+HasFieldLayout-once o octets a b (Made f g high layout e) (Changed opened names) = absurd (both_ways (list_all is_ascii octets) high.high names.is_field.ascii)
+HasFieldLayout-once o octets a b (Made f g high layout e) (Made f' g' high' layout' e') =
+    let same : f ≡ f' = HasParts-once octets f f' high.is_field high'.is_field in
+    let made : g ≡ g' = high_once o f' g g' (subst (λ (p : FieldParts). HasHighLayout o p g) same layout) layout' in
     e ∙ ap field_octets made ∙ sym e'

@@ -1,24 +1,20 @@
 -- The writer of structured fields.
 use Rattle.std.specs.Prelude.{IfOk, IfNone}
-use Rattle.std.proofs.Common.{◌≡◌, ◌≢◌, ℕ, true, false, inl, inr, List, [], ◌∷◌, ◌++◌, Option, None, Some, Result, Ok, Err, refl, sym, ap, ◌∙◌, subst, arith}
+use Rattle.std.proofs.Common.{◌≡◌, ℕ, Bool, true, false, inl, inr, List, ◌∷◌, ◌++◌, Option, None, Some, Result, Ok, Err, refl, sym, ap, ◌∙◌, subst}
 use Rattle.std.proofs.lemmas.List.{append_assoc, append_cancel_right}
 use Rattle.mail_wire.specs.Lines.{crlf}
 use Rattle.encoded_words.specs.Folding.{made_body, word_pieces}
 use Rattle.encapsulated_fields.specs.Encapsulated.{Encapsulates, downgraded_name}
 use Rattle.utf8_fields.specs.Parts.{FieldParts, HasValue, SplitsEnding, field_octets}
-use Rattle.field_downgrade.specs.declared.kind.Kind.TheVariants.{Unstructured, Addresses, Phrases, Plain}
+use Rattle.field_downgrade.specs.declared.kind.Kind.TheVariants.{Params, Ids, Path, Typed, Plain}
 use Rattle.field_downgrade.specs.declared.kind.Kind.{Kind}
-use Rattle.field_downgrade.specs.PlainTexts.{SaysPlain}
-use Rattle.address_lists.specs.PhraseLists.{SaysPhrases}
-use Rattle.address_lists.specs.AddressLists.{ElementValue}
-use Rattle.address_lists.specs.ListPieces.{SaysAddresses}
-use Rattle.field_tokens.specs.Comments.{CommentValue}
-use Rattle.encoded_words.specs.Words.{UnitValue}
-use Rattle.field_downgrade.proofs.StructuredValues.{StructuredKind, IsPhrases, IsAddresses, IsPlainText, decide_structured}
+use Rattle.param_2231.specs.declared.ParamKind.TheVariants.{Content}
 use Rattle.field_downgrade.specs.Kinds.{kind_named}
 use Rattle.field_downgrade.specs.Layout.{made_of, spaced}
-use Rattle.field_downgrade.specs.Stands.{IsMalformed, Meaning, Units, Keywords, AddressList, PlainText, Says, ValuePieces, OfPieces, Encapsulated, KeptMalformed, downgraded_of, is_encoding_name}
-use Rattle.field_downgrade.specs.Steps.{Adds, AddsWordField, IsStructured, MakesField, OfOther}
+use Rattle.field_downgrade.specs.Stands.{IsMalformed, SaysAs, PiecesAs, IsKeptAside, ByHyphen, ByIdentifiers, ByNullPath, ByPath, ByType, ByMalformed, OfPieces, Encapsulated, KeptMalformed, downgraded_of, keeps_name}
+use Rattle.field_downgrade.specs.Steps.{Adds, AddsWordField, HasNoPieces, IsOther, MakesField, OfOther}
+use Rattle.field_downgrade.proofs.KindValues.{SaysNothing, HasNoForm, Nothing, OfIds, OfNullPath, OfPath, OfType, no_pieces_why}
+use Rattle.field_downgrade.proofs.StructuredFields.{KeptKind, KeptType, KeptEncoding, kept_kind, kept_structured}
 use Rattle.field_downgrade.proofs.OneMeaning.{HasValue-once}
 
 -- the field without the CRLF at its end, and the ending of the original
@@ -42,64 +38,61 @@ AddsWordField-encapsulated f value old field lines ending new is splits new_is =
       | inr none ↦ absurd (none.1 (downgraded_name f.name ++ 58 ∷ body) whole)
     ]
 
-pub Adds-kept : (f : FieldParts) (value old new : List ℕ) → kind_named f.name ≢ Unstructured → IsMalformed f → is_encoding_name f.name ≡ true → HasValue f.body value → AddsWordField (made_of f) value old new
-    → Adds (MakesField f) old new
-Adds-kept f value old new other malformed encoding has adds = record {
+-- where one value of the body says nothing, the field is malformed
+pub IsMalformed-nothing : (f : FieldParts) (value : List ℕ) → HasValue f.body value → SaysNothing (kind_named f.name) f.name value → IsMalformed f
+IsMalformed-nothing f value has none meaning means = none meaning (subst (λ v. SaysAs (kind_named f.name) f.name v meaning) (HasValue-once f.body means.value value means.has_value has) means.says)
+
+-- a field whose value has no form is kept aside, ...
+aside_by : (f : FieldParts) (value : List ℕ) → HasValue f.body value → keeps_name f.name ≡ false → HasNoForm (kind_named f.name) f.name value → IsKeptAside f
+aside_by f value has other (Nothing none) = ByMalformed (IsMalformed-nothing f value has none) other
+aside_by f value has other (OfIds kind) = ByIdentifiers kind
+aside_by f value has other (OfNullPath comments says kind) = ByNullPath comments (record { value = value; has_value = has; says = says })
+aside_by f value has other (OfPath address comments says unserved kind) = ByPath address comments (record { value = value; has_value = has; says = says }) unserved
+aside_by f value has other (OfType type text says differs kind) = ByType type text (record { value = value; has_value = has; says = says }) differs
+
+pub aside_why : (open_global : Bool) (f : FieldParts) (value : List ℕ) → IsOther f → HasValue f.body value → keeps_name f.name ≡ false → HasNoPieces (kind_named f.name) open_global f.name value → IsKeptAside f
+aside_why open_global f value (inr begins) has other none = ByHyphen begins
+aside_why open_global f value (inl kind) has other none = aside_by f value has other (no_pieces_why (kind_named f.name) open_global f.name value kind none)
+
+-- ... and where its name is kept, it is malformed
+not_kept_kind : (name : List ℕ) (kind : Kind) → KeptKind name → kind_named name ≡ kind → (kind ≡ Params Content → ⊥) → (kind ≡ Plain → ⊥) → ⊥
+not_kept_kind name kind (KeptType e) same not_type not_plain = not_type (sym same ∙ e)
+not_kept_kind name kind (KeptEncoding e encoding) same not_type not_plain = not_plain (sym same ∙ e)
+
+kept_by : (f : FieldParts) (value : List ℕ) → HasValue f.body value → KeptKind f.name → HasNoForm (kind_named f.name) f.name value → IsMalformed f
+kept_by f value has keeps (Nothing none) = IsMalformed-nothing f value has none
+kept_by f value has keeps (OfIds kind) = absurd (not_kept_kind f.name Ids keeps kind (λ e. cc e) (λ e. cc e))
+kept_by f value has keeps (OfNullPath comments says kind) = absurd (not_kept_kind f.name Path keeps kind (λ e. cc e) (λ e. cc e))
+kept_by f value has keeps (OfPath address comments says unserved kind) = absurd (not_kept_kind f.name Path keeps kind (λ e. cc e) (λ e. cc e))
+kept_by f value has keeps (OfType type text says differs kind) = absurd (not_kept_kind f.name Typed keeps kind (λ e. cc e) (λ e. cc e))
+
+pub kept_why : (open_global : Bool) (f : FieldParts) (value : List ℕ) → HasValue f.body value → keeps_name f.name ≡ true → HasNoPieces (kind_named f.name) open_global f.name value → IsMalformed f
+kept_why open_global f value has keeps none =
+    kept_by f value has (kept_kind f.name keeps) (no_pieces_why (kind_named f.name) open_global f.name value (kept_structured f.name keeps) none)
+
+pub Adds-kept : (open_global : Bool) (f : FieldParts) (value old new : List ℕ) → HasNoPieces (kind_named f.name) open_global f.name value → keeps_name f.name ≡ true → HasValue f.body value → AddsWordField (made_of f) value old new
+    → Adds (MakesField open_global f) old new
+Adds-kept open_global f value old new none keeps has adds = record {
   more = field_octets (made_of f (word_pieces 32 adds.words));
   added = adds.added;
-  holds = OfOther (made_of f (word_pieces 32 adds.words)) other (KeptMalformed value adds.words malformed encoding has adds.are_words refl) refl;
+  holds = OfOther (made_of f (word_pieces 32 adds.words)) (inl (kept_structured f.name keeps)) (KeptMalformed value adds.words (kept_why open_global f value has keeps none) keeps has adds.are_words refl) refl;
 }
 
-pub Adds-encapsulated : (f : FieldParts) (value old new : List ℕ) → kind_named f.name ≢ Unstructured → IsMalformed f → is_encoding_name f.name ≡ false → HasValue f.body value → AddsWordField (downgraded_of f) value old new
-    → Adds (MakesField f) old new
-Adds-encapsulated f value old new other malformed encoding has adds = record {
+pub Adds-encapsulated : (open_global : Bool) (f : FieldParts) (value old new : List ℕ) → IsOther f → HasNoPieces (kind_named f.name) open_global f.name value → keeps_name f.name ≡ false → HasValue f.body value
+    → AddsWordField (downgraded_of f) value old new → Adds (MakesField open_global f) old new
+Adds-encapsulated open_global f value old new other none keeps has adds = record {
   more = field_octets (downgraded_of f (word_pieces 32 adds.words));
   added = adds.added;
-  holds = OfOther (downgraded_of f (word_pieces 32 adds.words)) other (Encapsulated value adds.words malformed encoding has adds.are_words refl) refl;
+  holds = OfOther (downgraded_of f (word_pieces 32 adds.words)) other (Encapsulated value adds.words (aside_why open_global f value other has keeps none) has adds.are_words refl) refl;
 }
 
-pub Adds-pieces : (f : FieldParts) (value old new : List ℕ) (pieces : List (List ℕ)) → kind_named f.name ≢ Unstructured → HasValue f.body value → ValuePieces f.name value pieces
-    → new ≡ old ++ field_octets (made_of f (spaced pieces)) → Adds (MakesField f) old new
-Adds-pieces f value old new pieces other has values new_is = record {
+pub Adds-pieces : (open_global : Bool) (f : FieldParts) (value old new : List ℕ) (pieces : List (List ℕ)) → IsOther f → HasValue f.body value → PiecesAs (kind_named f.name) open_global f.name value pieces
+    → new ≡ old ++ field_octets (made_of f (spaced pieces)) → Adds (MakesField open_global f) old new
+Adds-pieces open_global f value old new pieces other has values new_is = record {
   more = field_octets (made_of f (spaced pieces));
   added = new_is;
   holds = OfOther (made_of f (spaced pieces)) other (OfPieces value pieces has values refl) refl;
 }
-
--- where one value of the body says nothing, the field is malformed
-pub IsMalformed-none : (f : FieldParts) (value : List ℕ) → HasValue f.body value → ((meaning : Meaning) → ¬ (Says f.name value meaning)) → IsMalformed f
-IsMalformed-none f value has none meaning means = none meaning (subst (λ v. Says f.name v meaning) (HasValue-once f.body means.value value means.has_value has) means.says)
-
--- a value that is no phrases, where phrases are wanted, says nothing
-pub none_of_phrases : (name value : List ℕ) → kind_named name ≡ Phrases → ((phrases : List (List UnitValue)) (comments : List CommentValue) → ¬ (SaysPhrases value phrases comments))
-    → (meaning : Meaning) → ¬ (Says name value meaning)
-none_of_phrases name value kind none (Units us) says = let other = sym kind ∙ says.0 in cc other
-none_of_phrases name value kind none (Keywords phrases comments) says = none phrases comments says.1
-none_of_phrases name value kind none (AddressList elements comments) says = let other = sym kind ∙ says.0 in cc other
-none_of_phrases name value kind none (PlainText said comments) says = let other = sym kind ∙ says.0 in cc other
-
--- a value that is no list of addresses, where one is wanted, says nothing
-pub none_of_addresses : (name value : List ℕ) → kind_named name ≡ Addresses → ((elements : List ElementValue) (comments : List CommentValue) → ¬ (SaysAddresses value elements comments))
-    → (meaning : Meaning) → ¬ (Says name value meaning)
-none_of_addresses name value kind none (Units us) says = let other = sym kind ∙ says.0 in cc other
-none_of_addresses name value kind none (Keywords phrases comments) says = let other = sym kind ∙ says.0 in cc other
-none_of_addresses name value kind none (AddressList elements comments) says = none elements comments says.1
-none_of_addresses name value kind none (PlainText said comments) says = let other = sym kind ∙ says.0 in cc other
-
-pub none_of_plain : (name value : List ℕ) → IsStructured (kind_named name) → kind_named name ≢ Phrases → kind_named name ≢ Addresses → ((said : List ℕ) (comments : List CommentValue) → ¬ (SaysPlain (is_encoding_name name) value said comments))
-    → (meaning : Meaning) → ¬ (Says name value meaning)
-none_of_plain name value is other another none (Units us) says = is.1 says.0
-none_of_plain name value is other another none (Keywords phrases comments) says = other says.0
-none_of_plain name value is other another none (AddressList elements comments) says = another says.0
-none_of_plain name value is other another none (PlainText said comments) says = none said comments says.1
-
-pub plain_left : (kind : Kind) → IsStructured kind → kind ≢ Phrases → kind ≢ Addresses → kind ≡ Plain
-plain_left kind is other another = by (decide_structured kind is)
-  where
-    by : StructuredKind kind → kind ≡ Plain
-    by (IsPhrases e) = absurd (other e)
-    by (IsAddresses e) = absurd (another e)
-    by (IsPlainText e) = e
 
 -- what follows where there is nothing
 pub none_weaker : {A E P Q : Type 0} (r : Result (Option A) E) → (P → Q) → IfOk r (λ o. IfNone o P) → IfOk r (λ o. IfNone o Q)

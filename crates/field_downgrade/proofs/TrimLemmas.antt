@@ -1,6 +1,6 @@
 -- White is cut off at the ends of a text.
-use Rattle.std.proofs.Common.{◌≡◌, ℕ, true, false, List, [], ◌∷◌, ◌++◌, refl, sym, ap, ◌∙◌}
-use Rattle.std.proofs.lemmas.Bool.{and_from}
+use Rattle.std.proofs.Common.{◌≡◌, ℕ, Bool, true, false, inl, inr, List, [], ◌∷◌, ◌++◌, refl, sym, ap, ◌∙◌}
+use Rattle.std.proofs.lemmas.Bool.{and_parts, and_from, both_ways, cases_Bool}
 use Rattle.std.proofs.lemmas.List.{append_assoc, append-nil}
 use Rattle.std.specs.List.{list_all}
 use Rattle.mail_wire.specs.Octets.{is_white}
@@ -48,3 +48,42 @@ IsTrimmed-both octets lead rest trimmed span ends = record {
   ends = ends.ends;
   whole = span.whole ∙ ap (λ r. lead ++ r) ends.whole;
 }
+
+-- a text without what passes at its end, ...
+trimmed_end : (p : ℕ → Bool) (xs : List ℕ) → (front : List ℕ) × (trail : List ℕ) × (list_all p trail ≡ true) × StopsBehind p front × (xs ≡ front ++ trail)
+trimmed_end p [] = ([], [], refl, tt, refl)
+trimmed_end p (x ∷ xs) = let r = trimmed_end p xs in by r.0 r.1 r.2 r.3 r.4
+  where
+    by : (front trail : List ℕ) → list_all p trail ≡ true → StopsBehind p front → xs ≡ front ++ trail
+        → (front : List ℕ) × (trail : List ℕ) × (list_all p trail ≡ true) × StopsBehind p front × (x ∷ xs ≡ front ++ trail)
+    by [] trail all stops e = elim (cases_Bool (p x)) [
+      | inl t ↦ ([], x ∷ trail, and_from (p x) (list_all p trail) t all, tt, ap (λ r. x ∷ r) e)
+      | inr fails ↦ (x ∷ [], trail, all, fails, ap (λ r. x ∷ r) e)
+    ]
+    by (y ∷ front) trail all stops e = (x ∷ y ∷ front, trail, all, stops, ap (λ r. x ∷ r) e)
+
+-- ... and at its start too
+pub trimmed : (p : ℕ → Bool) (xs : List ℕ) → (text : List ℕ) × IsTrimmed p xs text
+trimmed p [] = ([], record { lead = []; trail = []; lead_passes = refl; trail_passes = refl; begins = tt; ends = tt; whole = refl })
+trimmed p (x ∷ xs) = elim (cases_Bool (p x)) [
+  | inl t ↦
+      let r = trimmed p xs in (
+        r.0,
+        record {
+          lead = x ∷ r.1.lead;
+          trail = r.1.trail;
+          lead_passes = and_from (p x) (list_all p r.1.lead) t r.1.lead_passes;
+          trail_passes = r.1.trail_passes;
+          begins = r.1.begins;
+          ends = r.1.ends;
+          whole = ap (λ ys. x ∷ ys) r.1.whole;
+        },
+      )
+  | inr fails ↦ let r = trimmed_end p (x ∷ xs) in by fails r.0 r.1 r.2 r.3 r.4
+]
+  where
+    by : p x ≡ false → (front trail : List ℕ) → list_all p trail ≡ true → StopsBehind p front → x ∷ xs ≡ front ++ trail → (text : List ℕ) × IsTrimmed p (x ∷ xs) text
+    by fails [] trail all stops e = absurd (both_ways (p x) fails (and_parts (p x) (list_all p xs) (ap (list_all p) e ∙ all)).0)
+    by fails (y ∷ front) trail all stops e =
+        let same : x ≡ y = cc e in
+        (y ∷ front, record { lead = []; trail = trail; lead_passes = refl; trail_passes = all; begins = rw (← same) fails; ends = stops; whole = e })

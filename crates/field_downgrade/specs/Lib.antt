@@ -3,6 +3,10 @@ pub mod Words
 pub mod Layout
 pub mod PlainTexts
 pub mod PlainSteps
+pub mod Typed
+pub mod Received
+pub mod ReceivedSteps
+pub mod GlobalBodies
 pub mod Stands
 pub mod Unbuilt
 pub mod Message

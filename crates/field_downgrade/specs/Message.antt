@@ -1,5 +1,5 @@
 -- The layout of a message of one block, and what it keeps.
-use Rattle.std.specs.Prelude.{◌≡◌, ℕ, true, false, List, ◌++◌, map, drop}
+use Rattle.std.specs.Prelude.{◌≡◌, ℕ, Bool, true, false, List, ◌++◌, map, drop}
 use Rattle.std.specs.List.{AllZip, concat, list_all}
 use Rattle.mail_wire.specs.Octets.{is_ascii}
 use Rattle.field_downgrade.specs.Stands.{HasFieldLayout, Stands, KeepsLines}
@@ -15,15 +15,15 @@ pub record MakesFields (R : List ℕ → List ℕ → Type 0) (msg : List ℕ) (
 
 -- the layout of the message
 abbrev pub HasMessageLayout : List ℕ → List Field → ℕ → List ℕ → Type 0
-HasMessageLayout msg fields end made = MakesFields HasFieldLayout msg fields end made
+HasMessageLayout msg fields end made = MakesFields (HasFieldLayout false) msg fields end made
 
 -- The made field is the one of the layout. It stands for the original, is ASCII, and keeps the lines.
-pub record IsServed (raw made : List ℕ) : Type 0 where
-  pub layout : HasFieldLayout raw made
-  pub stands : Stands raw made false
+pub record IsServed (open_global : Bool) (raw made : List ℕ) : Type 0 where
+  pub layout : HasFieldLayout open_global raw made
+  pub stands : Stands raw made open_global
   pub ascii : list_all is_ascii made ≡ true
   pub lines : KeepsLines raw made
 
 -- what is claimed of each field of the message
 abbrev pub HasServedFields : List ℕ → List Field → ℕ → List ℕ → Type 0
-HasServedFields msg fields end made = MakesFields IsServed msg fields end made
+HasServedFields msg fields end made = MakesFields (IsServed false) msg fields end made

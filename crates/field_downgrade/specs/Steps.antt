@@ -1,5 +1,5 @@
 -- What the steps of the code do.
-use Rattle.std.specs.Prelude.{◌≡◌, ◌≢◌, ℕ, ◌<◌, true, false, not, List, [], ◌∷◌, ◌++◌, length}
+use Rattle.std.specs.Prelude.{◌≡◌, ◌≢◌, ◌⊎◌, ℕ, Bool, ◌<◌, true, false, not, List, [], ◌∷◌, ◌++◌, length}
 use Rattle.std.specs.List.{list_all}
 use Rattle.field_downgrade.specs.declared.segments.Side.{Side}
 use Rattle.field_downgrade.specs.declared.segments.Side.TheVariants.{Edge, Encoded, Plain}
@@ -13,7 +13,7 @@ use Rattle.utf8_fields.specs.Parts.{FieldParts, field_octets}
 use Rattle.field_downgrade.specs.declared.kind.Kind.{Kind}
 use Rattle.field_downgrade.specs.declared.kind.Kind.TheVariants.{Unstructured}
 use Rattle.field_downgrade.specs.Kinds.{kind_named}
-use Rattle.field_downgrade.specs.Stands.{IsBuiltKind, HasHighLayout}
+use Rattle.field_downgrade.specs.Stands.{HasHighLayout, BeginsHyphen, PiecesAs}
 
 -- beside a word there is white
 abbrev pub NeedsRun : Side → List ℕ → Type 0
@@ -84,14 +84,23 @@ pub record MakesUnstructured (f : FieldParts) (made : List ℕ) : Type 0 where
   pub have_pieces : HavePieces words pieces
   pub made_is : made ≡ field_octets (made_of f pieces)
 
--- the octets are the field f, made anew
-pub data MakesField (f : FieldParts) (made : List ℕ) : Type 0 where
-  OfUnstructured : kind_named f.name ≡ Unstructured → MakesUnstructured f made → MakesField f made
-  OfOther : (g : FieldParts) → kind_named f.name ≢ Unstructured → HasHighLayout f g → made ≡ field_octets g → MakesField f made
+-- such a field is made of its words
+pub record KeepsWords (name : List ℕ) : Type 0 where
+  pub kind : kind_named name ≡ Unstructured
+  pub no_hyphen : ¬ BeginsHyphen name
 
--- the kind is built, and isn't unstructured
-abbrev pub IsStructured : Kind → Type 0
-IsStructured kind = IsBuiltKind kind × (kind ≢ Unstructured)
+-- a structured field, or one whose name begins with `-`
+abbrev pub IsOther : FieldParts → Type 0
+IsOther f = (kind_named f.name ≢ Unstructured) ⊎ BeginsHyphen f.name
+
+-- the octets are the field f, made anew
+pub data MakesField (open_global : Bool) (f : FieldParts) (made : List ℕ) : Type 0 where
+  OfUnstructured : KeepsWords f.name → MakesUnstructured f made → MakesField open_global f made
+  OfOther : (g : FieldParts) → IsOther f → HasHighLayout open_global f g → made ≡ field_octets g → MakesField open_global f made
+
+-- no value of this kind and name has pieces
+abbrev pub HasNoPieces : Kind → Bool → List ℕ → List ℕ → Type 0
+HasNoPieces kind open_global name value = (pieces : List (List ℕ)) → ¬ PiecesAs kind open_global name value pieces
 
 -- a field of these parts with the B words of the value was added
 pub record AddsWordField (made_parts : List Piece → FieldParts) (value old new : List ℕ) : Type 0 where

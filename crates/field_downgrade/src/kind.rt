@@ -3,17 +3,10 @@ ghost use Rattle.std.specs.Prelude.{◌≡◌, ◌↔◌, IsTrue};
 ghost use Rattle.mail_wire.specs.Octets.{same_name};
 ghost use Rattle.field_downgrade.specs.Kinds.{is_originator_name, is_destination_name, is_resent_originator_name, is_resent_destination_name, is_address_name, is_id_name, is_plain_name, kind_named};
 ghost use Rattle.field_downgrade.specs.declared.kind.Kind.{Kind};
+ghost use Rattle.field_downgrade.specs.Steps.{KeepsWords};
 
 use mail_wire::text::is_same_name;
-
-/// Which of the two fields with parameters.
-#[derive(Clone, Copy, Debug, PartialEq, Eq)]
-pub enum ParamKind {
-    /// Content-Type
-    Content,
-    /// Content-Disposition
-    Disposition,
-}
+use param_2231::ParamKind;
 
 /// What the value of a field is read as.
 #[derive(Clone, Copy, Debug, PartialEq, Eq)]
@@ -120,21 +113,22 @@ pub fn kind_of(name: &[u8]) -> Kind
     }
 }
 
-pub(crate) fn is_unstructured(name: &[u8]) -> bool
+fn is_unstructured(name: &[u8]) -> bool
     ensures { IsTrue result ↔ (kind_named name.now ≡ Kind.Unstructured) }
 {
     matches!(kind_of(name), Kind::Unstructured)
 }
 
-pub(crate) fn is_addresses(name: &[u8]) -> bool
-    ensures { IsTrue result ↔ (kind_named name.now ≡ Kind.Addresses) }
+/// Whether the words of fields of a name are rewritten under that name.
+pub(crate) fn keeps_words(name: &[u8]) -> bool
+    ensures { IsTrue result ↔ KeepsWords name.now }
 {
-    matches!(kind_of(name), Kind::Addresses)
+    is_unstructured(name) && !name.starts_with(b"-")
 }
 
-/// Whether fields of a name are phrases that commas divide.
-pub(crate) fn is_phrases(name: &[u8]) -> bool
-    ensures { IsTrue result ↔ (kind_named name.now ≡ Kind.Phrases) }
+/// Whether fields of a name tell the type of a body.
+pub(crate) fn is_type(name: &[u8]) -> bool
+    ensures { IsTrue result ↔ (kind_named name.now ≡ Kind.Params ParamKind.Content) }
 {
-    matches!(kind_of(name), Kind::Phrases)
+    matches!(kind_of(name), Kind::Params(ParamKind::Content))
 }

@@ -5,28 +5,29 @@ ghost use Rattle.mail_wire.specs.Octets.{is_ascii};
 ghost use Rattle.mail_wire.specs.Folds.{IsFolded};
 ghost use Rattle.utf8_fields.specs.Parts.{HasValue, field_octets};
 ghost use Rattle.utf8_fields.specs.Views.{parts_of};
-ghost use Rattle.encoded_words.specs.Words.{UnitValue};
 ghost use Rattle.encoded_words.specs.Folding.{made_body};
-ghost use Rattle.field_tokens.specs.Comments.{CommentValue};
-ghost use Rattle.address_lists.specs.AddressLists.{ElementValue};
-ghost use Rattle.address_lists.specs.ListPieces.{SaysAddresses, AddressesPieces};
-ghost use Rattle.address_lists.specs.PhraseLists.{SaysPhrases, PhrasesPieces};
+ghost use Rattle.address_lists.specs.ListPieces.{AddressesPieces};
+ghost use Rattle.address_lists.specs.PhraseLists.{PhrasesPieces};
+ghost use Rattle.param_2231.specs.Layout.{ParamsPieces};
 ghost use Rattle.encapsulated_fields.specs.Encapsulated.{IsFieldName};
 ghost use Rattle.field_downgrade.specs.Kinds.{kind_named};
 ghost use Rattle.field_downgrade.specs.Layout.{made_of, spaced};
-ghost use Rattle.field_downgrade.specs.Stands.{IsMalformed, Meaning, Says, ValuePieces, downgraded_of, is_encoding_name as is_encoding_of};
-ghost use Rattle.field_downgrade.specs.Steps.{Adds, AddsWordField, IsStructured, MakesField};
+ghost use Rattle.field_downgrade.specs.Stands.{PiecesAs, downgraded_of, is_encoding_name as is_encoding_of, keeps_name as keeps_name_of};
+ghost use Rattle.field_downgrade.specs.Steps.{Adds, AddsWordField, HasNoPieces, IsOther, MakesField};
 
-use crate::kind::{is_addresses, is_phrases};
+use crate::kind::{Kind, kind_of};
 use crate::lines::begin_line;
 use crate::plain::rewrite_plain;
+use crate::received::rewrite_received;
+use crate::typed::rewrite_typed;
 use crate::values::value_of;
 use address_lists::phrase_lists::rewrite_phrases;
-use address_lists::{AddressFault, rewrite_list};
+use address_lists::{AddressFault, rewrite_list, rewrite_path};
 use encapsulated_fields::encapsulate;
 use encoded_words::push_words;
 use mail_wire::text::is_same_name;
 use mail_wire::values::{Memory, Octets};
+use param_2231::{ParamFault, ParamKind, rewrite_params};
 use std::alloc::Global;
 use utf8_fields::parts::{Parts, split_ending};
 
@@ -37,11 +38,18 @@ fn is_encoding_name(name: &[u8]) -> bool
     is_same_name(name, b"Content-Transfer-Encoding")
 }
 
+// Whether a field whose value is malformed keeps its name.
+#[tactic(auto, unfolding(crate::specs::Stands::keeps_name))]
+fn keeps_name(name: &[u8]) -> bool
+    ensures { result ≡ keeps_name_of name.now }
+{
+    is_same_name(name, b"Content-Type") || is_encoding_name(name)
+}
+
 // The pieces of phrases.
 fn phrase_pieces(alloc: Global, value: &[u8]) -> Result<Option<Vec<Octets>>, Memory>
     ensures some { IfOk result (λ o. IfSome o (λ pieces. PhrasesPieces value.now pieces.items)) }
-    ensures none { IfOk result (λ o. IfNone o ((phrases : List (List UnitValue)) (comments : List CommentValue)
-        → ¬ SaysPhrases value.now phrases comments)) }
+    ensures none { IfOk result (λ o. IfNone o ((pieces : List (List ℕ)) → ¬ PhrasesPieces value.now pieces)) }
 {
     match rewrite_phrases(alloc, value) {
         Ok(pieces) => Ok(Some(pieces)),
@@ -53,8 +61,7 @@ fn phrase_pieces(alloc: Global, value: &[u8]) -> Result<Option<Vec<Octets>>, Mem
 // The pieces of a list of addresses.
 fn address_pieces(alloc: Global, value: &[u8]) -> Result<Option<Vec<Octets>>, Memory>
     ensures some { IfOk result (λ o. IfSome o (λ pieces. AddressesPieces value.now pieces.items)) }
-    ensures none { IfOk result (λ o. IfNone o ((elements : List ElementValue) (comments : List CommentValue)
-        → ¬ SaysAddresses value.now elements comments)) }
+    ensures none { IfOk result (λ o. IfNone o ((pieces : List (List ℕ)) → ¬ AddressesPieces value.now pieces)) }
 {
     match rewrite_list(alloc, value) {
         Ok(pieces) => Ok(Some(pieces)),
@@ -63,19 +70,45 @@ fn address_pieces(alloc: Global, value: &[u8]) -> Result<Option<Vec<Octets>>, Me
     }
 }
 
-// The pieces of a value, where it is one of its kind.
-fn pieces_of(alloc: Global, name: &[u8], value: &[u8]) -> Result<Option<Vec<Octets>>, Memory>
-    requires { IsStructured (kind_named name.now) }
-    ensures some { IfOk result (λ o. IfSome o (λ pieces. ValuePieces name.now value.now pieces.items)) }
-    ensures none { IfOk result (λ o. IfNone o ((meaning : Meaning) → ¬ Says name.now value.now meaning)) }
+// The pieces of a main part and parameters.
+fn param_pieces(
+    alloc: Global,
+    kind: ParamKind,
+    open_global: bool,
+    value: &[u8],
+) -> Result<Option<Vec<Octets>>, Memory>
+    ensures some { IfOk result (λ o. IfSome o (λ pieces. ParamsPieces kind open_global value.now pieces.items)) }
+    ensures none { IfOk result (λ o. IfNone o ((pieces : List (List ℕ)) → ¬ ParamsPieces kind open_global value.now pieces)) }
 {
-    if is_phrases(name) {
-        return phrase_pieces(alloc, value);
+    match rewrite_params(alloc, kind, value, open_global) {
+        Ok(pieces) => Ok(Some(pieces)),
+        Err(ParamFault::Malformed) => Ok(None),
+        Err(ParamFault::Memory) => Err(Memory),
     }
-    if is_addresses(name) {
-        return address_pieces(alloc, value);
+}
+
+// The pieces of a value, where a value of its kind has any.
+fn pieces_of(
+    alloc: Global,
+    kind: Kind,
+    open_global: bool,
+    name: &[u8],
+    value: &[u8],
+) -> Result<Option<Vec<Octets>>, Memory>
+    ensures some { IfOk result (λ o. IfSome o (λ pieces. PiecesAs kind open_global name.now value.now pieces.items)) }
+    ensures none { IfOk result (λ o. IfNone o (HasNoPieces kind open_global name.now value.now)) }
+{
+    match kind {
+        Kind::Unstructured => Ok(None),
+        Kind::Addresses => address_pieces(alloc, value),
+        Kind::Phrases => phrase_pieces(alloc, value),
+        Kind::Params(kind) => param_pieces(alloc, kind, open_global, value),
+        Kind::Ids => Ok(None),
+        Kind::Path => rewrite_path(alloc, value),
+        Kind::Typed => rewrite_typed(alloc, value),
+        Kind::Trace => rewrite_received(alloc, value),
+        Kind::Plain => rewrite_plain(alloc, is_encoding_name(name), value),
     }
-    rewrite_plain(alloc, is_encoding_name(name), value)
 }
 
 // Puts pieces on lines of their own, each behind a space.
@@ -128,40 +161,47 @@ fn push_encapsulated(
     made.push_slice(parts.ending)
 }
 
-// Puts a field last whose value isn't one of its kind.
-fn push_malformed(
+// Puts a field last whose value has no pieces.
+fn push_whole(
     alloc: Global,
+    open_global: bool,
     made: &mut Octets,
     parts: &Parts<'_>,
     value: &[u8],
 ) -> Result<(), Memory>
-    requires kind { IsStructured (kind_named parts.now.name.now) }
+    requires other { IsOther (parts_of parts.now) }
     requires name { IsFieldName parts.now.name.now }
-    requires malformed { IsMalformed (parts_of parts.now) }
+    requires none { HasNoPieces (kind_named parts.now.name.now) open_global parts.now.name.now value.now }
     requires value { HasValue parts.now.body.now value.now }
     requires utf8 { IsUtf8 value.now }
     requires some { 0 < length value.now }
-    ensures { OnOk result (Adds (MakesField (parts_of parts.now)) made.old made.new) }
+    ensures { OnOk result (Adds (MakesField open_global (parts_of parts.now)) made.old made.new) }
 {
-    if is_encoding_name(parts.name) {
+    if keeps_name(parts.name) {
         push_kept(made, parts, value)
     } else {
         push_encapsulated(alloc, made, parts, value)
     }
 }
 
-/// Puts a structured field last, made anew.
-pub fn push_structured(alloc: Global, made: &mut Octets, parts: &Parts<'_>) -> Result<(), Memory>
-    requires kind { IsStructured (kind_named parts.now.name.now) }
+/// Puts a structured field last, or one whose name begins with `-`, made anew.
+pub fn push_structured(
+    alloc: Global,
+    open_global: bool,
+    made: &mut Octets,
+    parts: &Parts<'_>,
+) -> Result<(), Memory>
+    requires other { IsOther (parts_of parts.now) }
     requires name { IsFieldName parts.now.name.now }
     requires folded { IsFolded parts.now.body.now }
     requires utf8 { IsUtf8 parts.now.body.now }
     requires high { list_all is_ascii parts.now.body.now ≡ false }
-    ensures { OnOk result (Adds (MakesField (parts_of parts.now)) made.old made.new) }
+    ensures { OnOk result (Adds (MakesField open_global (parts_of parts.now)) made.old made.new) }
 {
     let value = value_of(alloc, parts.body)?;
-    match pieces_of(alloc, parts.name, value.as_slice())? {
+    let kind = kind_of(parts.name);
+    match pieces_of(alloc, kind, open_global, parts.name, value.as_slice())? {
         Some(pieces) => push_pieces(made, parts, &pieces),
-        None => push_malformed(alloc, made, parts, value.as_slice()),
+        None => push_whole(alloc, open_global, made, parts, value.as_slice()),
     }
 }

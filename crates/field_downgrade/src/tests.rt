@@ -1,13 +1,13 @@
 //! The worked rows, by the public calls.
 use crate::field::{Rewrite, downgrade_field};
-use crate::kind::{Kind, ParamKind, kind_of};
+use crate::kind::{Kind, kind_of};
 use crate::message::{downgrade_message, first_unbuilt, raw_of};
-use crate::unbuilt::is_unbuilt;
+use param_2231::ParamKind;
 use std::test::Fail;
 use utf8_fields::reading::read_block;
 
-// Rewrites the only field of a message, where it can be rewritten, and compares.
-fn gives(rt: &HostRuntime, msg: &[u8], want: &[u8]) -> bool {
+// Rewrites the only field of a message, and compares. Where it is told so, the message is an opened message/global.
+fn gives_in(rt: &HostRuntime, open_global: bool, msg: &[u8], want: &[u8]) -> bool {
     let Ok(block) = read_block(rt.alloc(), msg) else {
         return false;
     };
@@ -15,14 +15,15 @@ fn gives(rt: &HostRuntime, msg: &[u8], want: &[u8]) -> bool {
         return false;
     };
     let raw = raw_of(msg, field);
-    if is_unbuilt(raw) {
-        return false;
-    }
-    match downgrade_field(rt.alloc(), raw, false) {
+    match downgrade_field(rt.alloc(), raw, open_global) {
         Ok(Rewrite::New(made)) => made.as_slice() == want,
         Ok(Rewrite::Keep) => raw == want,
         Err(_) => false,
     }
+}
+
+fn gives(rt: &HostRuntime, msg: &[u8], want: &[u8]) -> bool {
+    gives_in(rt, false, msg, want)
 }
 
 // The place of the first unbuilt field of a message, if it has a block with one.
@@ -209,13 +210,139 @@ fn rows_of_dates_and_encodings(rt: HostRuntime) -> Result<(), Fail> {
 }
 
 #[test]
+fn rows_of_parameters(rt: HostRuntime) -> Result<(), Fail> {
+    for (field, want) in [
+        (
+            "Content-Disposition: attachment; filename=\"é.txt\"\r\n",
+            "Content-Disposition:\r\n attachment;\r\n filename*=UTF-8''%C3%A9.txt\r\n",
+        ),
+        (
+            "Content-Disposition: attachment; filename=é; filename=b\r\n",
+            "Content-Disposition:\r\n attachment;\r\n filename*=UTF-8''%C3%A9;\r\n filename=b\r\n",
+        ),
+        (
+            "Content-Disposition: attachment; filename=éééééééééÉa\r\n",
+            "Content-Disposition:\r\n attachment;\r\n filename*0*=UTF-8''%C3%A9%C3%A9%C3%A9%C3%A9%C3%A9%C3%A9%C3%A9%C3%A9%C3%A9%C3%89;\r\n filename*1*=a\r\n",
+        ),
+        (
+            "Content-Disposition: é\r\n",
+            "Downgraded-Content-Disposition:\r\n =?UTF-8?B?w6k=?=\r\n",
+        ),
+        (
+            "Content-Type: é\r\n",
+            "Content-Type:\r\n =?UTF-8?B?w6k=?=\r\n",
+        ),
+    ] {
+        assert!(rt;
+            gives(&rt, field.as_bytes(), want.as_bytes()),
+            "at {field:?}"
+        );
+    }
+    Ok(())
+}
+
+#[test]
+fn rows_of_fields_that_are_kept_aside(rt: HostRuntime) -> Result<(), Fail> {
+    for (field, want) in [
+        (
+            "Message-ID: <é@x>\r\n",
+            "Downgraded-Message-ID:\r\n =?UTF-8?B?PMOpQHg+?=\r\n",
+        ),
+        (
+            "Return-Path: <josé@example.com>\r\n",
+            "Downgraded-Return-Path:\r\n =?UTF-8?B?PGpvc8OpQGV4YW1wbGUuY29tPg==?=\r\n",
+        ),
+        (
+            "Return-Path: <>(é)\r\n",
+            "Downgraded-Return-Path:\r\n =?UTF-8?B?PD4ow6kp?=\r\n",
+        ),
+        (
+            "Final-Recipient: rfc822;é\r\n",
+            "Downgraded-Final-Recipient:\r\n =?UTF-8?B?cmZjODIyO8Op?=\r\n",
+        ),
+        ("-: é\r\n", "Downgraded--:\r\n =?UTF-8?B?w6k=?=\r\n"),
+        ("To: é\r\n", "Downgraded-To:\r\n =?UTF-8?B?w6k=?=\r\n"),
+        ("To: é", "Downgraded-To:\r\n =?UTF-8?B?w6k=?="),
+    ] {
+        assert!(rt;
+            gives(&rt, field.as_bytes(), want.as_bytes()),
+            "at {field:?}"
+        );
+    }
+    Ok(())
+}
+
+#[test]
+fn rows_of_traces_and_recipients(rt: HostRuntime) -> Result<(), Fail> {
+    for (field, want) in [
+        (
+            "Received: from a by b for <é@x>; Thu, 01 Jan 1970 00:00:00 +0000\r\n",
+            "Received:\r\n from a\r\n by b\r\n ; Thu, 01 Jan 1970 00:00:00 +0000\r\n",
+        ),
+        ("Received: by ｆor\r\n", "Received:\r\n"),
+        (
+            "Return-Path: <a@bücher.example>\r\n",
+            "Return-Path:\r\n <a@xn--bcher-kva.example>\r\n",
+        ),
+        (
+            "Original-Recipient: utf-8; josé@example.com\r\n",
+            "Original-Recipient:\r\n utf-8; jos\\x{E9}@example.com\r\n",
+        ),
+    ] {
+        assert!(rt;
+            gives(&rt, field.as_bytes(), want.as_bytes()),
+            "at {field:?}"
+        );
+    }
+    Ok(())
+}
+
+#[test]
+fn an_opened_global_message_is_called_a_message(rt: HostRuntime) -> Result<(), Fail> {
+    for (field, want) in [
+        (
+            "Content-Type : (global) Message/\r\n GLOBAL (x); a=global\r\n",
+            "Content-Type : (global) Message/\r\n rfc822 (x); a=global\r\n",
+        ),
+        (
+            "Content-Type: message/\r\n global; a=1\t\r\n",
+            "Content-Type: message/\r\n rfc822; a=1\t\r\n",
+        ),
+        (
+            "Content-Type:\r\n\t(global)\r\n message/global; a=global",
+            "Content-Type:\r\n\t(global)\r\n message/rfc822; a=global",
+        ),
+        (
+            "Content-Type: text/global\r\n",
+            "Content-Type: text/global\r\n",
+        ),
+        (
+            "Content-Type: Message/Global; a=é\r\n",
+            "Content-Type:\r\n message/rfc822;\r\n a*=UTF-8''%C3%A9\r\n",
+        ),
+        (
+            "Content-Disposition: global\r\n",
+            "Content-Disposition: global\r\n",
+        ),
+        (
+            "Content-Type: message/global; x\r\n",
+            "Content-Type: message/global; x\r\n",
+        ),
+    ] {
+        assert!(rt;
+            gives_in(&rt, true, field.as_bytes(), want.as_bytes()),
+            "at {field:?}"
+        );
+    }
+    let field = "Content-Type: message/global\r\n";
+    assert!(rt; gives(&rt, field.as_bytes(), field.as_bytes()));
+    Ok(())
+}
+
+#[test]
 fn first_unbuilt_is_where_it_stands(rt: HostRuntime) -> Result<(), Fail> {
-    assert!(rt; unbuilt_at(&rt, "-: é\r\n\r\n") == Some(0));
-    assert!(rt; unbuilt_at(&rt, "A: b\r\nReturn-Path: é\r\n\r\n") == Some(6));
-    assert!(rt; unbuilt_at(&rt, "A: é\r\n-x: é\r\n") == Some(7));
-    assert!(rt; unbuilt_at(&rt, "A: é\r\nDate: é\r\nReceived: é\r\n") == Some(17));
     assert!(rt; unbuilt_at(&rt, "To: a\r\ncontent-type: a\r\n") == Some(7));
-    assert!(rt; unbuilt_at(&rt, "To: =?\r\n -\r\nSubject: =?\r\n é\r\nKeywords: ,é\r\n").is_none());
+    assert!(rt; unbuilt_at(&rt, "-: é\r\nReceived: é\r\nKeywords: ,é\r\n").is_none());
     Ok(())
 }
 

@@ -23,7 +23,7 @@ fn trim_end(octets: &[u8]) -> &[u8]
     rest
 }
 
-fn trim(octets: &[u8]) -> &[u8]
+pub(crate) fn trim(octets: &[u8]) -> &[u8]
     ensures { IsTrimmed is_white octets.now result.now }
 {
     let (_, rest) = split_white(octets);

@@ -1,5 +1,5 @@
 -- A command comes to one outcome.
-use Rattle.std.proofs.Common.{◌≡◌, ℕ, get_or, ◌<◌, ◌≤◌, List, ◌∷◌, ◌++◌, length, codes, decimal, sym, ap, ◌∙◌, arith, length-append, subst, ◌⊎◌, inl, inr}
+use Rattle.std.proofs.Common.{◌≡◌, false, ℕ, get_or, ◌<◌, ◌≤◌, List, ◌∷◌, ◌++◌, length, codes, decimal, sym, ap, ◌∙◌, arith, length-append, subst, ◌⊎◌, inl, inr}
 use Rattle.std.proofs.lemmas.Bool.{cases_lt}
 use Rattle.std.proofs.Math.ListN.{get_or-append}
 use Rattle.std.proofs.Math.Seq.{get_or-append_seam}
@@ -11,7 +11,6 @@ use Rattle.utf8_fields.specs.Block.{HasBlock, raw_of}
 use Rattle.utf8_fields.proofs.OneBlock.{same_block}
 use Rattle.field_downgrade.specs.Unbuilt.{IsUnbuilt, IsFirstUnbuilt, AreBuilt}
 use Rattle.field_downgrade.specs.Message.{HasServedFields}
-use Rattle.utf8_fields.proofs.OneField.{HasParts-once}
 use Rattle.field_downgrade.proofs.OneLayout.{HasFieldLayout-once}
 use Rattle.field_downgrade.proofs.MessageLemmas.{HasMessageLayout-once, HasMessageLayout-served}
 use Rattle.mail_wire.specs.declared.values.Memory.{Memory}
@@ -21,7 +20,7 @@ use Rattle.mail_command.specs.Outcome.{message_max, IsMail, DowngradeOutcome, To
 
 served_once : (msg : List ℕ) (fields : List Field) (end : ℕ) (made other : List ℕ) → HasServedFields msg fields end made → HasServedFields msg fields end other → made ≡ other
 served_once msg fields end made other one two =
-    HasMessageLayout-once msg made other fields end (λ raw a b. HasFieldLayout-once raw a b (HasParts-once raw)) (HasMessageLayout-served msg fields end made one)
+    HasMessageLayout-once msg made other fields end (HasFieldLayout-once false) (HasMessageLayout-served msg fields end made one)
     (HasMessageLayout-served msg fields end other two)
 
 -- an unbuilt field doesn't stand among built ones

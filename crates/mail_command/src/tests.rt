@@ -61,7 +61,12 @@ fn rows_of_downgrade(rt: HostRuntime) -> Result<(), Fail> {
             0,
             "To:\r\n Ann\r\n <a@xn--bcher-kva.example>\r\n",
         ),
-        ("A: b\r\nReceived: é\r\n\r\n", 10, "not built at 6\r\n"),
+        (
+            "Message-ID: <é@x>\r\nContent-Disposition: a; b=é\r\n",
+            0,
+            "Downgraded-Message-ID:\r\n =?UTF-8?B?PMOpQHg+?=\r\nContent-Disposition:\r\n a;\r\n b*=UTF-8''%C3%A9\r\n",
+        ),
+        ("A: b\r\nContent-Type: é\r\n\r\n", 10, "not built at 6\r\n"),
         ("Subject", 7, "refused\r\n"),
         ("A: b\n", 7, "refused\r\n"),
     ] {

@@ -12,7 +12,7 @@ use Rattle.surrogate_cache.specs.Served.{IsServable, IsSurrogate, GivesSurrogate
 
 pub IsSurrogate-some : (msg : List ℕ) → IsServable msg → (made : List ℕ) × IsSurrogate msg made
 IsSurrogate-some msg is =
-    let served = HasServedFields-some msg is.fields is.end is.block is.built in
+    let served = HasServedFields-some msg is.fields is.end is.block in
     (served.0, record { fields = is.fields; end = is.end; block = is.block; made_fields = served.1 })
 
 -- the surrogate has the fields of the block

@@ -1,5 +1,5 @@
 -- The surrogate of a message, and its header.
-use Rattle.std.proofs.Common.{◌≡◌, ℕ, List, [], ◌∷◌, ◌++◌, length, drop, map, Bool, true, refl, sym, ap, ◌∙◌, arith, inl, inr, ◌&&◌}
+use Rattle.std.proofs.Common.{◌≡◌, false, ℕ, List, [], ◌∷◌, ◌++◌, length, drop, map, Bool, true, refl, sym, ap, ◌∙◌, arith, inl, inr, ◌&&◌}
 use Rattle.std.specs.List.{AllZip, concat, list_all}
 use Rattle.std.proofs.lemmas.List.Folds.{concat-append, list_all-append}
 use Rattle.std.proofs.Math.Seq.{drop-append_seam}
@@ -10,7 +10,6 @@ use Rattle.utf8_fields.specs.declared.block.Field.{Field}
 use Rattle.utf8_fields.specs.Block.{HasBlock, EndsBlock, raw_of}
 use Rattle.utf8_fields.proofs.Raws.{AreFields-join}
 use Rattle.utf8_fields.proofs.OneBlock.{same_block}
-use Rattle.utf8_fields.proofs.OneField.{HasParts-once}
 use Rattle.field_downgrade.specs.Message.{IsServed as IsServedField, HasServedFields}
 use Rattle.field_downgrade.proofs.MessageLemmas.{HasMessageLayout-served, HasMessageLayout-once}
 use Rattle.field_downgrade.proofs.OneLayout.{HasFieldLayout-once}
@@ -36,7 +35,7 @@ both : (b c : Bool) → b ≡ true → c ≡ true → (b && c) ≡ true
 both b c p q = rw (p, q) refl
 
 -- made fields are ASCII
-made_ascii : (raws made : List (List ℕ)) → AllZip IsServedField raws made → list_all is_ascii (concat made) ≡ true
+made_ascii : (raws made : List (List ℕ)) → AllZip (IsServedField false) raws made → list_all is_ascii (concat made) ≡ true
 made_ascii [] [] each = refl
 made_ascii [] (one ∷ made) each = absurd each
 made_ascii (raw ∷ raws) [] each = absurd each
@@ -57,7 +56,7 @@ pub IsSurrogate-once : (msg made other : List ℕ) → IsSurrogate msg made → 
 IsSurrogate-once msg made other a b =
     let blocks = same_block (lines_of msg) 0 a.fields b.fields a.end b.end a.block b.block in
     let again : HasServedFields msg a.fields a.end other = rw (blocks.0, blocks.1) b.made_fields in
-    HasMessageLayout-once msg made other a.fields a.end (λ raw x y. HasFieldLayout-once raw x y (HasParts-once raw))
+    HasMessageLayout-once msg made other a.fields a.end (HasFieldLayout-once false)
     (HasMessageLayout-served msg a.fields a.end made a.made_fields) (HasMessageLayout-served msg a.fields a.end other again)
 
 pub IsServed-once : (mode : Mode) (msg shown other : List ℕ) → IsServed mode msg shown → IsServed mode msg other → shown ≡ other

@@ -1,6 +1,5 @@
-use Rattle.utf8_fields.proofs.OneField.{HasParts-once}
 use Rattle.field_downgrade.proofs.OneLayout.{HasFieldLayout-once}
 use Rattle.field_downgrade.proofs.laws.layouts_are_one.Goals as goal
 
 pub returns : goal.returns
-returns c octets made other = HasFieldLayout-once octets made other (HasParts-once octets)
+returns c = HasFieldLayout-once

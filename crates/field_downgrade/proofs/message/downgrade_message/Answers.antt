@@ -1,30 +1,23 @@
-use Rattle.std.proofs.Common.{arith, ◌<◌, length, get_or}
+use Rattle.std.proofs.Common.{arith, false, get_or}
 use Rattle.utf8_fields.specs.Block.{raw_of}
 use Rattle.field_downgrade.specs.Steps.{Adds}
 use Rattle.field_downgrade.specs.Message.{IsServed}
 use Rattle.field_downgrade.proofs.BlockFields.{no_field, field_fits, field_is, end_fits}
 use Rattle.field_downgrade.proofs.MessageLemmas.{MadeSoFar-turn, HasServedFields-end, HasMessageLayout-served}
-use Rattle.field_downgrade.proofs.UnbuiltLemmas.{IsBuilt-other}
 use Rattle.field_downgrade.proofs.message.downgrade_message.Goals as goal
 
 pub raw_of-requires : goal.raw_of-requires
 raw_of-requires c =
     field_fits c.args.msg.now c.args.block.now.fields c.as_slice-field-items.result.now c.args.block.now.end c.loop-field.field-index no_field c.requires.block c.as_slice-field-items.ensures c.loop-field-test.true
 
-pub push_field-requires-clause-field : goal.push_field-requires-clause-field
-push_field-requires-clause-field c =
+pub push_field-requires : goal.push_field-requires
+push_field-requires c =
     rw c.raw_of.ensures
     (field_is c.args.msg.now c.args.block.now.fields c.as_slice-field-items.result.now c.args.block.now.end c.loop-field.field-index no_field c.requires.block c.as_slice-field-items.ensures c.loop-field-test.true)
 
-pub push_field-requires-clause-built : goal.push_field-requires-clause-built
-push_field-requires-clause-built c =
-    let lt : c.loop-field.field-index < length c.args.block.now.fields = rw (← c.as_slice-field-items.ensures) c.loop-field-test.true in
-    rw (c.raw_of.ensures, c.as_slice-field-items.ensures)
-    (IsBuilt-other (raw_of c.args.msg.now (get_or c.args.block.now.fields c.loop-field.field-index no_field)) (c.requires.built c.loop-field.field-index no_field lt))
-
 pub loop-field-preserved : goal.loop-field-preserved
 loop-field-preserved c =
-    let adds : Adds (IsServed (raw_of c.args.msg.now (get_or c.as_slice-field-items.result.now c.loop-field.field-index no_field))) c.loop-field.made c.push_field.new.made
+    let adds : Adds (IsServed false (raw_of c.args.msg.now (get_or c.as_slice-field-items.result.now c.loop-field.field-index no_field))) c.loop-field.made c.push_field.new.made
     = rw (← c.raw_of.ensures) c.in_ok-push_field.ensures in
     MadeSoFar-turn c.args.msg.now c.loop-field.made c.push_field.new.made c.as_slice-field-items.result.now c.loop-field.field-index no_field c.loop-field-test.true c.loop-field.invariant adds
 

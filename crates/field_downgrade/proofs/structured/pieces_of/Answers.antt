@@ -1,17 +1,14 @@
-use Rattle.std.proofs.lemmas.Bool.{iff_false}
-use Rattle.field_downgrade.proofs.StructuredWriting.{none_of_phrases, none_of_addresses, none_of_plain, none_weaker}
+use Rattle.std.proofs.Common.{List, ℕ, subst}
+use Rattle.field_downgrade.proofs.PlainTextLemmas.{PlainPieces-says}
+use Rattle.field_downgrade.proofs.StructuredWriting.{none_weaker}
+use Rattle.field_downgrade.specs.Stands.{is_encoding_name, PiecesAs}
+use Rattle.field_downgrade.specs.declared.kind.Kind.TheVariants.{Plain}
 use Rattle.field_downgrade.proofs.structured.pieces_of.Goals as goal
 
-pub returns-then-is_phrases-clause-none : goal.returns-then-is_phrases-clause-none
-returns-then-is_phrases-clause-none c =
-    none_weaker c.phrase_pieces.result (none_of_phrases c.args.name.now c.args.value.now (c.is_phrases.ensures.0 c.if-is_phrases.true)) c.phrase_pieces.ensures.none
-
-pub returns-then-is_addresses-clause-none : goal.returns-then-is_addresses-clause-none
-returns-then-is_addresses-clause-none c =
-    none_weaker c.address_pieces.result (none_of_addresses c.args.name.now c.args.value.now (c.is_addresses.ensures.0 c.if-is_addresses.true)) c.address_pieces.ensures.none
-
-pub returns-clause-none : goal.returns-clause-none
-returns-clause-none c =
+pub returns-in-Plain-clause-none : goal.returns-in-Plain-clause-none
+returns-in-Plain-clause-none c =
     none_weaker c.rewrite_plain.result
-    (none_of_plain c.args.name.now c.args.value.now c.requires (iff_false c.is_phrases.ensures c.if-is_phrases.false) (iff_false c.is_addresses.ensures c.if-is_addresses.false))
+    (λ none (pieces : List (List ℕ)) p.
+    let plain : PiecesAs Plain c.args.open_global c.args.name.now c.args.value.now pieces = subst (λ k. PiecesAs k c.args.open_global c.args.name.now c.args.value.now pieces) c.in-Plain.is p in
+    let says = PlainPieces-says (is_encoding_name c.args.name.now) c.args.value.now pieces plain in none says.0 says.1 says.2)
     (rw c.is_encoding_name.ensures at c.rewrite_plain.ensures.none)

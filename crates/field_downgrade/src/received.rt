@@ -1,0 +1,355 @@
+//! Received fields (RFC 5322, 3.6.7; RFC 5321, 4.4): clauses, and behind a semicolon a date.
+ghost use Rattle.std.specs.Prelude.{◌≡◌, ℕ, ◌+◌, ◌≤◌, ◌∷◌, ◌++◌, [], List, length, not, true, IfOk, IfSome, IfNone, OnOk, IsUtf8};
+ghost use Rattle.std.specs.List.{list_all};
+ghost use Rattle.field_tokens.specs.Comments.{AddsPieces, CommentsPieces};
+ghost use Rattle.field_tokens.specs.Squeezed.{comments_of, is_blank as is_blank_of, is_comment as is_comment_of, StandTogether};
+ghost use Rattle.field_tokens.specs.Tokens.{HasTokens, octets_at};
+ghost use Rattle.field_tokens.specs.declared.Style.TheVariants.{Mail};
+ghost use Rattle.field_tokens.specs.declared.Token.{Token};
+ghost use Rattle.field_downgrade.specs.Received.{is_clause_word as is_clause_word_of, starts_clause as starts_clause_of, is_semicolon as is_semicolon_of, is_host_word as is_host_word_of, holds_clause_word as holds_clause_word_of, served_text as served_text_of, date_text as date_text_of, behind_space, served_piece, ClausePieces, DatePieces, PartsPieces, ReceivedParts, ReceivedPieces};
+ghost use Rattle.field_downgrade.specs.ReceivedSteps.{token_value, token_values, BeginsSo, CutsTokens, behind_first, clause_at, WritesClauses};
+
+use field_tokens::comments::write_comment;
+use field_tokens::{Style, Token, TokenFault, TokenKind, squeezed, tokens};
+use mail_wire::text::{is_ascii, is_same_name};
+use mail_wire::values::{Memory, Octets, Span};
+use std::alloc::Global;
+
+// ---- tokens
+
+// The tokens of a text, if it has any.
+fn received_tokens(alloc: Global, text: &[u8]) -> Result<Option<Vec<Token>>, Memory>
+    ensures some { IfOk result (λ o. IfSome o (λ found. HasTokens Mail text.now found.items)) }
+    ensures none { IfOk result (λ o. IfNone o ((found : List Token) → ¬ HasTokens Mail text.now found)) }
+{
+    match tokens(alloc, Style::Mail, text) {
+        Ok(found) => Ok(Some(found)),
+        Err(TokenFault::Malformed) => Ok(None),
+        Err(TokenFault::Memory) => Err(Memory),
+    }
+}
+
+fn octets_of(text: &[u8], span: Span) -> &[u8]
+    requires { span.at + span.len ≤ length text.now }
+    ensures { result.now ≡ octets_at text.now span }
+{
+    let (_, behind) = text.split_at(span.at);
+    let (octets, _) = behind.split_at(span.len);
+    octets
+}
+
+fn is_clause_word(word: &[u8]) -> bool
+    ensures { result ≡ is_clause_word_of word.now }
+{
+    is_same_name(word, b"from")
+        || is_same_name(word, b"by")
+        || is_same_name(word, b"via")
+        || is_same_name(word, b"with")
+        || is_same_name(word, b"id")
+        || is_same_name(word, b"for")
+}
+
+fn starts_clause(text: &[u8], token: Token) -> bool
+    requires { token.span.at + token.span.len ≤ length text.now }
+    ensures { result ≡ starts_clause_of (token_value text.now token) }
+{
+    matches!(token.kind, TokenKind::Atom) && is_clause_word(octets_of(text, token.span))
+}
+
+fn is_semicolon(text: &[u8], token: Token) -> bool
+    requires { token.span.at + token.span.len ≤ length text.now }
+    ensures { result ≡ is_semicolon_of (token_value text.now token) }
+{
+    matches!(token.kind, TokenKind::Special) && octets_of(text, token.span) == b";".as_slice()
+}
+
+// The tokens before the first semicolon, and the others.
+fn split_head<'a>(text: &[u8], tokens: &'a [Token]) -> (&'a [Token], &'a [Token])
+    requires { StandTogether text.now tokens.now }
+    ensures { CutsTokens is_semicolon_of text.now tokens.now result.0.now result.1.now }
+{
+    let mut at = 0;
+    while at < tokens.len() && !is_semicolon(text, tokens[at]) {
+        at += 1;
+    }
+    tokens.split_at(at)
+}
+
+// The tokens before the first one that starts a clause, and the others.
+fn split_clause<'a>(text: &[u8], tokens: &'a [Token]) -> (&'a [Token], &'a [Token])
+    requires { StandTogether text.now tokens.now }
+    ensures { CutsTokens starts_clause_of text.now tokens.now result.0.now result.1.now }
+{
+    let mut at = 0;
+    while at < tokens.len() && !starts_clause(text, tokens[at]) {
+        at += 1;
+    }
+    tokens.split_at(at)
+}
+
+fn is_blank(kind: TokenKind) -> bool
+    ensures { result ≡ is_blank_of kind }
+{
+    matches!(kind, TokenKind::Gap | TokenKind::Comment)
+}
+
+fn are_blank(tokens: &[Token]) -> bool
+    ensures { result ≡ list_all (λ (token : Token). is_blank_of token.kind) tokens.now }
+{
+    tokens.iter().all(|token| is_blank(token.kind))
+}
+
+fn is_comment(kind: TokenKind) -> bool
+    ensures { result ≡ is_comment_of kind }
+{
+    matches!(kind, TokenKind::Comment)
+}
+
+// ---- clauses as they are served
+
+fn is_host_word(word: &[u8]) -> bool
+    ensures { result ≡ is_host_word_of word.now }
+{
+    is_same_name(word, b"from") || is_same_name(word, b"by")
+}
+
+fn holds_clause_word(form: &[u8]) -> bool
+    ensures { result ≡ holds_clause_word_of form.now }
+{
+    form.split(|octet| *octet == b'.').any(is_clause_word)
+}
+
+// The text of a clause as it is served, if it is.
+fn served_text(alloc: Global, word: &[u8], text: Octets) -> Result<Option<Octets>, Memory>
+    requires { IsUtf8 text }
+    ensures { IfOk result (λ served. served ≡ served_text_of word.now text) }
+{
+    if is_ascii(text.as_slice()) {
+        return Ok(Some(text));
+    }
+    if !is_host_word(word) {
+        return Ok(None);
+    }
+    let Ok(domain) = str::from_utf8(text.as_slice()) else {
+        unreachable!();
+    };
+    let Some(form) = ace_domains::normal(alloc, domain)? else {
+        return Ok(None);
+    };
+    if holds_clause_word(form.as_slice()) {
+        return Ok(None);
+    }
+    Ok(Some(form))
+}
+
+// ---- pieces
+
+// Puts the pieces of the comments among tokens last.
+fn put_comments(
+    alloc: Global,
+    text: &[u8],
+    tokens: &[Token],
+    pieces: &mut Vec<Octets>,
+) -> Result<(), Memory>
+    requires { StandTogether text.now tokens.now }
+    ensures { OnOk result (AddsPieces (CommentsPieces (comments_of (token_values text.now tokens.now))) pieces.old.items pieces.new.items) }
+{
+    for token in tokens {
+        if is_comment(token.kind) {
+            write_comment(alloc, octets_of(text, token.span), pieces)?;
+        }
+    }
+    Ok(())
+}
+
+// Puts a word last, with the text behind it.
+fn put_word(alloc: Global, word: &[u8], text: &[u8], pieces: &mut Vec<Octets>) -> Result<(), Memory>
+    ensures { OnOk result (pieces.new.items ≡ pieces.old.items ++ (word.now ++ behind_space text.now) ∷ []) }
+{
+    let mut piece = Octets::from_slice(alloc, word)?;
+    if !text.is_empty() {
+        piece.push(b' ')?;
+        piece.push_slice(text)?;
+    }
+    pieces.push(piece)?;
+    Ok(())
+}
+
+// Puts the pieces of a clause last.
+fn put_clause(
+    alloc: Global,
+    text: &[u8],
+    word: Token,
+    behind: &[Token],
+    pieces: &mut Vec<Octets>,
+) -> Result<(), Memory>
+    requires { StandTogether text.now (word ∷ behind.now) }
+    ensures { OnOk result (AddsPieces (ClausePieces (clause_at text.now word behind.now)) pieces.old.items pieces.new.items) }
+{
+    let name = octets_of(text, word.span);
+    let said = squeezed(alloc, text, behind)?;
+    if let Some(served) = served_text(alloc, name, said)? {
+        put_word(alloc, name, served.as_slice(), pieces)?;
+    }
+    put_comments(alloc, text, behind, pieces)
+}
+
+// Puts the pieces of clauses last.
+fn put_clauses(
+    alloc: Global,
+    text: &[u8],
+    tokens: &[Token],
+    pieces: &mut Vec<Octets>,
+) -> Result<(), Memory>
+    requires stand { StandTogether text.now tokens.now }
+    requires begins { BeginsSo starts_clause_of (token_values text.now tokens.now) }
+    requires head { list_all (λ t. not (is_semicolon_of t)) (token_values text.now tokens.now) ≡ true }
+    ensures { OnOk result (AddsPieces (WritesClauses (token_values text.now tokens.now)) pieces.old.items pieces.new.items) }
+{
+    let mut rest = tokens;
+    while let Some((word, others)) = rest.split_first() {
+        let (behind, after) = split_clause(text, others);
+        put_clause(alloc, text, *word, behind, pieces)?;
+        rest = after;
+    }
+    Ok(())
+}
+
+// The text of the date behind a semicolon, or none.
+fn date_text(alloc: Global, text: &[u8], date: &[Token]) -> Result<Octets, Memory>
+    requires { StandTogether text.now date.now }
+    ensures { IfOk result (λ said. said ≡ date_text_of (behind_first (token_values text.now date.now))) }
+{
+    let Some((_, behind)) = date.split_first() else {
+        return Ok(Octets::new(alloc));
+    };
+    squeezed(alloc, text, behind)
+}
+
+// Puts the pieces of the date behind a semicolon last, if there is one.
+fn put_date(
+    alloc: Global,
+    text: &[u8],
+    date: &[Token],
+    said: &[u8],
+    pieces: &mut Vec<Octets>,
+) -> Result<(), Memory>
+    requires stand { StandTogether text.now date.now }
+    requires said { said.now ≡ date_text_of (behind_first (token_values text.now date.now)) }
+    ensures { OnOk result (AddsPieces (DatePieces (behind_first (token_values text.now date.now))) pieces.old.items pieces.new.items) }
+{
+    let Some((_, behind)) = date.split_first() else {
+        return Ok(());
+    };
+    put_word(alloc, b";", said, pieces)?;
+    put_comments(alloc, text, behind, pieces)
+}
+
+/// The pieces of a Received field's text.
+pub fn rewrite_received(alloc: Global, text: &[u8]) -> Result<Option<Vec<Octets>>, Memory>
+    ensures some { IfOk result (λ o. IfSome o (λ pieces. ReceivedPieces text.now pieces.items)) }
+    ensures none { IfOk result (λ o. IfNone o ((pieces : List (List ℕ)) → ¬ ReceivedPieces text.now pieces)) }
+{
+    let Some(found) = received_tokens(alloc, text)? else {
+        return Ok(None);
+    };
+    let (head, date) = split_head(text, &found);
+    let (front, clauses) = split_clause(text, head);
+    if !are_blank(front) {
+        return Ok(None);
+    }
+    let said = date_text(alloc, text, date)?;
+    if !is_ascii(said.as_slice()) {
+        return Ok(None);
+    }
+    let mut pieces = Vec::new(alloc);
+    put_comments(alloc, text, front, &mut pieces)?;
+    put_clauses(alloc, text, clauses, &mut pieces)?;
+    put_date(alloc, text, date, said.as_slice(), &mut pieces)?;
+    Ok(Some(pieces))
+}
+
+#[cfg(test)]
+mod tests {
+    use super::*;
+    use std::test::Fail;
+
+    fn has_pieces(alloc: Global, text: &str, wanted: &[&str]) -> Result<bool, Fail> {
+        let found = rewrite_received(alloc, text.as_bytes()).map_err(|_| "memory")?;
+        let Some(pieces) = found else {
+            return Ok(false);
+        };
+        if pieces.len() != wanted.len() {
+            return Ok(false);
+        }
+        for (piece, octets) in pieces.iter().zip(wanted) {
+            if piece.as_slice() != octets.as_bytes() {
+                return Ok(false);
+            }
+        }
+        Ok(true)
+    }
+
+    fn has_none(alloc: Global, text: &str) -> Result<bool, Fail> {
+        let found = rewrite_received(alloc, text.as_bytes()).map_err(|_| "memory")?;
+        Ok(found.is_none())
+    }
+
+    #[test]
+    fn clauses_beyond_ascii_are_dropped(rt: HostRuntime) -> Result<(), Fail> {
+        assert!(rt;
+            has_pieces(
+                rt.alloc(),
+                "from a by b for <é@x>; Thu, 01 Jan 1970 00:00:00 +0000",
+                &["from a", "by b", "; Thu, 01 Jan 1970 00:00:00 +0000"]
+            )?
+        );
+        assert!(rt; has_pieces(rt.alloc(), "for é", &[])?);
+        assert!(rt; has_pieces(rt.alloc(), "for é(x)", &["(x)"])?);
+        Ok(())
+    }
+
+    #[test]
+    fn hosts_are_served_in_their_form(rt: HostRuntime) -> Result<(), Fail> {
+        assert!(rt;
+            has_pieces(
+                rt.alloc(),
+                "From bücher.example;",
+                &["From xn--bcher-kva.example", ";"]
+            )?
+        );
+        assert!(rt; has_pieces(rt.alloc(), "by \u{ff46}or", &[])?);
+        assert!(rt; has_pieces(rt.alloc(), "by é.\u{ff46}or", &[])?);
+        assert!(rt; has_pieces(rt.alloc(), "from bücher.example (x) y é", &["(x)"])?);
+        Ok(())
+    }
+
+    #[test]
+    fn comments_stand_behind_their_clause(rt: HostRuntime) -> Result<(), Fail> {
+        assert!(rt; has_pieces(rt.alloc(), "(é)", &["(", "=?UTF-8?B?w6k=?=", ")"])?);
+        assert!(rt;
+            has_pieces(
+                rt.alloc(),
+                "(a) FROM (b) c  d(e)by;(f)1;2",
+                &["(a)", "FROM c d", "(b)", "(e)", "by", "; 1;2", "(f)"]
+            )?
+        );
+        Ok(())
+    }
+
+    #[test]
+    fn a_word_that_starts_no_clause_is_malformed(rt: HostRuntime) -> Result<(), Fail> {
+        assert!(rt; has_none(rt.alloc(), "a by b")?);
+        assert!(rt; has_none(rt.alloc(), "\"by\" b")?);
+        assert!(rt; has_none(rt.alloc(), "by b; é")?);
+        assert!(rt; has_none(rt.alloc(), "by b)")?);
+        Ok(())
+    }
+
+    #[test]
+    fn there_may_be_no_clause(rt: HostRuntime) -> Result<(), Fail> {
+        assert!(rt; has_pieces(rt.alloc(), "", &[])?);
+        assert!(rt; has_pieces(rt.alloc(), " ; 1", &["; 1"])?);
+        Ok(())
+    }
+}
