@@ -43,6 +43,8 @@ LETTERS = [
     (0xE01, 0xE4E), (0x3041, 0x3096), (0x30A1, 0x30FC), (0x4E00, 0x9FFF), (0xAC00, 0xD7A3),
 ]
 FULL_WIDTH = {code + 0xFEE0: code for code in map(ord, "0123456789ABCDEFGHIJKLMNOPQRSTUVWXYZabcdefghijklmnopqrstuvwxyz")}
+# ASCII octets that are in no domain and aren't combined with a character behind them
+NEVER = re.compile(rb"[\0-,/:;?@\[-`{-\x7f]")
 LETTER_KINDS = ("Ll", "Lo", "Lm", "Mn", "Mc")
 LABEL_MAX = 63
 DOMAIN_MAX = 253
@@ -205,7 +207,7 @@ def served_domain(domain):
     """An ASCII domain as it stands, the A-label form of another one, or None where it has none; or Uncertain."""
     if domain.isascii():
         return domain
-    if domain.startswith(b"["):
+    if NEVER.search(domain):
         return None
     labels = unicodedata.normalize("NFC", "".join(map(lowered, domain.decode()))).split(".")
     if not are_certain(labels):
@@ -236,7 +238,7 @@ def is_letter(character):
 
 def a_label(label):
     """A certain label's form, or None where a label mustn't be so."""
-    is_wrong = any(it.isascii() and not it.isalnum() and it != "-" for it in label) or unicodedata.category(label[0])[0] == "M"
+    is_wrong = not label or any(it.isascii() and not it.isalnum() and it != "-" for it in label) or unicodedata.category(label[0])[0] == "M"
     if is_wrong or "-" in (label[0], label[-1]) or label[2:4] == "--":
         return None
     form = label.encode() if label.isascii() else b"xn--" + label.encode("punycode")

@@ -189,6 +189,20 @@ def outcome(octets):
         return None
 
 
+def field_faults(program, octets):
+    """The answer to a message of one field, whether the oracle could tell, and what is wrong: with the answer, with what the
+    made field says, and with the surrogate of the surrogate."""
+    answer, told = program.downgrade(octets), outcome(octets)
+    faults = differs("answer", answer, told) if told else []
+    if answer[0] != 0:
+        return answer, told is not None, [*faults, "the answer isn't a surrogate"]
+    raw, made = oracle.read_mail(octets)[0][0], oracle.read_mail(answer[1])[0][0]
+    faults += meaning_faults(raw, made) if told else []
+    faults += differs("the surrogate of its surrogate", program.downgrade(answer[1]), answer)
+    faults += [] if answer[1].isascii() else ["the surrogate isn't ASCII"]
+    return answer, told is not None, faults
+
+
 def cases_of(rng):
     """Kind, octets, and the mailboxes and groups of which Python is asked, or None."""
     for _ in range(COUNT):
@@ -205,17 +219,10 @@ def check(program, tally):
     def one(case):
         """Whether the oracle could tell, whether there is a list, and what is wrong."""
         _, octets, elements = case
-        answer, told = program.downgrade(octets), outcome(octets)
-        faults = differs("answer", answer, told) if told else []
-        if answer[0] != 0:
-            return told is not None, False, [*faults, "the answer isn't a surrogate"]
-        raw, made = oracle.read_mail(octets)[0][0], oracle.read_mail(answer[1])[0][0]
-        faults += meaning_faults(raw, made) if told else []
-        faults += differs("the surrogate of its surrogate", program.downgrade(answer[1]), answer)
-        faults += [] if answer[1].isascii() else ["the surrogate isn't ASCII"]
-        if elements:
+        answer, is_told, faults = field_faults(program, octets)
+        if elements and answer[0] == 0:
             faults += python_faults(elements, answer[1])
-        return told is not None, not made.startswith(b"Downgraded-"), faults
+        return is_told, not answer[1].startswith(b"Downgraded-"), faults
 
     answers = in_lanes(one, cases)
     for number, ((kind, octets, _), (_, _, faults)) in enumerate(zip(cases, answers)):

@@ -172,9 +172,9 @@ def meaning_faults(raw, made):
     wanted = meaning.of_field(name, body)
     if wanted is not None or raw.isascii():
         return differs("what the field says", (given, meaning.of_field(given, told)), (name, wanted))
-    # one that isn't in its grammar keeps its value as a text
-    kept = name if name.lower() == layout.ENCODING else b"Downgraded-" + name
-    return differs("what the field says", (given, meaning.of_text(told)), (kept, [layout.value_of(body)]))
+    # one that is kept aside keeps its value as a text; under its own name it is still in no grammar
+    faults = differs("what the field says under its own name", meaning.of_field(given, told), None) if given == name else []
+    return faults + differs("what the field says", (given, meaning.of_text(told)), (layout.kept_name(name), [layout.value_of(body)]))
 
 
 def by_python(value):

@@ -10,14 +10,20 @@ otherwise. To write units means: each text as B encoded words, each opaque unit 
   core, and before a copied piece that follows one, stands the octet of the white there that was left out, or a space.
 - Keywords are phrases divided by commas, each with comments around it. The pieces of a phrase are followed by the other
   comments of its place, and a piece `,` stands between two places.
-- Lists of addresses are told in addresses.py, the pieces of phrases and comments in pieces.py.
+- Lists of addresses are told in addresses.py, parameters in parameters.py, Received in received.py, Return-Path in
+  return_path.py, recipients in recipients.py, the pieces of phrases and comments in pieces.py.
 - Date, Resent-Date, MIME-Version and Content-Transfer-Encoding are ASCII but for comments: one piece has the tokens with one
   space where a gap or comment stood, and the comments follow. Content-Transfer-Encoding is a single atom.
-- Where the value isn't in its grammar, the made field has `Downgraded-` before the name and the whole value as B words.
-  Content-Transfer-Encoding keeps its name then."""
+- Identifiers, paths and recipients that can't be served, fields whose name begins with `-`, and values that aren't in their
+  grammar are kept aside: the made field has `Downgraded-` before the name, and the whole value as B words. Content-Type and
+  Content-Transfer-Encoding keep their names; their values are still in no grammar then."""
 
 import addresses
+import parameters
 import pieces
+import received
+import recipients
+import return_path
 import tokens
 import units
 
@@ -30,14 +36,18 @@ ADDRESSES = frozenset(
 PHRASES = frozenset([b"keywords"])
 ENCODING = b"content-transfer-encoding"
 PLAIN = frozenset([b"date", b"resent-date", b"mime-version", ENCODING])
-NOT_BUILT = frozenset(
+KEEPS_NAME = frozenset([parameters.TYPE, ENCODING])
+PARAMETERS = frozenset([parameters.TYPE, b"content-disposition"])
+IDENTIFIERS = frozenset(
     name.lower()
     for name in b"""
-    Content-Type Content-Disposition
     Message-ID Resent-Message-ID In-Reply-To References Content-ID
-    Return-Path Original-Recipient Final-Recipient Received
     """.split()
 )
+PATH = frozenset([b"return-path"])
+RECIPIENTS = frozenset([b"original-recipient", b"final-recipient"])
+TRACE = frozenset([b"received"])
+STRUCTURED = ADDRESSES | PHRASES | PLAIN | PARAMETERS | IDENTIFIERS | PATH | RECIPIENTS | TRACE
 
 
 def value_of(body):
@@ -48,17 +58,37 @@ def value_of(body):
 def made_field(name, body):
     """The name and the pieces, each behind its white octet."""
     kind, value = name.lower(), value_of(body)
+    if kind not in STRUCTURED and not name.startswith(b"-"):
+        return name, unstructured_pieces(body)
     try:
-        if kind in ADDRESSES:
-            return name, spaced(addresses.list_pieces(value))
-        if kind in PHRASES:
-            return name, spaced(phrases_pieces(value))
-        if kind in PLAIN:
-            return name, spaced(plain_pieces(value, kind == ENCODING))
+        made = structured_pieces(kind, value)
     except tokens.Malformed:
-        kept = name if kind == ENCODING else b"Downgraded-" + name
-        return kept, spaced(units.b_words(value))
-    return name, unstructured_pieces(body)
+        made = None
+    if made is not None:
+        return name, spaced(made)
+    return kept_name(name), spaced(units.b_words(value))
+
+
+def kept_name(name):
+    """The name of a field that is kept aside."""
+    return name if name.lower() in KEEPS_NAME else b"Downgraded-" + name
+
+
+def structured_pieces(kind, value):
+    """The pieces of such a value, or None where it can't be served; or Malformed."""
+    if kind in ADDRESSES:
+        return addresses.list_pieces(value)
+    if kind in PHRASES:
+        return phrases_pieces(value)
+    if kind in PLAIN:
+        return plain_pieces(value, kind == ENCODING)
+    if kind in PARAMETERS:
+        return parameters.field_pieces(value, kind == parameters.TYPE)
+    if kind in PATH:
+        return return_path.field_pieces(value)
+    if kind in RECIPIENTS:
+        return recipients.field_pieces(value)
+    return received.field_pieces(value) if kind in TRACE else None
 
 
 def spaced(made):

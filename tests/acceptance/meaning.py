@@ -1,26 +1,45 @@
 """What a field says, by the rules alone: fields that say the same have the same meaning, however they are written. Of
-addresses it is what the field of a surrogate has to say. Nothing here was taken from the program, and nothing here writes a
-field."""
+addresses, paths and clauses it is what the field of a surrogate has to say. Nothing here was taken from the program, and
+nothing here writes a field."""
 
 import addresses
 import layout
+import parameters
+import received
+import recipients
+import return_path
 import tokens
 import units
 
 
 def of_field(name, body):
-    """What the value says, or None where it isn't in its grammar."""
+    """What the value says, or None where it isn't in its grammar, or can't be said in ASCII."""
     kind, value = name.lower(), layout.value_of(body)
+    if name.startswith(b"-") and not value.isascii():
+        return None
     try:
-        if kind in layout.ADDRESSES:
-            return of_addresses(value)
-        if kind in layout.PHRASES:
-            return of_phrases(value)
-        if kind in layout.PLAIN:
-            return of_plain(value, kind == layout.ENCODING)
+        return of_structured(kind, value) if kind in layout.STRUCTURED else of_text(body)
     except tokens.Malformed:
         return None
-    return of_text(body)
+
+
+def of_structured(kind, value):
+    if kind in layout.ADDRESSES:
+        return of_addresses(value)
+    if kind in layout.PHRASES:
+        return of_phrases(value)
+    if kind in layout.PLAIN:
+        return of_plain(value, kind == layout.ENCODING)
+    if kind in layout.PARAMETERS:
+        return of_parameters(value, kind == parameters.TYPE)
+    if kind in layout.PATH:
+        return of_path(value)
+    if kind in layout.RECIPIENTS:
+        return of_recipient(value)
+    if kind in layout.TRACE:
+        return of_trace(value)
+    # identifiers are their octets
+    return value if value.isascii() else None
 
 
 def of_text(body):
@@ -66,3 +85,28 @@ def of_phrases(value):
 def of_plain(value, is_encoding):
     found = layout.plain_tokens(value, is_encoding)
     return tokens.squeezed(found), of_comments(found)
+
+
+def of_parameters(value, is_type):
+    """The main part in lower case, each parameter by its name, its charset and its octets, and the comments."""
+    body = parameters.read(value, is_type)
+    told = [(parameter.name, parameter.charset, parameter.octets) for parameter in body.parameters()]
+    return body.main.lower(), told, of_comments(body.tokens)
+
+
+def of_path(value):
+    found, mailbox = return_path.read(value)
+    if mailbox is None:
+        return (None, of_comments(found)) if value.isascii() else None
+    return (mailbox.local, addresses.served_domain(mailbox.domain), of_comments(found)) if mailbox.is_served() else None
+
+
+def of_recipient(value):
+    of_type, address = recipients.read(value)
+    return (of_type, address) if of_type == recipients.UTF8 or value.isascii() else None
+
+
+def of_trace(value):
+    trace = received.read(value)
+    clauses = [(word.lower(), text) for word, text in received.served_clauses(trace)]
+    return clauses, received.date_text(trace), of_comments(trace.tokens())

@@ -1,21 +1,22 @@
 """What `dervlask downgrade` has to answer, told anew from the rules.
 
 Nothing here was taken from the program: expected values of the tests come from this file and those that it uses (layout.py,
-addresses.py, pieces.py, tokens.py, units.py), from rows that are written out, from Python's `email` package, or from vectors.
+addresses.py, parameters.py, received.py, return_path.py, recipients.py, pieces.py, tokens.py, units.py), from rows that are
+written out, from Python's `email` package, or from vectors.
 The rules, as far as they are built:
 
 - A message is lines that end with CRLF, without NUL, without CR or LF outside a CRLF, of at most 33,554,432 octets.
 - Its header block is the lines up to the first empty line or the end. A field begins with a name of octets 33 to 126
   other than the colon, white (space or tab) and a colon; its further lines begin with white. All of it is UTF-8.
-- A field is not built where it is named Content-Type, or where it has a non-ASCII octet and its name begins with `-` or
-  is one of those whose values have parameters, identifiers, paths, types or traces.
+- A field is not built where it is named Content-Type, since its message may have inner parts.
 - An ASCII field is copied, and so is all behind the fields. For each other field one is made; layout.py says how. It may be
   Uncertain how, where a domain isn't ASCII (addresses.py).
 """
 
 import re
 
-from layout import NOT_BUILT, made_field
+from layout import made_field
+from parameters import TYPE
 
 MESSAGE_MAX = 33_554_432
 FIELD = re.compile(rb"([!-9;-~]+)[ \t]*:(.*)\Z", re.DOTALL)
@@ -95,9 +96,7 @@ def parts_of(raw):
 
 def is_unbuilt(raw):
     name, _, _ = parts_of(raw)
-    if name.lower() == b"content-type":
-        return True
-    return not raw.isascii() and (name.lower() in NOT_BUILT or name.startswith(b"-"))
+    return name.lower() == TYPE
 
 
 def surrogate_field(raw):

@@ -14,7 +14,8 @@ ANN = mailbox([])
 TWO = journal(domain(b"example.org"), account(b"ann@example.org", b"pw"), account(b"bob@example.org", b""), message(1, b"A: b\r\n"))
 DOTS = mailbox([b"A: b\r\n\r\n.\r\n..\r\nx.\r\n\r\n.x"])
 LINE_MAX = 65_536
-UNBUILT = "Message-ID: <é@x>\r\n".encode()
+UNBUILT = b"Content-Type: a/b\r\n"
+TRACED = mailbox(["Received: for <é@x>; 1\r\nReturn-Path: <a@é>\r\nMessage-ID: <é@x>\r\nContent-Disposition: a;x=é\r\n-x: é\r\n".encode()])
 
 
 def octets_of(lines):
@@ -33,6 +34,9 @@ def of_mail():
             [*LOGGED_IN, "+OK", "Subject:", " =?UTF-8?B?Y2Fmw6k=?=", " bar", "", "x", "."]),
         ("café bar retrieved by an enabled client", cafe, ["UTF8", *LOGIN, "RETR 1"],
             ["+OK ready", "+OK", "+OK", "+OK", "+OK", "Subject: café bar", "", "x", "."]),
+        ("a message of other fields retrieved by a legacy client", TRACED, [*LOGIN, "RETR 1"],
+            [*LOGGED_IN, "+OK", "Received:", " ; 1", "Return-Path:", " <a@xn--9ca>", "Downgraded-Message-ID:", " =?UTF-8?B?PMOpQHg+?=",
+                "Content-Disposition:", " a;", " x*=UTF-8''%C3%A9", "Downgraded--x:", " =?UTF-8?B?w6k=?=", "."]),
         ("UTF8 twice", cafe, ["utf8", "Utf8", *LOGIN, "STAT"], ["+OK ready", "+OK", "+OK", "+OK", "+OK", "+OK 1 25"]),
         ("an account without messages", ANN, [*LOGIN, "STAT", "LIST", "LIST 1", "RETR 1"],
             [*LOGGED_IN, "+OK 0 0", "+OK", ".", "-ERR no such message", "-ERR no such message"]),
@@ -126,8 +130,8 @@ def of_journals():
             ANN + message(0, b"A: b\r\n", flags=31, date=b" 9-jUN-0000 99:99:99 -9999")),
         refused("a line that is no field", ANN + message(0, b"x\r\n"), 5, b"bad journal at %d" % len(ANN)),
         refused("a bare LF in the body", ANN + message(0, b"A: b\r\n\r\nx\n"), 5, b"bad journal at %d" % len(ANN)),
-        refused("an identifier", ANN + message(0, UNBUILT), 10, b"not built at %d" % len(ANN)),
-        refused("an identifier in no folder", ANN + message(9, UNBUILT, flags=99), 10, b"not built at %d" % len(ANN)),
+        refused("a type", ANN + message(0, UNBUILT), 10, b"not built at %d" % len(ANN)),
+        refused("a type in no folder", ANN + message(9, UNBUILT, flags=99), 10, b"not built at %d" % len(ANN)),
         refused("the first of two faults", ANN + domain(b"-") + b"\0\0\0\1\x09", 10, b"not built at %d" % len(ANN)),
     ]
 

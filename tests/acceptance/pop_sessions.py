@@ -5,6 +5,8 @@ import random
 import generated
 import generated_addresses
 import generated_fields
+import generated_parameters
+import generated_traces
 import paths
 from harness import in_lanes
 from journal import account, domain, journal, message, record, text
@@ -20,9 +22,14 @@ PASSWORDS = [b"", b"pw", b" p w ", b"\xff\x00", "pässword".encode(), b"p\rw", b
 DOTS = [b"\r\n.", b"A: b\r\n\r\n.\r\n..\r\n\r\n.", b"A: b\r\n\r\n" + b".\r\n" * 400]
 FIELDS = ["X: é", "A: b\r\n é\r\n", "Subject: =?é\r\n", "Date: (é)", "Keywords: é,\r\n", "Content-Transfer-Encoding: é\r\n\r\n."]
 ADDRESSES = ["To: é", "From: é <a@b>, b@é\r\n", "Cc: é: é@b;\r\n\r\n."]
-BUILT = [b"", b"\r\n", b"A: b", b"A: b\r\n\r\n\r\n\r\n", *(field.encode() for field in [*FIELDS, *ADDRESSES]), *DOTS]
-UNBUILT = ["Message-ID: <é@x>\r\n".encode(), b"Content-Type: text/plain\r\n\r\nx\r\n", "-x: é\r\n".encode(), "Received: é\r\n\r\n\0".encode()]
-FAULTY = [b"x", b" a: b\r\n", b"A: b\r", b"A: b\r\n\r\nx\n", b"A: \xff\r\n", b"A: b\r\n\r\n\0"]
+TRACES = ["Message-ID: <é@x>", "-x: é\r\n", "Received: for é", "Return-Path: <>(é)\r\n\r\n", "Content-Disposition: a;x=é"]
+BUILT = [b"", b"\r\n", b"A: b", b"A: b\r\n\r\n\r\n\r\n", *(field.encode() for field in [*FIELDS, *ADDRESSES, *TRACES]), *DOTS]
+UNBUILT = [b"Content-Type: text/plain\r\n\r\nx\r\n", "-x: é\r\ncontent-type: é\r\n".encode(), b"Content-TYPE :"]
+FAULTY = [b"x", b" a: b\r\n", b"A: b\r", b"A: b\r\n\r\nx\n", b"A: \xff\r\n", b"A: b\r\n\r\n\0", "Received: é\r\n\r\n\0".encode()]
+MAKERS = [
+    generated_fields.subject, generated_fields.keywords, generated_fields.date, generated_addresses.certain_list,
+    generated_parameters.certain_disposition, generated_traces.certain_trace, generated_traces.certain_recipient, generated_traces.identifier,
+]
 WORDS = [b"USER", b"PASS", b"UTF8", b"STAT", b"LIST", b"RETR", b"QUIT", b"CAPA", b"NOOP", b"TOP", b"DELE", b"", b"LISTS", b"RET"]
 ARGUMENTS = [None, None, b"", b" ", b"1", b"01", b"2", b"3", b"7", b"0", b"99999999999999999999", b"1 ", b"-1", b"x", b"\xe9", b"1 2"]
 SIZES = [1, 1, 1, 2, 3, 7, 64, 512]
@@ -34,8 +41,8 @@ def some_message(rng):
         return rng.choice(BUILT)
     octets, _ = generated.message(rng)
     if rng.random() < 0.3:
-        maker = rng.choice([generated_fields.subject, generated_fields.keywords, generated_fields.date, generated_addresses.certain_list])
-        octets = generated_fields.message_of(rng, *maker(rng))
+        name, value, *_ = rng.choice(MAKERS)(rng)
+        octets = generated_fields.message_of(rng, name, value)
     return octets[:-2] if rng.random() < 0.2 and octets.endswith(b"\r\n") else octets
 
 

@@ -3,14 +3,15 @@
 A file has cases, with an empty line behind each; a line is a word and its value, octets in hexadecimal. `message_max` isn't
 looked at: no reply of POP3 depends on it.
 
-The files are older than the rewriting of encoded words, folds, addresses, Keywords and dates: they say of a journal with a
-message that has such a field that it isn't built (status 10). What such a case says of status, replies and journal is replaced by what our
-oracle says today (pop_oracle.py); its journal, its input and its cuts stay. Those that are right as they stand are counted."""
+The files are older than the rewriting of encoded words, folds, and fields with a grammar of their own: they say of a journal
+with a message that has such a field that it isn't built (status 10). What such a case says of status, replies and journal is
+replaced by what our oracle says today (pop_oracle.py); its journal, its input and its cuts stay. Those that are right as they
+stand are counted."""
 
 import os
 
 from harness import differs, in_lanes
-from layout import ADDRESSES, PHRASES, PLAIN
+from layout import STRUCTURED
 from oracle import Refused, is_unbuilt, parts_of, read_block
 from pop_oracle import FIRST_OCTETS, Fields, NoRecord, outcome
 from talk import all_cuts, answer_faults, joined
@@ -62,7 +63,7 @@ def message_of(fields):
 def is_rewritten_since(raw):
     """Whether a field wasn't rewritten when the vectors were made, and is today."""
     name, body, _ = parts_of(raw)
-    was_not = name.lower() in ADDRESSES | PHRASES | PLAIN or b"=?" in body or b"\r\n" in body
+    was_not = name.lower() in STRUCTURED or name.startswith(b"-") or b"=?" in body or b"\r\n" in body
     return not raw.isascii() and was_not and not is_unbuilt(raw)
 
 

@@ -6,9 +6,8 @@ import os
 
 from addresses import Uncertain
 from harness import differs, in_lanes
-from oracle import outcome
+from oracle import is_unbuilt, outcome
 
-BUILT = ("Unstructured", "Addresses", "Phrases", "Plain")
 NOT_BUILT = 10
 
 
@@ -18,13 +17,12 @@ def lines_of(path):
 
 
 def fields(folder):
-    """Messages of one field. Those of the built kinds have surrogates, all others are said not to be built."""
+    """Messages of one field, of every kind. A field named Content-Type isn't built; those of an opened message are left out."""
     for number, vector in enumerate(lines_of(os.path.join(folder, "fields.jsonl"))):
         raw, made = vector["raw"].encode(), vector["made"].encode()
-        wanted = NOT_BUILT, b"not built at 0\r\n"
-        if vector["kind"] in BUILT and not raw.startswith(b"-"):
-            wanted = 0, made + b"\r\n"
-        yield f"fields.jsonl, line {number + 1}", raw + b"\r\n", wanted
+        if not vector["global"]:
+            wanted = (NOT_BUILT, b"not built at 0\r\n") if is_unbuilt(raw) else (0, made + b"\r\n")
+            yield f"fields.jsonl, line {number + 1}", raw + b"\r\n", wanted
 
 
 def messages(folder):
@@ -56,11 +54,13 @@ def check(program, tally, folder):
             faults += differs("answer", answer, wanted)
         return answer[0], told is not None, faults
 
-    cases = [*fields(folder), *messages(folder)]
-    answers = in_lanes(one, cases)
-    for case, (_, _, faults) in zip(cases, answers):
-        tally.note(case[0], [*faults, f"message: {case[1]!r}"] if faults else [])
-    built = sum(status != NOT_BUILT for status, _, _ in answers)
-    uncertain = sum(not is_told for _, is_told, _ in answers)
-    print(f"vectors: {built} of {len(cases)} tell of what is built; at the others the program and the oracle say that it isn't built")
-    print(f"vectors: {uncertain} have a domain of which the oracle tells no A-label form, and the vector alone was asked")
+    for name, cases in (("fields.jsonl", list(fields(folder))), ("messages.jsonl", list(messages(folder)))):
+        answers = in_lanes(one, cases)
+        for case, (_, _, faults) in zip(cases, answers):
+            tally.note(case[0], [*faults, f"message: {case[1]!r}"] if faults else [])
+        unbuilt = sum(status == NOT_BUILT for status, _, _ in answers)
+        uncertain = sum(not is_told for _, is_told, _ in answers)
+        print(f"vectors: {len(cases)} of {name} were run; of {unbuilt} the program and the oracle say that they aren't built, for a Content-Type")
+        print(f"vectors: {uncertain} of {name} have a domain of which the oracle tells no A-label form, and the vector alone was asked")
+    inner = sum(vector["global"] for vector in lines_of(os.path.join(folder, "fields.jsonl")))
+    print(f"vectors: {inner} of fields.jsonl are of opened messages, and weren't run")
