@@ -130,6 +130,40 @@ def quoted_local_part(size):
     yield "To: Zoë <\"".encode() + b"y z" * (size // 3) + b"\"@example.org>\r\n\r\nx\r\n"
 
 
+def many_parameters(count):
+    """So many parameters, each beyond ASCII and short enough for one piece."""
+    yield "Content-Disposition: attachment".encode()
+    for at in range(0, count, 1000):
+        parameters = range(at, min(at + 1000, count))
+        yield "".join(f"; name{number:06}=\"Größe {number:06}\"" for number in parameters).encode()
+    yield b"\r\n\r\nx\r\n"
+
+
+def long_parameter(size):
+    """A file name of so many octets."""
+    yield b"Content-Disposition: attachment; filename=\"" + WORD * (size // len(WORD)) + b"\"\r\n\r\nx\r\n"
+
+
+def falling_pieces(count):
+    """A file name of so many pieces (RFC 2231, 3), the last one first."""
+    yield b"Content-Disposition: attachment"
+    yield b"".join(b"; filename*%d*=%%C3%%A9" % number for number in range(count - 1, 0, -1))
+    yield "; filename*0*=UTF-8''%C3%A9; x=é\r\n\r\nx\r\n".encode()
+
+
+def many_clauses(count):
+    """A trace of so many clauses, of which every other one is dropped."""
+    yield b"Received: from a"
+    for at in range(0, count, 2000):
+        yield " by example.org for <é@x>".encode() * min(1000, (count - at) // 2)
+    yield b"; Thu, 01 Jan 1970 00:00:00 +0000\r\n\r\nx\r\n"
+
+
+def long_identifier(size):
+    """Identifiers of so many octets, which are kept under another name."""
+    yield b"References: <" + WORD * (size // len(WORD)) + b"@x>\r\n\r\nx\r\n"
+
+
 MIB = 1 << 20
 
 # name, what writes the message, n; each is measured at n and at 2n
@@ -150,6 +184,11 @@ CASES = [
     ("a To with 100,000 and 200,000 empty places", empty_places, 100_000),
     ("20,000 and 40,000 comments between two addresses", comments_between, 20_000),
     ("a quoted local part of 512 KiB and 1 MiB", quoted_local_part, MIB // 2),
+    ("10,000 and 20,000 parameters", many_parameters, 10_000),
+    ("a parameter of 512 KiB and 1 MiB", long_parameter, MIB // 2),
+    ("a parameter of 5,000 and 10,000 pieces in falling order", falling_pieces, 5_000),
+    ("a trace of 50,000 and 100,000 clauses", many_clauses, 50_000),
+    ("identifiers of 512 KiB and 1 MiB", long_identifier, MIB // 2),
 ]
 
 
