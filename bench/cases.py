@@ -15,18 +15,21 @@ def ascii_body(size):
     yield b"y" * (len(LINE) + last - 2) + b"\r\n"
 
 
+def numbered(text, count):
+    """The text so many times, each with its number in its braces."""
+    for at in range(0, count, 1000):
+        yield "".join(text.format(number) for number in range(at, min(at + 1000, count))).encode()
+
+
 def ascii_fields(count):
     """Short fields of 40 octets."""
-    for at in range(0, count, 1000):
-        yield b"".join(b"X-Field-%06d: a value of three words\r\n" % number for number in range(at, min(at + 1000, count)))
+    yield from numbered("X-Field-{:06}: a value of three words\r\n", count)
     yield b"\r\nx\r\n"
 
 
 def high_fields(count):
     """Fields of 79 octets, each with one core between ASCII words."""
-    field = "X-Field-{:06}: deux cafés au lait et une crème brûlée, for the two of us\r\n"
-    for at in range(0, count, 1000):
-        yield "".join(field.format(number) for number in range(at, min(at + 1000, count))).encode()
+    yield from numbered("X-Field-{:06}: deux cafés au lait et une crème brûlée, for the two of us\r\n", count)
     yield b"\r\nx\r\n"
 
 
@@ -54,9 +57,7 @@ def long_field(size):
 def encoded_subject(count):
     """So many encoded words of another charset, with a non-ASCII word on each side: 52 octets each."""
     yield "Subject: é".encode()
-    for at in range(0, count, 1000):
-        words = range(at, min(at + 1000, count))
-        yield "".join(f" =?ISO-8859-1?Q?caf=E9?= crème_brûlée_à_la_{number:06}" for number in words).encode()
+    yield from numbered(" =?ISO-8859-1?Q?caf=E9?= crème_brûlée_à_la_{:06}", count)
     yield b"\r\n\r\nx\r\n"
 
 
@@ -71,18 +72,14 @@ def folded_subject(count):
 def many_phrases(count):
     """So many keywords."""
     yield "Keywords: été".encode()
-    for at in range(0, count, 1000):
-        phrases = range(at, min(at + 1000, count))
-        yield "".join(f', "clé" no {number:06} =?UTF-8?Q?x?=' for number in phrases).encode()
+    yield from numbered(', "clé" no {:06} =?UTF-8?Q?x?=', count)
     yield b"\r\n\r\nx\r\n"
 
 
 def many_comments(count):
     """A date with so many comments side by side, of which each has a nested one."""
     yield b"Date: Thu, 01 Jan 1970 00:00:00 +0000"
-    for at in range(0, count, 1000):
-        comments = range(at, min(at + 1000, count))
-        yield "".join(f" (été {number:06} (x))" for number in comments).encode()
+    yield from numbered(" (été {:06} (x))", count)
     yield b"\r\n\r\nx\r\n"
 
 
@@ -96,18 +93,14 @@ def deep_comment(size):
 def many_addresses(count):
     """So many addresses, each with a name and a domain beyond ASCII."""
     yield "To: Zoë <z@bücher.example>".encode()
-    for at in range(0, count, 1000):
-        addresses = range(at, min(at + 1000, count))
-        yield "".join(f", Zoë <z{number:06}@bücher.example>" for number in addresses).encode()
+    yield from numbered(", Zoë <z{:06}@bücher.example>", count)
     yield b"\r\n\r\nx\r\n"
 
 
 def large_group(count):
     """One group of so many addresses."""
     yield "To: Bücherfreunde: z@bücher.example".encode()
-    for at in range(0, count, 1000):
-        addresses = range(at, min(at + 1000, count))
-        yield "".join(f", z{number:06}@bücher.example" for number in addresses).encode()
+    yield from numbered(", z{:06}@bücher.example", count)
     yield b";\r\n\r\nx\r\n"
 
 
@@ -119,9 +112,7 @@ def empty_places(count):
 def comments_between(count):
     """So many comments between two addresses."""
     yield "To: Zoë <z@example.org>".encode()
-    for at in range(0, count, 1000):
-        comments = range(at, min(at + 1000, count))
-        yield "".join(f" (été {number:06})" for number in comments).encode()
+    yield from numbered(" (été {:06})", count)
     yield b", a@example.org\r\n\r\nx\r\n"
 
 
@@ -133,9 +124,7 @@ def quoted_local_part(size):
 def many_parameters(count):
     """So many parameters, each beyond ASCII and short enough for one piece."""
     yield "Content-Disposition: attachment".encode()
-    for at in range(0, count, 1000):
-        parameters = range(at, min(at + 1000, count))
-        yield "".join(f"; name{number:06}=\"Größe {number:06}\"" for number in parameters).encode()
+    yield from numbered("; name{0:06}=\"Größe {0:06}\"", count)
     yield b"\r\n\r\nx\r\n"
 
 
