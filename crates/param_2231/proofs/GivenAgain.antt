@@ -51,7 +51,7 @@ lower_base b is = record {
   ascii = lower-all is_ascii lower-ascii b is.ascii;
 }
 
-core_name : (piece : Piece) → HasCore piece → IsName piece.base
+pub core_name : (piece : Piece) → HasCore piece → IsName piece.base
 core_name piece has =
     let c = has.is_core in
     let b : List ℕ = c.parts.base in
@@ -92,14 +92,14 @@ says_good true true said piece h says =
     let text : list_all is_octet says.0 ≡ true = rest_all is_octet (is.language ++ 39 ∷ []) says.0 (ap (list_all is_octet) (append_assoc is.language (39 ∷ []) says.0) ∙ behind) in
     record { names = is.charset_is; first = is.charset_first; octets = escaped-octets says.0 piece.octets says.2 text }
 
-core_good : (piece : Piece) → HasCore piece → IsGood piece
+pub core_good : (piece : Piece) → HasCore piece → IsGood piece
 core_good piece has =
     let c = has.is_core in
     let whole : list_all is_octet (octets_of (c.atom ∷ c.equals ∷ c.value)) ≡ true = sym (ap (λ ts. list_all is_octet (octets_of ts)) c.core_is) ∙ has.stands.octets in
     let value : list_all is_octet (octets_of c.value) ≡ true = rest_all is_octet c.equals.octets (octets_of c.value) (rest_all is_octet c.atom.octets (octets_of (c.equals ∷ c.value)) whole) in
     says_good c.parts.is_extended (is_first c.parts.number) (content c.value) piece (content_octets c.value value) c.says
 
-all_good : (pieces : List Piece) → AllByRecursion HasCore pieces → AllByRecursion IsGood pieces
+pub all_good : (pieces : List Piece) → AllByRecursion HasCore pieces → AllByRecursion IsGood pieces
 all_good [] all = tt
 all_good (p ∷ pieces) all = (core_good p all.0, all_good pieces all.1)
 
@@ -118,7 +118,7 @@ joined_writes parts all =
     (flat_all is_name_octet (λ (p : Piece). p.charset) (numbered 0 parts) (λ p good. good.names) zeroth) (flat_all (λ x. not (x == 39)) (λ (p : Piece). p.charset) (numbered 0 parts) (λ p good. good.first) zeroth)
     (flat_all is_octet (λ (p : Piece). p.octets) (first_parts (length parts) parts) (λ p good. good.octets) (first_good (length parts) parts all))
 
-unit_at_writes : (all : List Piece) (p : Piece) → AllByRecursion IsGood all → IsGood p → CanBeWritten (unit_at all p)
+pub unit_at_writes : (all : List Piece) (p : Piece) → AllByRecursion IsGood all → IsGood p → CanBeWritten (unit_at all p)
 unit_at_writes all p good is = elim (cases_Bool (is_some p.number)) [
   | inl s ↦ subst CanBeWritten (sym (cond-true _ _ _ s)) (joined_writes (parts_named p.base all) (filter_all IsGood (is_part_of p.base) all good))
   | inr u ↦ subst CanBeWritten (sym (cond-false _ _ _ u)) (unit_writes p.charset p.octets is.names is.first is.octets)

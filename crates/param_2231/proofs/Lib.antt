@@ -32,3 +32,4 @@ pub mod SameOctets
 pub mod GlobalPlaces
 pub mod GlobalLemmas
 pub mod SaidTrees
+pub mod WrittenParamLemmas

@@ -124,7 +124,7 @@ lines_of (w ∷ ws) all = (ascii_line w all.0.ascii all.0.line, lines_of ws all.
 -- ---- what is made of a main part, pieces and comments
 
 -- A main part, pieces that were made, and the pieces of comments are read as that.
-made_again : (kind : ParamKind) (open_global : Bool) (main : List ℕ) (params : List ParamValue) (values : List CommentValue) (w : List ℕ) (made : List Piece) (comments written : List (List ℕ))
+pub made_again : (kind : ParamKind) (open_global : Bool) (main : List ℕ) (params : List ParamValue) (values : List CommentValue) (w : List ℕ) (made : List Piece) (comments written : List (List ℕ))
     → MainAgain kind (served_main open_global kind main) w → AllByRecursion IsMade made → AreParams made params → AreWritableComments comments → AreLineComments comments
     → CommentsSay comments values → CommentsPieces comments written → AreParamsAgain kind open_global main params values (with_semicolons (w ∷ written_all made) ++ written)
 made_again kind open_global main params values w made comments written again are_made are_params writable plain say pieces_are =

@@ -10,3 +10,4 @@ pub mod ParamsReadBack
 pub mod Parts
 pub mod Given
 pub mod GlobalTypes
+pub mod WrittenParam

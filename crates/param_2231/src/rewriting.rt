@@ -3,8 +3,9 @@ ghost use Rattle.std.specs.Prelude.{◌≡◌, ◌<◌, ◌++◌, ◌∷◌, [],
 ghost use Rattle.std.specs.Str.{str_to_ascii_lowercase};
 ghost use Rattle.field_tokens.specs.declared.Style.TheVariants.{Mime};
 ghost use Rattle.field_tokens.specs.Tokens.{HasTokens};
-ghost use Rattle.field_tokens.specs.Comments.{AddsPieces};
-ghost use Rattle.param_2231.specs.Joining.{ParamValue, params_of, AreRoles, HasSaidBody};
+ghost use Rattle.field_tokens.specs.Comments.{AddsPieces, CommentValue};
+ghost use Rattle.param_2231.specs.Joining.{ParamValue, params_of, AreRoles, HasSaidBody, SaysParams};
+ghost use Rattle.param_2231.specs.ParamsReadBack.{AreParamsAgain};
 ghost use Rattle.encoded_words.specs.Words.{Text};
 ghost use Rattle.encoded_words.specs.Values.{value_of};
 ghost use Rattle.param_2231.specs.Parts.{IsWritableUnit};
@@ -255,7 +256,10 @@ pub fn rewrite_params(
     text: &[u8],
     open_global: bool,
 ) -> Result<Vec<Octets>, ParamFault>
-    ensures ok { IfOk result (λ pieces. ParamsPieces kind open_global text.now pieces.items) }
+    ensures layout { IfOk result (λ pieces. ParamsPieces kind open_global text.now pieces.items) }
+    // With a space between any two they are read as the same parameters and comments.
+    ensures read_back { IfOk result (λ pieces. (main : List ℕ) (params : List ParamValue) (comments : List CommentValue)
+        → SaysParams kind text.now main params comments → AreParamsAgain kind open_global main params comments pieces.items) }
     ensures malformed { result ≡ Err ParamFault.Malformed → (main : List ℕ) (params : List ParamValue)
         → ¬ HasSaidBody kind text.now main params }
 {
@@ -333,6 +337,23 @@ mod tests {
                     "attachment;",
                     "filename*0*=UTF-8''%C3%A9%C3%A9%C3%A9%C3%A9%C3%A9%C3%A9%C3%A9%C3%A9%C3%A9;",
                     "filename*1*=%E3%81%82"
+                ]
+            )?
+        );
+        Ok(())
+    }
+
+    #[test]
+    fn octets_of_another_charset_are_cut_anywhere(rt: HostRuntime) -> Result<(), Fail> {
+        assert!(rt;
+            has_pieces(
+                rt.alloc(),
+                ParamKind::Disposition,
+                "a;x*=iso-8859-1''aéééééééééé",
+                &[
+                    "a;",
+                    "x*0*=iso-8859-1''a%C3%A9%C3%A9%C3%A9%C3%A9%C3%A9%C3%A9%C3%A9%C3%A9%C3%A9%C3;",
+                    "x*1*=%A9"
                 ]
             )?
         );

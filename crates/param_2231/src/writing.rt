@@ -6,6 +6,7 @@ ghost use Rattle.field_tokens.specs.Comments.{AddsPieces};
 ghost use Rattle.param_2231.specs.Escapes.{escaped};
 ghost use Rattle.param_2231.specs.Layout.{number_digits, charset_of as charset_value, octets_in as octets_value, IsPartOf, charset_part, whole_piece, numbered_piece, is_short as is_short_value, ParamPieces};
 ghost use Rattle.param_2231.specs.Parts.{IsCuttable, IsWritableUnit, IsFitting, IsLastBoundary, IsLastEnd};
+ghost use Rattle.param_2231.specs.WrittenParam.{ComesInParams, ReadsAsOne};
 
 use crate::escapes::{escaped_len, push_escaped};
 use encoded_words::Unit;
@@ -235,8 +236,9 @@ pub fn write_param(
     value: &Unit,
     pieces: &mut Vec<Octets>,
 ) -> Result<(), Memory>
-    requires { IsWritableUnit (value_of value.now) }
-    ensures { OnOk result (AddsPieces (ParamPieces false name.now (value_of value.now)) pieces.old.items pieces.new.items) }
+    requires { ComesInParams name.now (value_of value.now) }
+    ensures layout { OnOk result (AddsPieces (ParamPieces false name.now (value_of value.now)) pieces.old.items pieces.new.items) }
+    ensures read_back { OnOk result (AddsPieces (ReadsAsOne name.now (value_of value.now)) pieces.old.items pieces.new.items) }
 {
     push_param(alloc, name, value, false, pieces)
 }
@@ -244,23 +246,26 @@ pub fn write_param(
 #[cfg(test)]
 mod tests {
     use super::*;
+    use crate::{ParamKind, read_params};
     use std::test::Fail;
 
     #[test]
-    fn octets_of_another_charset_are_cut_anywhere(rt: HostRuntime) -> Result<(), Fail> {
-        let unit = Unit::Opaque {
-            charset: Octets::from_slice(rt.alloc(), b"iso-8859-1").map_err(|_| "memory")?,
-            octets: Octets::from_slice(rt.alloc(), &[0xE9; 21]).map_err(|_| "memory")?,
-            source: Octets::new(rt.alloc()),
+    fn a_parameter_is_written_by_itself(rt: HostRuntime) -> Result<(), Fail> {
+        let text = b"a; X*=iso-8859-1''%E9";
+        let Ok(params) = read_params(rt.alloc(), ParamKind::Disposition, text) else {
+            return Err(Fail::from("no parameters"));
+        };
+        let [param, ..] = params.list.as_slice() else {
+            return Err(Fail::from("no parameter"));
         };
         let mut pieces = Vec::new(rt.alloc());
-        write_param(rt.alloc(), b"x", &unit, &mut pieces).map_err(|_| "memory")?;
-        assert_eq!(rt; pieces.len(), 2);
-        assert_eq!(rt;
-            pieces[0].as_slice(),
-            b"x*0*=iso-8859-1''%E9%E9%E9%E9%E9%E9%E9%E9%E9%E9%E9%E9%E9%E9%E9%E9%E9%E9%E9%E9".as_slice()
-        );
-        assert_eq!(rt; pieces[1].as_slice(), b"x*1*=%E9".as_slice());
+        write_param(rt.alloc(), param.name.as_slice(), &param.value, &mut pieces).map_err(
+            |_| "memory",
+        )?;
+        let [piece] = pieces.as_slice() else {
+            return Err(Fail::from("other pieces"));
+        };
+        assert_eq!(rt; piece.as_slice(), b"x*=iso-8859-1''%E9".as_slice());
         Ok(())
     }
 }
