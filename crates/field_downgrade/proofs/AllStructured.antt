@@ -12,7 +12,7 @@ use Rattle.field_downgrade.specs.Kinds.{kind_named}
 use Rattle.field_downgrade.specs.Layout.{made_of, spaced}
 use Rattle.field_downgrade.specs.Steps.{HasNoPieces, IsOther, KeepsWords}
 use Rattle.field_downgrade.specs.Stands.{BeginsHyphen, IsHighField, ByHyphen, HasHighLayout, OfPieces, Encapsulated, KeptMalformed, downgraded_of, keeps_name}
-use Rattle.field_downgrade.proofs.TrimLemmas.{trimmed}
+use Rattle.utf8_fields.proofs.TrimLemmas.{trimmed}
 use Rattle.field_downgrade.proofs.KindValues.{decide_pieces, no_form_no_pieces}
 use Rattle.field_downgrade.proofs.StructuredFields.{value_utf8}
 use Rattle.field_downgrade.proofs.StructuredWriting.{aside_why, kept_why}

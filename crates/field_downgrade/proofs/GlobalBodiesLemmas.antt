@@ -1,6 +1,6 @@
 -- What a body with `rfc822` in place of `global` is.
-use Rattle.std.proofs.Common.{◌≡◌, ℕ, ◌+◌, ◌<◌, true, List, [], ◌∷◌, ◌++◌, length, take, drop, refl, sym, ap, ◌∙◌, subst, arith}
-use Rattle.std.proofs.lemmas.Bool.{and_parts, and_from}
+use Rattle.std.proofs.Common.{◌≡◌, ℕ, ◌+◌, ◌<◌, Bool, true, List, [], ◌∷◌, ◌++◌, length, take, drop, refl, sym, ap, ◌∙◌, subst, arith}
+use Rattle.std.proofs.lemmas.Bool.{and_parts}
 use Rattle.std.proofs.lemmas.Bool.Decides.{nat_tests}
 use Rattle.std.proofs.lemmas.List.{append_assoc, append_cancel_left, length-append, drop_at}
 use Rattle.std.proofs.lemmas.List.Folds.{list_all-append}
@@ -14,6 +14,7 @@ use Rattle.mail_wire.specs.Spans.{Stops}
 use Rattle.mail_wire.proofs.Folded.{without_ends, without_ends-append, unfolded-folded, IsFolded-append, IsFolded-plain}
 use Rattle.mail_wire.proofs.SpanLemmas.{span_once}
 use Rattle.encoded_words.proofs.BWords.{ascii_literal}
+use Rattle.encoded_words.proofs.Octets.{all_append}
 use Rattle.field_tokens.proofs.TokenLines.{before_ascii, all_ascii, BeginsAscii}
 use Rattle.utf8_fields.specs.Parts.{FieldParts, field_octets, HasParts, HasValue}
 use Rattle.utf8_fields.proofs.OneValue.{IsTrimmed-once}
@@ -131,13 +132,12 @@ ChangesGlobal-value body changed is c =
       whole = unfolded-folded changed (ChangesGlobal-folded body changed is c) ∙ shown ∙ joined;
     }
 
--- it is ASCII where the body is
-pub ChangesGlobal-ascii : (body changed : List ℕ) → ChangesGlobal body changed → list_all is_ascii body ≡ true → list_all is_ascii changed ≡ true
-ChangesGlobal-ascii body changed c ascii =
-    let front = and_parts (list_all is_ascii c.before) (list_all is_ascii (c.word ++ c.after)) (sym (list_all-append is_ascii c.before (c.word ++ c.after)) ∙ sym (ap (list_all is_ascii) c.whole) ∙ ascii) in
-    let rest = and_parts (list_all is_ascii c.word) (list_all is_ascii c.after) (sym (list_all-append is_ascii c.word c.after) ∙ front.1) in
-    ap (list_all is_ascii) c.changed_is ∙ list_all-append is_ascii c.before (codes "rfc822" ++ c.after)
-    ∙ and_from (list_all is_ascii c.before) (list_all is_ascii (codes "rfc822" ++ c.after)) front.0 rest.1
+-- what holds of each octet of the body, and of the type, holds of each octet of the changed one
+pub ChangesGlobal-all : (p : ℕ → Bool) → list_all p (codes "rfc822") ≡ true → (body changed : List ℕ) → ChangesGlobal body changed → list_all p body ≡ true → list_all p changed ≡ true
+ChangesGlobal-all p type body changed c all =
+    let front = and_parts (list_all p c.before) (list_all p (c.word ++ c.after)) (sym (list_all-append p c.before (c.word ++ c.after)) ∙ sym (ap (list_all p) c.whole) ∙ all) in
+    let rest = and_parts (list_all p c.word) (list_all p c.after) (sym (list_all-append p c.word c.after) ∙ front.1) in
+    ap (list_all p) c.changed_is ∙ all_append p c.before (codes "rfc822" ++ c.after) front.0 (all_append p (codes "rfc822") c.after type rest.1)
 
 ascii_below : (x : ℕ) → is_ascii x ≡ true → x < 128
 ascii_below x h = grind (arith, nat_tests)

@@ -3,6 +3,7 @@ pub mod Places
 pub mod Pieces
 pub mod ReadBack
 pub mod Made
+pub mod NulLemmas
 pub mod WordLemmas
 pub mod AllWords
 pub mod LineLemmas
@@ -12,7 +13,6 @@ pub mod OneMeaning
 pub mod BlockFields
 pub mod UnbuiltLemmas
 pub mod MessageLemmas
-pub mod TrimLemmas
 pub mod PlainReading
 pub mod PlainTextLemmas
 pub mod TypedLemmas

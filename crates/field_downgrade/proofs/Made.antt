@@ -109,14 +109,23 @@ words_are white text b_words h u are =
     let whole : text ≡ concat are.chunks = are.whole ∙ append-nil (concat are.chunks) in
     rw (are.spelled) (chunks_are white are.chunks h are.are_chunks (subst IsUtf8 whole u))
 
+-- the text of the B words of a segment
+pub gives_utf8 : (side : Side) (run : List ℕ) (s : Segment) (pieces : List Piece) → AreWords (segment_words s) → AreUtf8 (segment_words s) → list_all is_white run ≡ true
+    → (g : Gives side run s pieces) → IsUtf8 (g.left ++ (plain_text s.core ++ g.right))
+gives_utf8 side run s pieces are u white g =
+    let are_core = AreWords-front s.core s.copied are in
+    let left = left_white side run g.left g.white white g.cuts_left in
+    let right = right_white (first_side s.copied) (last_run s.core) g.right g.next (last_white s.core are_core) g.cuts_right in
+    IsUtf8-append g.left (plain_text s.core ++ g.right) (white_utf8 g.left left.0)
+    (IsUtf8-append (plain_text s.core) g.right (plain_utf8 s.core are_core (AreUtf8-front s.core s.copied u)) (white_utf8 g.right right.0))
+
 gives_are : (side : Side) (run : List ℕ) (s : Segment) (pieces : List Piece) → IsSegment s → AreWords (segment_words s) → AreUtf8 (segment_words s) → list_all is_white run ≡ true
     → Gives side run s pieces → ArePieces pieces
 gives_are side run s pieces is are u white g =
     let are_core = AreWords-front s.core s.copied are in
     let left = left_white side run g.left g.white white g.cuts_left in
     let right = right_white (first_side s.copied) (last_run s.core) g.right g.next (last_white s.core are_core) g.cuts_right in
-    let text = IsUtf8-append g.left (plain_text s.core ++ g.right) (white_utf8 g.left left.0)
-    (IsUtf8-append (plain_text s.core) g.right (plain_utf8 s.core are_core (AreUtf8-front s.core s.copied u)) (white_utf8 g.right right.0)) in
+    let text = gives_utf8 side run s pieces are u white g in
     rw (g.pieces_are) (ArePieces-append (word_pieces g.white g.b_words) (copied_pieces g.next s.copied)
     (words_are g.white (g.left ++ (plain_text s.core ++ g.right)) g.b_words left.1 text g.are_b_words) (copied_are g.next s.copied right.1 (AreWords-back s.core s.copied are) is.copied))
 

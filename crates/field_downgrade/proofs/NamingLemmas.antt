@@ -4,7 +4,7 @@ use Rattle.std.specs.List.{list_all}
 use Rattle.std.proofs.lemmas.Bool.{and_parts, both_ways}
 use Rattle.std.proofs.lemmas.List.{append_cancel_left, append_cancel_right}
 use Rattle.std.proofs.lemmas.List.Folds.{list_all-append}
-use Rattle.encoded_words.proofs.Octets.{all_append}
+use Rattle.encoded_words.proofs.Octets.{all_append, all_cons}
 use Rattle.mail_wire.specs.Octets.{is_ascii, is_white}
 use Rattle.mail_wire.specs.Folds.{unfolded, IsFolded}
 use Rattle.param_2231.specs.Joining.{SaysParams}
@@ -18,7 +18,7 @@ use Rattle.field_downgrade.specs.Kinds.{kind_named}
 use Rattle.field_downgrade.specs.GlobalBodies.{ChangesGlobal}
 use Rattle.field_downgrade.specs.Stands.{IsAsciiField, NamesMessage, with_body, Changed, Renamed, IsSameMeaning, Parameters, SaysAs}
 use Rattle.field_downgrade.specs.Message.{IsServed}
-use Rattle.field_downgrade.proofs.TrimLemmas.{trimmed}
+use Rattle.utf8_fields.proofs.TrimLemmas.{trimmed}
 use Rattle.field_downgrade.proofs.OneMeaning.{HasValue-once}
 use Rattle.field_downgrade.proofs.Rewriting.{IsServed-kept}
 use Rattle.field_downgrade.proofs.StructuredFields.{structured_no_hyphen}
@@ -26,7 +26,8 @@ use Rattle.param_2231.proofs.ParamsOnce.{SaysParams-once}
 use Rattle.param_2231.proofs.DecideParams.{decide_params}
 use Rattle.param_2231.proofs.GlobalLemmas.{decide_global, global_read}
 use Rattle.field_downgrade.proofs.GlobalBodiesPlaces.{ChangesGlobal-some}
-use Rattle.field_downgrade.proofs.GlobalBodiesLemmas.{ChangesGlobal-value, ChangesGlobal-ascii, ChangesGlobal-parts}
+use Rattle.field_downgrade.proofs.GlobalBodiesLemmas.{ChangesGlobal-value, ChangesGlobal-all, ChangesGlobal-parts}
+use Rattle.field_downgrade.proofs.NulLemmas.{KeepsNoNul, KeepsNoNul-from, not_nul}
 
 decide_type : (kind : Kind) → (kind ≡ Params Content) ⊎ ¬ (kind ≡ Params Content)
 decide_type Unstructured = inr (λ e. cc e)
@@ -61,15 +62,16 @@ decide_named octets f is = elim (decide_type (kind_named f.name)) [
       ]
 ]
 
--- the field without its body
-frame_ascii : (f : FieldParts) (changed : List ℕ) → list_all is_ascii (field_octets f) ≡ true → (list_all is_ascii f.body ≡ true → list_all is_ascii changed ≡ true)
-    → list_all is_ascii (field_octets (with_body f changed)) ≡ true
-frame_ascii f changed ascii imp =
-    let name = and_parts (list_all is_ascii f.name) (list_all is_ascii (f.white ++ 58 ∷ (f.body ++ f.ending))) (sym (list_all-append is_ascii f.name (f.white ++ 58 ∷ (f.body ++ f.ending))) ∙ ascii) in
-    let white = and_parts (list_all is_ascii f.white) (list_all is_ascii (f.body ++ f.ending)) (sym (list_all-append is_ascii f.white (58 ∷ (f.body ++ f.ending))) ∙ name.1) in
-    let body = and_parts (list_all is_ascii f.body) (list_all is_ascii f.ending) (sym (list_all-append is_ascii f.body f.ending) ∙ white.1) in
-    all_append is_ascii f.name (f.white ++ 58 ∷ (changed ++ f.ending)) name.0
-    (all_append is_ascii f.white (58 ∷ (changed ++ f.ending)) white.0 (all_append is_ascii changed f.ending (imp body.0) body.1))
+-- the field with another body
+frame_all : (p : ℕ → Bool) → p 58 ≡ true → (f : FieldParts) (changed : List ℕ) → list_all p (field_octets f) ≡ true → (list_all p f.body ≡ true → list_all p changed ≡ true)
+    → list_all p (field_octets (with_body f changed)) ≡ true
+frame_all p colon f changed all imp =
+    let name = and_parts (list_all p f.name) (list_all p (f.white ++ 58 ∷ (f.body ++ f.ending))) (sym (list_all-append p f.name (f.white ++ 58 ∷ (f.body ++ f.ending))) ∙ all) in
+    let white = and_parts (list_all p f.white) (list_all p (58 ∷ (f.body ++ f.ending))) (sym (list_all-append p f.white (58 ∷ (f.body ++ f.ending))) ∙ name.1) in
+    let behind = and_parts (p 58) (list_all p (f.body ++ f.ending)) white.1 in
+    let body = and_parts (list_all p f.body) (list_all p f.ending) (sym (list_all-append p f.body f.ending) ∙ behind.1) in
+    all_append p f.name (f.white ++ 58 ∷ (changed ++ f.ending)) name.0
+    (all_append p f.white (58 ∷ (changed ++ f.ending)) white.0 (all_cons p 58 (changed ++ f.ending) colon (all_append p changed f.ending (imp body.0) body.1)))
 
 same_body : (f : FieldParts) (changed : List ℕ) → field_octets (with_body f changed) ≡ field_octets f → changed ≡ f.body
 same_body f changed e =
@@ -85,8 +87,16 @@ named_parts octets made n =
     let ascii : list_all is_ascii (field_octets n.f) ≡ true = subst (λ xs. list_all is_ascii xs ≡ true) is.spelled n.is_field.ascii in
     record {
       is_field = subst (λ xs. HasParts xs (with_body n.f n.changed)) (sym n.made_is) (ChangesGlobal-parts octets n.f n.changed is n.changes);
-      ascii = rw (n.made_is) (frame_ascii n.f n.changed ascii (ChangesGlobal-ascii n.f.body n.changed n.changes));
+      ascii = rw (n.made_is) (frame_all is_ascii refl n.f n.changed ascii (ChangesGlobal-all is_ascii refl n.f.body n.changed n.changes));
     }
+
+-- it gains no NUL
+named_lacks : (octets made : List ℕ) → NamesMessage octets made → KeepsNoNul octets made
+named_lacks octets made n =
+    KeepsNoNul-from octets made
+    (λ all.
+    let spelled : list_all not_nul (field_octets n.f) ≡ true = subst (λ xs. list_all not_nul xs ≡ true) n.is_field.is_field.spelled all in
+    rw (n.made_is) (frame_all not_nul refl n.f n.changed spelled (ChangesGlobal-all not_nul refl n.f.body n.changed n.changes)))
 
 named_means : (octets made : List ℕ) → (n : NamesMessage octets made) → IsSameMeaning true n.f (with_body n.f n.changed)
 named_means octets made n =
@@ -127,6 +137,7 @@ IsServed-named octets made n =
         is_field = n.is_field.is_field;
         made_field = parts.is_field;
         ending = refl;
+        no_nul = named_lacks octets made n;
         no_hyphen = λ not_ascii. absurd (both_ways (list_all is_ascii octets) not_ascii n.is_field.ascii);
       };
     }

@@ -18,6 +18,7 @@ use Rattle.field_downgrade.specs.declared.field.Rewrite.{Rewrite}
 use Rattle.field_downgrade.specs.Views.{made_from}
 use Rattle.field_downgrade.specs.Message.{IsServed}
 use Rattle.field_downgrade.proofs.Made.{ArePieces, IsSameMeaning-made, HasParts-made, HasParts-pieces, pieces-ascii, field_ascii, words_are}
+use Rattle.field_downgrade.proofs.NulLemmas.{LackNul, LackNul-spaced, LackNul-words, KeepsNoNul-made, KeepsNoNul-pieces}
 use Rattle.field_downgrade.proofs.KindValues.{PiecesAs-says, PiecesAs-read}
 use Rattle.field_downgrade.proofs.AllStructured.{decide_words}
 use Rattle.field_downgrade.proofs.StructuredFields.{field_high, ArePieces-spaced, IsSameMeaning-pieces, KeepsValue-words, value_utf8, value_some, value_high, still_malformed, structured_no_hyphen, kept_structured, pieces_no_hyphen}
@@ -47,7 +48,15 @@ IsServed-words open_global octets made f high keeps m =
       stands = Ascii f g high (record { is_field = made_field; ascii = ascii })
           (SameMeaning (IsSameMeaning-made open_global octets f m.words m.pieces high.is_field keeps m.has_words m.are_utf8 m.have_pieces));
       ascii = ascii;
-      lines = record { f = f; g = g; is_field = high.is_field; made_field = made_field; ending = refl; no_hyphen = λ _. keeps.no_hyphen };
+      lines = record {
+        f = f;
+        g = g;
+        is_field = high.is_field;
+        made_field = made_field;
+        ending = refl;
+        no_nul = KeepsNoNul-made octets made f m.words m.pieces high.is_field m.has_words m.are_utf8 m.have_pieces m.made_is;
+        no_hyphen = λ _. keeps.no_hyphen;
+      };
     }
 
 -- what is known of another made field
@@ -57,6 +66,7 @@ record IsOtherMade (open_global : Bool) (octets made : List ℕ) (f g : FieldPar
   made_is : made ≡ field_octets g
   pieces : List Piece
   are : ArePieces pieces
+  lack : LackNul pieces
   named : 0 < length g.name
   name : list_all is_name_octet g.name ≡ true
   white : g.white ≡ []
@@ -73,7 +83,15 @@ IsServed-of open_global octets made f g o =
       layout = Made f g o.high o.layout o.made_is;
       stands = Ascii f g o.high (record { is_field = made_field; ascii = ascii }) o.stands;
       ascii = ascii;
-      lines = record { f = f; g = g; is_field = o.high.is_field; made_field = made_field; ending = o.ending; no_hyphen = λ _. o.no_hyphen };
+      lines = record {
+        f = f;
+        g = g;
+        is_field = o.high.is_field;
+        made_field = made_field;
+        ending = o.ending;
+        no_nul = KeepsNoNul-pieces octets made f g o.pieces o.high.is_field o.are o.lack o.name o.white o.body o.ending o.made_is;
+        no_hyphen = λ _. o.no_hyphen;
+      };
     }
 
 words_not_other : (f : FieldParts) → kind_named f.name ≡ Unstructured → ¬ (BeginsHyphen f.name) → IsOther f → ⊥
@@ -92,6 +110,7 @@ IsServed-other o octets made f g high other (OfPieces value pieces has values g_
       made_is = made_is ∙ ap field_octets g_is;
       pieces = spaced pieces;
       are = ArePieces-spaced pieces read.lines;
+      lack = LackNul-spaced pieces read.lines;
       named = high.is_field.named;
       name = high.is_field.name;
       white = refl;
@@ -110,6 +129,7 @@ IsServed-other o octets made f g high other (Encapsulated value words aside has 
       made_is = made_is ∙ ap field_octets g_is;
       pieces = word_pieces 32 words;
       are = words_are 32 value words refl u are;
+      lack = LackNul-words 32 value words u are;
       named = omega (arith, length-append (codes "Downgraded-") f.name);
       name = list_all-append is_name_octet (codes "Downgraded-") f.name ∙ high.is_field.name;
       white = refl;
@@ -128,6 +148,7 @@ IsServed-other o octets made f g high other (KeptMalformed value words malformed
       made_is = made_is ∙ ap field_octets g_is;
       pieces = word_pieces 32 words;
       are = words_are 32 value words refl u are;
+      lack = LackNul-words 32 value words u are;
       named = high.is_field.named;
       name = high.is_field.name;
       white = refl;
@@ -209,6 +230,7 @@ IsServed-kept o octets is_any ascii fixed = record {
     is_field = is_any.has_parts;
     made_field = is_any.has_parts;
     ending = refl;
+    no_nul = λ lacks. lacks;
     no_hyphen = λ not_ascii. absurd (both_ways (list_all is_ascii octets) not_ascii ascii);
   };
 }

@@ -7,7 +7,7 @@ use Rattle.std.specs.Str.{bytes_eq, str_to_ascii_lowercase}
 use Rattle.mail_wire.specs.Octets.{is_white}
 use Rattle.utf8_fields.proofs.OneValue.{IsTrimmed-once}
 use Rattle.field_downgrade.specs.Typed.{is_no_semicolon, is_type_octet, utf8_type, CutsType, WritesType, IsTyped, WrittenSays, SaysTyped}
-use Rattle.field_downgrade.proofs.TrimLemmas.{trimmed}
+use Rattle.utf8_fields.proofs.TrimLemmas.{trimmed}
 use Rattle.field_downgrade.proofs.TypedReads.{decide_reads}
 use Rattle.field_downgrade.proofs.TypedLemmas.{cuts_once, not-IsTyped-cut, IsTyped-once}
 

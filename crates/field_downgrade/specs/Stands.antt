@@ -3,6 +3,7 @@ use Rattle.std.specs.Prelude.{◌≡◌, ℕ, Bool, true, false, ◌||◌, List,
 use Rattle.std.specs.List.{AllZip, list_all}
 use Rattle.std.specs.Str.{bytes_eq}
 use Rattle.mail_wire.specs.Octets.{is_ascii, same_name}
+use Rattle.mail_wire.specs.Message.{IsNul}
 use Rattle.encoded_words.specs.Words.{UnitValue, Text}
 use Rattle.encoded_words.specs.Units.{HasUnits}
 use Rattle.encoded_words.specs.Pieces.{AreBWords}
@@ -244,11 +245,12 @@ pub data Stands (octets made : List ℕ) (open_global : Bool) : Type 0 where
   Ascii : (f g : FieldParts) → IsHighField octets f → IsAsciiField made g → StandsSo open_global f g → Stands octets made open_global
 
 -- The made field is a field, so each of its further lines begins with white. Its first line doesn't begin with `-`, and
--- its last CRLF is there exactly where the original has it.
+-- its last CRLF is there exactly where the original has it, and it has no NUL where the original has none.
 pub record KeepsLines (octets made : List ℕ) : Type 0 where
   pub f : FieldParts
   pub g : FieldParts
   pub is_field : HasParts octets f
   pub made_field : HasParts made g
   pub ending : g.ending ≡ f.ending
+  pub no_nul : ((place : ℕ) → ¬ IsNul octets place) → (place : ℕ) → ¬ IsNul made place
   pub no_hyphen : list_all is_ascii octets ≡ false → ¬ BeginsHyphen g.name

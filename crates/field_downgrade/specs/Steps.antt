@@ -7,8 +7,6 @@ use Rattle.field_downgrade.specs.Words.{Word, AreWords, AreUtf8, HasWords, is_hi
 use Rattle.field_downgrade.specs.Layout.{IsCopied, begins_high, ends_high, last_side, Gives, HavePieces, made_of}
 use Rattle.encoded_words.specs.Folding.{Piece, made_body, word_pieces}
 use Rattle.encoded_words.specs.Pieces.{AreBWords}
-use Rattle.mail_wire.specs.Octets.{is_white}
-use Rattle.mail_wire.specs.Spans.{StopsBehind}
 use Rattle.utf8_fields.specs.Parts.{FieldParts, field_octets}
 use Rattle.field_downgrade.specs.declared.kind.Kind.{Kind}
 use Rattle.field_downgrade.specs.declared.kind.Kind.TheVariants.{Unstructured}
@@ -107,10 +105,3 @@ pub record AddsWordField (made_parts : List Piece → FieldParts) (value old new
   pub words : List (List ℕ)
   pub are_words : AreBWords value words
   pub added : new ≡ old ++ field_octets (made_parts (word_pieces 32 words))
-
--- the octets without the white at their end
-pub record TrimsEnd (octets trimmed : List ℕ) : Type 0 where
-  pub trail : List ℕ
-  pub white : list_all is_white trail ≡ true
-  pub whole : octets ≡ trimmed ++ trail
-  pub ends : StopsBehind is_white trimmed

@@ -14,12 +14,12 @@ use crate::global_bodies::change_global;
 use crate::kind::{is_type, keeps_words};
 use crate::segments::write_pieces;
 use crate::structured::push_structured;
-use crate::values::value_of;
 use crate::words::words;
 use mail_wire::text::is_ascii;
 use mail_wire::values::{Memory, Octets};
 use std::alloc::Global;
 use utf8_fields::parts::{Parts, split_field};
+use utf8_fields::values::value_of;
 
 /// A field as it is served: as it was, or made anew.
 #[derive(Debug, Drop)]

@@ -15,6 +15,5 @@ mod structured;
 mod tests;
 mod typed;
 mod unbuilt;
-mod values;
 mod word;
 mod words;

@@ -20,7 +20,6 @@ use crate::lines::begin_line;
 use crate::plain::rewrite_plain;
 use crate::received::rewrite_received;
 use crate::typed::rewrite_typed;
-use crate::values::value_of;
 use address_lists::phrase_lists::rewrite_phrases;
 use address_lists::{AddressFault, rewrite_list, rewrite_path};
 use encapsulated_fields::encapsulate;
@@ -30,6 +29,7 @@ use mail_wire::values::{Memory, Octets};
 use param_2231::{ParamFault, ParamKind, rewrite_params};
 use std::alloc::Global;
 use utf8_fields::parts::{Parts, split_ending};
+use utf8_fields::values::value_of;
 
 #[tactic(auto, unfolding(crate::specs::Stands::is_encoding_name))]
 fn is_encoding_name(name: &[u8]) -> bool

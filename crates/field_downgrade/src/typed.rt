@@ -5,11 +5,11 @@ ghost use Rattle.mail_wire.specs.Octets.{same_name};
 ghost use Rattle.encapsulated_fields.specs.AddressForms.{xtext_form};
 ghost use Rattle.field_downgrade.specs.Typed.{is_no_semicolon, utf8_type, CutsType, IsTyped, TypedPieces};
 
-use crate::values::trim;
 use encapsulated_fields::{read_xtext, xtext_of};
 use mail_wire::text::is_same_name;
 use mail_wire::values::{Memory, Octets};
 use std::alloc::Global;
+use utf8_fields::values::trim;
 
 fn find_semicolon(value: &[u8]) -> Option<usize>
     ensures { result ≡ position (λ x. x == 59) value.now }

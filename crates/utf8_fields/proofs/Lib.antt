@@ -9,6 +9,7 @@ pub mod NoFault
 pub mod OneField
 pub mod OneFault
 pub mod OneValue
+pub mod TrimLemmas
 pub mod LineShapes
 pub mod Bodies
 pub mod HaveParts

@@ -1,9 +1,11 @@
--- What the steps of reading a field answer.
-use Rattle.std.specs.Prelude.{◌≡◌, ◌⊎◌, ℕ, ◌+◌, ◌<◌, ◌≤◌, List, [], ◌∷◌, ◌++◌, length, drop, IsUtf8}
-use Rattle.std.specs.List.{All, concat}
+-- What the steps of reading a field and its value answer.
+use Rattle.std.specs.Prelude.{◌≡◌, ◌⊎◌, ℕ, ◌+◌, ◌<◌, ◌≤◌, true, List, [], ◌∷◌, ◌++◌, length, drop, IsUtf8}
+use Rattle.std.specs.List.{All, concat, list_all}
 use Rattle.std.specs.Str.Lossy.{utf8_valid_len}
 use Rattle.mail_wire.specs.Lines.{lines_of}
 use Rattle.mail_wire.specs.Message.{IsSound}
+use Rattle.mail_wire.specs.Octets.{is_white}
+use Rattle.mail_wire.specs.Spans.{StopsBehind}
 use Rattle.utf8_fields.specs.declared.block.FieldFault.{FieldFault}
 use Rattle.utf8_fields.specs.declared.block.FieldFault.TheVariants.{NotField, NotUtf8}
 use Rattle.utf8_fields.specs.declared.block.Field.{Field}
@@ -63,3 +65,10 @@ pub record HasRead (octets : List ℕ) (start : ℕ) (fields : List Field) (at :
   pub fields_are : AreFields before start fields at
   pub ends : 0 < length fields → EndsField (lines_of (drop at octets))
   pub fits : at ≤ length octets
+
+-- the octets without the white at their end
+pub record TrimsEnd (octets trimmed : List ℕ) : Type 0 where
+  pub trail : List ℕ
+  pub white : list_all is_white trail ≡ true
+  pub whole : octets ≡ trimmed ++ trail
+  pub ends : StopsBehind is_white trimmed

@@ -7,3 +7,4 @@ pub mod parts;
 pub mod reading;
 #[cfg(test)]
 mod tests;
+pub mod values;

@@ -2,6 +2,7 @@
 use crate::block::{Field, FieldFault, Fields};
 use crate::parts::split_field;
 use crate::reading::{read_block, read_block_at, write_block};
+use crate::values::value_of;
 use mail_wire::values::Span;
 use std::test::Fail;
 
@@ -116,5 +117,20 @@ fn has_parts(rt: &HostRuntime, octets: &[u8], parts: &[[&[u8]; 4]]) -> bool {
 fn fields_are_split(rt: HostRuntime) -> Result<(), Fail> {
     let parts: [[&[u8]; 4]; 2] = [[b"A", b" \t", b" b\r\n c", b"\r\n"], [b"B", b"", b"", b""]];
     assert!(rt; has_parts(&rt, b"A \t: b\r\n c\r\nB:", &parts));
+    Ok(())
+}
+
+#[test]
+fn values_are_unfolded_and_trimmed(rt: HostRuntime) -> Result<(), Fail> {
+    let rows = [
+        (&b" \t b\r\n c\t\r\n "[..], &b"b c"[..]),
+        (&b"b"[..], &b"b"[..]),
+        (&b" \t"[..], &b""[..]),
+        (&b""[..], &b""[..]),
+    ];
+    for (body, value) in rows {
+        let found = value_of(rt.alloc(), body)?;
+        assert!(rt; found.as_slice() == value);
+    }
     Ok(())
 }

@@ -3,7 +3,7 @@ ghost use Rattle.std.specs.Prelude.{IfOk};
 ghost use Rattle.mail_wire.specs.Octets.{is_white};
 ghost use Rattle.mail_wire.specs.Spans.{IsTrimmed};
 ghost use Rattle.utf8_fields.specs.Parts.{HasValue};
-ghost use Rattle.field_downgrade.specs.Steps.{TrimsEnd};
+ghost use Rattle.utf8_fields.specs.Steps.{TrimsEnd};
 
 use mail_wire::text::{is_white, split_white, unfold};
 use mail_wire::values::{Memory, Octets};
@@ -23,7 +23,8 @@ fn trim_end(octets: &[u8]) -> &[u8]
     rest
 }
 
-pub(crate) fn trim(octets: &[u8]) -> &[u8]
+/// The octets without the white at both ends.
+pub fn trim(octets: &[u8]) -> &[u8]
     ensures { IsTrimmed is_white octets.now result.now }
 {
     let (_, rest) = split_white(octets);

@@ -1,6 +1,6 @@
 use Rattle.std.proofs.Common.{sym, ◌∙◌}
-use Rattle.field_downgrade.proofs.TrimLemmas.{TrimsEnd-stop}
-use Rattle.field_downgrade.proofs.values.trim_end.Goals as goal
+use Rattle.utf8_fields.proofs.TrimLemmas.{TrimsEnd-stop}
+use Rattle.utf8_fields.proofs.values.trim_end.Goals as goal
 
 pub returns-then-not-is_white : goal.returns-then-not-is_white
 returns-then-not-is_white c =

@@ -1,6 +1,6 @@
 use Rattle.std.proofs.Common.{length}
-use Rattle.field_downgrade.proofs.TrimLemmas.{TrimsTo}
-use Rattle.field_downgrade.proofs.values.trim_end.Given as goal
+use Rattle.utf8_fields.proofs.TrimLemmas.{TrimsTo}
+use Rattle.utf8_fields.proofs.values.trim_end.Given as goal
 
 abbrev pub invariant-loop-last : goal.invariant-loop-last
 invariant-loop-last l = TrimsTo l.octets l.rest
