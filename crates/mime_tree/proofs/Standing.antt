@@ -1,0 +1,68 @@
+-- What is said of entities whose fields are written anew: shared words of the lemmas.
+use Rattle.std.proofs.Common.{◌≡◌, ℕ, ◌+◌, ◌≤◌, List, [], ◌∷◌, ◌++◌, Bool, false, length, Option, map}
+use Rattle.std.specs.List.{AllByRecursion, concat}
+use Rattle.mail_wire.specs.Message.{IsSound}
+use Rattle.utf8_fields.specs.declared.block.Field.{Field}
+use Rattle.utf8_fields.specs.Block.{AreFields, raw_of}
+use Rattle.utf8_fields.proofs.LineShapes.{AreLines, EndsOnce}
+use Rattle.mime_tree.specs.declared.entity.Entity.{Entity}
+use Rattle.mime_tree.specs.Marks.{is_delimiter, is_close}
+use Rattle.mime_tree.specs.Parts.{size}
+use Rattle.mime_tree.specs.Tree.{EntityRelation}
+use Rattle.mime_tree.specs.Rewriting.{FieldRelation, RewritesBlocks, AreSame}
+
+-- the text stands in the octets at this place
+pub record Stands (octets : List ℕ) (at : ℕ) (text : List ℕ) : Type 0 where
+  pub before : List ℕ
+  pub after : List ℕ
+  pub whole : octets ≡ before ++ (text ++ after)
+  pub place : length before ≡ at
+
+-- each line has its CRLF
+abbrev pub AreEnded : List (List ℕ) → Type 0
+AreEnded lines = AllByRecursion EndsOnce lines
+
+-- no line of these is one of the boundary
+pub record IsUnmarked (boundary line : List ℕ) : Type 0 where
+  pub delimiter : is_delimiter boundary line ≡ false
+  pub close : is_close boundary line ≡ false
+
+abbrev pub AreUnmarked : List ℕ → List (List ℕ) → Type 0
+AreUnmarked boundary lines = AllByRecursion (IsUnmarked boundary) lines
+
+-- the lines of a block whose fields were written anew
+pub record HasNewBlock (new : List ℕ) (at : ℕ) (header : List (List ℕ)) (made : List (List ℕ)) : Type 0 where
+  pub lines : List (List ℕ)
+  pub fields : List Field
+  pub end : ℕ
+  pub whole : concat lines ≡ concat made
+  pub fields_are : AreFields lines at fields end
+  pub raws : map (raw_of new) fields ≡ made
+  pub are : AreLines lines
+  pub sound : AllByRecursion IsSound lines
+  pub ended : AreEnded header → AreEnded lines
+  pub unmarked : (boundary : List ℕ) → AreUnmarked boundary header → AreUnmarked boundary lines
+
+-- The entities stand in order between these places.
+abbrev pub AreInOrder : ℕ → ℕ → List Entity → Type 0
+AreInOrder from to [] = from ≤ to
+AreInOrder from to (entity ∷ entities) = (from ≤ entity.at) × (entity.at ≤ entity.block.end) × AreInOrder entity.block.end to entities
+
+-- Lines at a place of the octets, with the blocks of these entities, gave new lines at a place of the new octets, of which this holds.
+pub record HasNewLines (IsMade : FieldRelation) (octets : List ℕ) (at : ℕ) (lines : List (List ℕ)) (entities : List Entity) (new : List ℕ) (new_at : ℕ) (made : List ℕ) (Holds : List (List ℕ) → List Entity → Type 0)
+    : Type 0 where
+  pub new_lines : List (List ℕ)
+  pub others : List Entity
+  pub whole : concat new_lines ≡ made
+  pub are : AreLines new_lines
+  pub sound : AllByRecursion IsSound lines → AllByRecursion IsSound new_lines
+  pub unmarked : (boundary : List ℕ) → AreUnmarked boundary lines → AreUnmarked boundary new_lines
+  pub holds : Holds new_lines others
+  pub same : AreSame IsMade octets (at + size lines) entities new (new_at + length made) others
+
+-- Where the one relation holds of lines, the other holds of the new ones.
+abbrev pub Keeps : FieldRelation → List ℕ → List ℕ → EntityRelation → EntityRelation → Type 0
+Keeps IsMade octets new IsOne IsOther =
+    (parent : Option ℕ) (digest : Bool) (number at : ℕ) (lines : List (List ℕ)) (entities : List Entity) (made : List ℕ) (new_at : ℕ) → IsOne parent digest number at lines entities
+    → AreLines lines → Stands octets at (concat lines) → RewritesBlocks IsMade octets at (at + size lines) entities made → Stands new new_at made
+    → HasNewLines IsMade octets at lines entities new new_at made (λ new_lines others. IsOther parent digest number new_at new_lines others)

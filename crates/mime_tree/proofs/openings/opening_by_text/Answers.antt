@@ -1,0 +1,11 @@
+use Rattle.mime_tree.proofs.OpeningLemmas.{opens-where, text-malformed}
+use Rattle.mime_tree.proofs.openings.opening_by_text.Goals as goal
+
+pub returns-in-Ok : goal.returns-in-Ok
+returns-in-Ok c = opens-where c.args.text.now _ _ _ c.opening_said.result c.in-Ok.ensures.ok c.opening_said.ensures
+
+pub returns-in-Err-Malformed : goal.returns-in-Err-Malformed
+returns-in-Err-Malformed c =
+    let a = c.in-Err-Malformed.is in
+    let b = c.in-Err-Malformed.field-0-is in
+    text-malformed c.args.text.now (c.read_params.ensures.malformed (cc (a, b)))

@@ -1,0 +1,11 @@
+pub mod Completing
+pub mod Marks
+pub mod Parts
+pub mod Openings
+pub mod Open
+pub mod Tree
+pub mod Faults
+pub mod Outlines
+pub mod Rewriting
+pub mod Reading
+pub mod Sections

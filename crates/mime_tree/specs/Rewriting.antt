@@ -1,0 +1,60 @@
+-- Octets whose header blocks are written anew, and the trees of both.
+use Rattle.std.specs.Prelude.{◌≡◌, ℕ, ◌⊎◌, List, [], ◌∷◌, ◌++◌, Bool, false, nat_eq, slice_range}
+use Rattle.std.specs.List.{AllZip, concat, starts_with}
+use Rattle.mail_wire.specs.Message.{IsNul}
+use Rattle.utf8_fields.specs.Parts.{FieldParts, HasParts}
+use Rattle.mime_tree.specs.declared.entity.Entity.{Entity}
+use Rattle.mime_tree.specs.declared.entity.Shape.TheVariants.{Leaf}
+use Rattle.mime_tree.specs.declared.openings.Opening.{Opening}
+use Rattle.mime_tree.specs.Marks.{dashes}
+use Rattle.mime_tree.specs.Openings.{Opens}
+use Rattle.mime_tree.specs.Tree.{raws_of}
+
+-- a field of this entity, by its raw octets, gave this made one
+abbrev pub FieldRelation : Type 1
+FieldRelation = Entity → List ℕ → List ℕ → Type 0
+
+-- The octets between these places with the blocks of the entities, which stand there in order, written anew: each field gave a made one. All else is copied.
+abbrev pub RewritesBlocks : FieldRelation → List ℕ → ℕ → ℕ → List Entity → List ℕ → Type 0
+RewritesBlocks IsMade octets from to [] made = made ≡ slice_range octets from to
+RewritesBlocks IsMade octets from to (entity ∷ entities) made =
+    (fields : List (List ℕ)) × (rest : List ℕ) × AllZip (IsMade entity) (raws_of octets entity.block) fields × (made ≡ slice_range octets from entity.at ++ (concat fields ++ rest))
+    × RewritesBlocks IsMade octets entity.block.end to entities rest
+
+-- The made field ends as the other one does, and has no NUL where that has none. Where it is another, its line can't be one of a boundary.
+pub record KeepsLine (raw made : List ℕ) : Type 0 where
+  pub f : FieldParts
+  pub g : FieldParts
+  pub is_field : HasParts raw f
+  pub made_field : HasParts made g
+  pub ending : g.ending ≡ f.ending
+  pub no_nul : ((place : ℕ) → ¬ IsNul raw place) → (place : ℕ) → ¬ IsNul made place
+  pub no_dashes : (made ≡ raw) ⊎ (starts_with nat_eq made dashes ≡ false)
+
+-- Made fields keep their lines, and open an entity as the others do.
+pub record KeepsTrees (IsMade : FieldRelation) (octets : List ℕ) : Type 0 where
+  pub lines : (entity : Entity) (raw made : List ℕ) → IsMade entity raw made → KeepsLine raw made
+  pub opens : (entity : Entity) (fields : List (List ℕ)) (digest : Bool) (opening : Opening) → AllZip (IsMade entity) (raws_of octets entity.block) fields
+      → Opens digest (raws_of octets entity.block) opening → Opens digest fields opening
+
+-- where the first of the entities begins, and with none where all ends
+abbrev pub next_place : ℕ → List Entity → ℕ
+next_place to [] = to
+next_place to (entity ∷ entities) = entity.at
+
+-- An entity of the octets, up to the next one's place, and one of the made octets: each field gave the made one, and what isn't in blocks is the same.
+pub record IsSameEntity (IsMade : FieldRelation) (octets : List ℕ) (entity : Entity) (next : ℕ) (made : List ℕ) (other : Entity) (other_next : ℕ) : Type 0 where
+  pub parent : other.parent ≡ entity.parent
+  pub depth : other.depth ≡ entity.depth
+  pub shape : other.shape ≡ entity.shape
+  pub fields : AllZip (IsMade entity) (raws_of octets entity.block) (raws_of made other.block)
+  pub behind : slice_range made other.block.end other_next ≡ slice_range octets entity.block.end next
+  pub content : entity.shape ≡ Leaf → slice_range made other.body other.end ≡ slice_range octets entity.body entity.end
+
+-- The entities of the octets and those of the made octets, in order.
+abbrev pub AreSame : FieldRelation → List ℕ → ℕ → List Entity → List ℕ → ℕ → List Entity → Type 0
+AreSame IsMade octets to [] made made_to [] = Unit {0}
+AreSame IsMade octets to [] made made_to (other ∷ others) = ⊥
+AreSame IsMade octets to (entity ∷ entities) made made_to [] = ⊥
+AreSame IsMade octets to (entity ∷ entities) made made_to (other ∷ others) =
+    IsSameEntity IsMade octets entity (next_place to entities) made other (next_place made_to others) × AreSame IsMade octets to entities made made_to others
