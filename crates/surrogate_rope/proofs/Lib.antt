@@ -1,0 +1,13 @@
+pub mod AddedFields
+pub mod AddedBlocks
+pub mod OpenGlobals
+pub mod RopeSizes
+pub mod EncodingLemmas
+pub mod NameLemmas
+pub mod FieldPairs
+pub mod SameTexts
+pub mod SameOpenings
+pub mod ServedLines
+pub mod Weaker
+pub mod BuiltRopes
+pub mod OneLayout

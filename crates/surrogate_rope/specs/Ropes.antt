@@ -1,0 +1,75 @@
+-- What a rope is of: pieces that give a surrogate, its entities, and how many fields were made anew.
+use Rattle.std.specs.Prelude.{◌≡◌, ℕ, ◌+◌, ◌≤◌, List, [], ◌∷◌, ◌++◌, if◌then◌else◌, length, slice_range}
+use Rattle.std.specs.List.{AllZip}
+use Rattle.std.specs.Str.{bytes_eq}
+use Rattle.mail_wire.specs.declared.values.Span.{Span}
+use Rattle.mime_tree.specs.declared.entity.Entity.{Entity}
+use Rattle.mime_tree.specs.Outlines.{Outline, outlines_of}
+use Rattle.mime_tree.specs.Rewriting.{FieldRelation}
+use Rattle.mime_tree.specs.Tree.{HasTree, raws_of}
+use Rattle.field_downgrade.specs.Stands.{HasFieldLayout}
+use Rattle.surrogate_rope.specs.Layout.{HasLayout, InEntity, IsSurrogate}
+
+-- a range of the message, or new octets
+pub data Piece : Type 0 where
+  Range : Span → Piece
+  New : List ℕ → Piece
+
+abbrev pub piece_octets : List ℕ → Piece → List ℕ
+piece_octets msg (Range span) = slice_range msg span.at (span.at + span.len)
+piece_octets msg (New octets) = octets
+
+abbrev pub piece_size : Piece → ℕ
+piece_size (Range span) = span.len
+piece_size (New octets) = length octets
+
+abbrev pub IsWithin : List ℕ → Piece → Type 0
+IsWithin msg (Range span) = span.at + span.len ≤ length msg
+IsWithin msg (New octets) = Unit {0}
+
+pub record RopeValue : Type 0 where
+  pub pieces : List Piece
+  pub entities : List Outline
+  pub rewritten : ℕ
+
+abbrev pub joined : List ℕ → List Piece → List ℕ
+joined msg [] = []
+joined msg (piece ∷ pieces) = piece_octets msg piece ++ joined msg pieces
+
+-- the octets that the rope gives with the message
+abbrev pub octets_of : List ℕ → RopeValue → List ℕ
+octets_of msg rope = joined msg rope.pieces
+
+-- how many octets pieces have
+abbrev pub size_of : List Piece → ℕ
+size_of [] = 0
+size_of (piece ∷ pieces) = piece_size piece + size_of pieces
+
+abbrev pub AreWithin : List ℕ → List Piece → Type 0
+AreWithin msg [] = Unit {0}
+AreWithin msg (piece ∷ pieces) = IsWithin msg piece × AreWithin msg pieces
+
+-- how many of the fields differ
+abbrev pub changed : List (List ℕ) → List (List ℕ) → ℕ
+changed [] others = 0
+changed (raw ∷ raws) [] = 0
+changed (raw ∷ raws) (other ∷ others) = (if bytes_eq raw other then 0 else 1) + changed raws others
+
+-- so many of the fields of the entities' blocks are others than those that they gave
+abbrev pub CountsChanged : FieldRelation → List ℕ → List Entity → ℕ → Type 0
+CountsChanged IsMade msg [] count = count ≡ 0
+CountsChanged IsMade msg (entity ∷ entities) count =
+    (fields : List (List ℕ)) × (rest : ℕ) × AllZip (IsMade entity) (raws_of msg entity.block) fields × (count ≡ changed (raws_of msg entity.block) fields + rest)
+    × CountsChanged IsMade msg entities rest
+
+-- The pieces give the layout of the message, which is a surrogate; the entities are those of the surrogate's tree; so many fields of the layout are others than the message's.
+pub record IsRopeOf (msg : List ℕ) (rope : RopeValue) : Type 0 where
+  pub entities : List Entity
+  pub tree : HasTree msg entities
+  pub within : AreWithin msg rope.pieces
+  pub layout : HasLayout msg entities (octets_of msg rope)
+  pub others : List Entity
+  pub made_tree : HasTree (octets_of msg rope) others
+  pub outlines : rope.entities ≡ outlines_of others
+  pub count : CountsChanged (InEntity HasFieldLayout msg) msg entities rope.rewritten
+  pub surrogate : IsSurrogate msg (octets_of msg rope)

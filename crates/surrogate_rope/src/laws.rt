@@ -1,0 +1,20 @@
+//! Laws of the definitions.
+ghost use Rattle.std.specs.Prelude.{◌≡◌, ℕ, List, Bool};
+ghost use Rattle.std.specs.List.{AllZip};
+ghost use Rattle.mime_tree.specs.declared.entity.Entity.{Entity};
+ghost use Rattle.mime_tree.specs.declared.openings.Opening.{Opening};
+ghost use Rattle.mime_tree.specs.Openings.{Opens};
+ghost use Rattle.mime_tree.specs.Tree.{HasTree, raws_of};
+ghost use Rattle.field_downgrade.specs.Message.{IsServed};
+ghost use Rattle.surrogate_rope.specs.Layout.{HasLayout, InEntity};
+
+/// The fields of a surrogate open an entity as the message's do.
+pub fn surrogates_open_alike()
+    ensures { (msg : List ℕ) (entity : Entity) (fields : List (List ℕ)) (digest : Bool) (opening : Opening) → AllZip (InEntity IsServed msg entity) (raws_of msg entity.block) fields
+        → Opens digest (raws_of msg entity.block) opening → Opens digest fields opening }
+{}
+
+/// A message has one layout at most.
+pub fn layouts_are_one()
+    ensures { (msg made other : List ℕ) (entities others : List Entity) → HasTree msg entities → HasTree msg others → HasLayout msg entities made → HasLayout msg others other → made ≡ other }
+{}
