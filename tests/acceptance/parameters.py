@@ -210,3 +210,31 @@ def parts_of(parameter):
 def escaped(octets):
     each = [octets[at : at + 1] for at in range(len(octets))]
     return b"".join(octet if UNESCAPED.fullmatch(octet) else b"%%%02X" % ord(octet) for octet in each)
+
+
+def without_global(body):
+    """The body of a type with `rfc822` in place of `global`, where it is message/global; the same body else."""
+    try:
+        main = read(body.replace(b"\r\n", b"").strip(b" \t"), True).main
+    except tokens.Malformed:
+        return body
+    if main.lower() != b"message/global":
+        return body
+    at = subtype_at(body)
+    return body[:at] + b"rfc822" + body[at + len(b"global") :]
+
+
+def subtype_at(body):
+    """Where the atom behind the slash stands. Folds may stand between the tokens, and in comments."""
+    unfolded = body.replace(b"\r\n", b"")
+    lead = len(unfolded) - len(unfolded.lstrip(b" \t"))
+    found = tokens.tokens(unfolded.strip(b" \t"), "Mime")
+    slash = found.index(SLASH)
+    atom = next(number for number in range(slash + 1, len(found)) if not found[number].is_blank())
+    left = lead + len(tokens.text_of(found[:atom]))
+    at = 0
+    while left or body.startswith(b"\r\n", at):
+        is_fold = body.startswith(b"\r\n", at)
+        at += 2 if is_fold else 1
+        left -= 0 if is_fold else 1
+    return at

@@ -11,8 +11,12 @@ import trace_rows
 from harness import differs
 from oracle import MESSAGE_MAX, outcome
 
-REFUSED = (7, b"refused\r\n")
 WORDS_REFUSED = (4, b"words refused\r\n")
+
+
+def refused(at, reason):
+    return 7, f"refused at {at}: {reason}\r\n".encode()
+
 
 CAFE = "Subject: café bar\r\n\r\nx\r\n".encode()
 CAFE_SURROGATE = b"Subject:\r\n =?UTF-8?B?Y2Fmw6k=?=\r\n bar\r\n\r\nx\r\n"
@@ -47,30 +51,61 @@ def of_messages():
         row("an empty line and a body", b"\r\nx: \xe9\r\n", 0, b"\r\nx: \xe9\r\n"),
         row("fields alone, without an empty line", b"A: b\r\nC: d\r\n", 0, b"A: b\r\nC: d\r\n"),
         row("an encoded word begun", "Subject: =?é\r\n\r\n", 0, b"Subject:\r\n =?UTF-8?B?PT/DqQ==?=\r\n\r\n"),
-        row("the first of two types", "Received: for é\r\n-x: é\r\nContent-Type: é\r\nContent-Type: a\r\n\r\n", 10, b"not built at 26\r\n"),
+        row("the first of two types decides", "Content-Type: é\r\nContent-Type: multipart/mixed; boundary=b\r\n\r\n--b\r\n\r\nt\r\n--b--\r\n", 0,
+            b"Content-Type:\r\n =?UTF-8?B?w6k=?=\r\nContent-Type: multipart/mixed; boundary=b\r\n\r\n--b\r\n\r\nt\r\n--b--\r\n"),
         row("a fold", "Subject: a\r\n é\r\n\r\n", 0, b"Subject:\r\n a\r\n =?UTF-8?B?w6k=?=\r\n\r\n"),
         row("an ASCII name with a hyphen first", b"-x: e\r\n\r\n", 0, b"-x: e\r\n\r\n"),
-        row("a content type", b"A: b\r\ncontent-TYPE: text/plain\r\n\r\n", 10, b"not built at 6\r\n"),
+        row("a content type", b"A: b\r\ncontent-TYPE: text/plain\r\n\r\n", 0, b"A: b\r\ncontent-TYPE: text/plain\r\n\r\n"),
         row("a content type in the body", b"A: b\r\n\r\nContent-Type: text/plain\r\n", 0, b"A: b\r\n\r\nContent-Type: text/plain\r\n"),
-        row("no colon", b"Subject", *REFUSED),
-        row("no colon, but CRLF", b"Subject\r\n", *REFUSED),
-        row("a fault comes before an unbuilt field", b"Content-Type: x\r\nSubject\r\n", *REFUSED),
-        row("no name", b": x\r\n", *REFUSED),
-        row("a fold before any field", b" x: y\r\n", *REFUSED),
-        row("NUL in the header", b"A: b\0\r\n\r\n", *REFUSED),
-        row("NUL in the body", b"A: b\r\n\r\nx\0\r\n", *REFUSED),
-        row("a bare CR", b"A: b\r\n\r\nx\ry\r\n", *REFUSED),
-        row("a bare LF", b"A: b\r\n\r\nx\ny\r\n", *REFUSED),
-        row("LF line ends", b"A: b\n\nx\n", *REFUSED),
-        row("no last CRLF", b"A: b\r\n\r\nx", *REFUSED),
-        row("CR last", b"A: b\r\n\r\nx\r", *REFUSED),
-        row("Latin-1", b"Subject: caf\xe9\r\n\r\n", *REFUSED),
-        row("a character cut off", b"Subject: \xe3\x81\r\n\r\n", *REFUSED),
-        row("an overlong form", b"Subject: \xc0\xaf\r\n\r\n", *REFUSED),
-        row("a surrogate", b"Subject: \xed\xa0\x80\r\n\r\n", *REFUSED),
-        row("beyond U+10FFFF", b"Subject: \xf4\x90\x80\x80\r\n\r\n", *REFUSED),
-        row("a message of 33,554,433 octets", of_size(MESSAGE_MAX + 1), *REFUSED),
+        row("no colon", b"Subject", *refused(0, "not a field")),
+        row("no colon, but CRLF", b"Subject\r\n", *refused(0, "not a field")),
+        row("a fault behind a type", b"Content-Type: x\r\nSubject\r\n", *refused(17, "not a field")),
+        row("no name", b": x\r\n", *refused(0, "not a field")),
+        row("a fold before any field", b" x: y\r\n", *refused(0, "not a field")),
+        row("NUL in the header", b"A: b\0\r\n\r\n", *refused(4, "nul")),
+        row("NUL in the body", b"A: b\r\n\r\nx\0\r\n", *refused(9, "nul")),
+        row("a bare CR", b"A: b\r\n\r\nx\ry\r\n", *refused(9, "bare cr")),
+        row("a bare LF", b"A: b\r\n\r\nx\ny\r\n", *refused(9, "bare lf")),
+        row("LF line ends", b"A: b\n\nx\n", *refused(4, "bare lf")),
+        row("no last CRLF", b"A: b\r\n\r\nx", 0, b"A: b\r\n\r\nx\r\n"),
+        row("no last CRLF in the header", b"A: b", 0, b"A: b\r\n"),
+        row("CR last", b"A: b\r\n\r\nx\r", *refused(9, "bare cr")),
+        row("Latin-1", b"Subject: caf\xe9\r\n\r\n", *refused(12, "not utf-8")),
+        row("a character cut off", b"Subject: \xe3\x81\r\n\r\n", *refused(9, "not utf-8")),
+        row("an overlong form", b"Subject: \xc0\xaf\r\n\r\n", *refused(9, "not utf-8")),
+        row("a surrogate", b"Subject: \xed\xa0\x80\r\n\r\n", *refused(9, "not utf-8")),
+        row("beyond U+10FFFF", b"Subject: \xf4\x90\x80\x80\r\n\r\n", *refused(9, "not utf-8")),
+        row("a message of 33,554,433 octets", of_size(MESSAGE_MAX + 1), *refused(MESSAGE_MAX, "too large")),
+        row("too large comes before all others", b"\0" * (MESSAGE_MAX + 1), *refused(MESSAGE_MAX, "too large")),
         row("a message of 33,554,432 octets", of_size(MESSAGE_MAX), 0, of_size(MESSAGE_MAX)),
+    ]
+
+
+MIXED = "Content-Type: multipart/mixed; boundary=b\r\n\r\n"
+HIGH, HIGH_MADE = "Subject: é\r\n", "Subject:\r\n =?UTF-8?B?w6k=?=\r\n"
+
+
+def of_entities():
+    """Messages with parts, or with a message inside: name, octets, and the status and octets that are wanted."""
+    row = lambda name, text, wanted: (name, text.encode(), 0, wanted.encode())
+    fault = lambda name, text, at, reason: (name, text.encode(), *refused(at, reason))
+    inner = "Content-Type: message/global\r\n"
+    return [
+        row("a part", f"{MIXED}é\r\n--b\r\n{HIGH}\r\né\r\n--b--\r\né\r\n", f"{MIXED}é\r\n--b\r\n{HIGH_MADE}\r\né\r\n--b--\r\né\r\n"),
+        row("two parts, the second of which isn't ended", f"{MIXED}--b\r\n{HIGH}\r\n--b \t\r\n{HIGH}", f"{MIXED}--b\r\n{HIGH_MADE}\r\n--b \t\r\n{HIGH_MADE}"),
+        row("the last line of a part has no CRLF of its own", f"{MIXED}--b\r\nSubject: é\r\n--b--\r\n", f"{MIXED}--b\r\nSubject:\r\n =?UTF-8?B?w6k=?=\r\n--b--\r\n"),
+        row("a part of nothing", f"{MIXED}--b\r\n--b--", f"{MIXED}--b\r\n--b--\r\n"),
+        row("no part", f"{MIXED}--b--\r\n{HIGH}", f"{MIXED}--b--\r\n{HIGH}"),
+        row("a message in a message", f"Content-Type: message/rfc822\r\n\r\n{HIGH}\r\né", f"Content-Type: message/rfc822\r\n\r\n{HIGH_MADE}\r\né\r\n"),
+        row("a message/global", f"{MIXED}--b\r\n{inner}\r\n{HIGH}\r\nt\r\n--b--\r\n", f"{MIXED}--b\r\nContent-Type: message/rfc822\r\n\r\n{HIGH_MADE}\r\nt\r\n--b--\r\n"),
+        row("the type of a message/global, folded", f"Content-Type: message/(é)\r\n Global\r\nContent-type:\r\n (x)message\r\n /\r\n gLOBAL; a=b\r\n\r\n{HIGH}",
+            f"Content-Type:\r\n message/rfc822\r\n (\r\n =?UTF-8?B?w6k=?=\r\n )\r\nContent-type:\r\n (x)message\r\n /\r\n rfc822; a=b\r\n\r\n{HIGH_MADE}"),
+        row("an encoded message/global isn't opened", f"{inner}Content-Transfer-Encoding: base64\r\n\r\n{HIGH}", f"{inner}Content-Transfer-Encoding: base64\r\n\r\n{HIGH}"),
+        row("a digest", f"Content-Type: multipart/digest; boundary=b\r\n\r\n--b\r\n\r\n{HIGH}--b--\r\n", f"Content-Type: multipart/digest; boundary=b\r\n\r\n--b\r\n\r\n{HIGH_MADE}--b--\r\n"),
+        row("a field that is like a delimiter line", "Content-Type: multipart/mixed; boundary=\"b:\"\r\n\r\n--b:\r\n--b: é\r\n\r\nt\r\n--b:--\r\n",
+            "Content-Type: multipart/mixed; boundary=\"b:\"\r\n\r\n--b:\r\nDowngraded---b:\r\n =?UTF-8?B?w6k=?=\r\n\r\nt\r\n--b:--\r\n"),
+        fault("a part that is no entity", f"{MIXED}--b\r\né\r\n", len(MIXED) + 5, "not a field"),
+        fault("a message inside that isn't UTF-8, and a NUL behind it", f"Content-Type: message/rfc822\r\n\r\nx\r\n\0", 35, "nul"),
     ]
 
 
@@ -81,6 +116,9 @@ def of_size(size):
     return head + (b"x" * 78 + b"\r\n") * (lines - 1) + b"y" * (last + 78) + b"\r\n"
 
 
+CONTROLS = {0: "nul", 10: "bare lf", 13: "bare cr"}
+
+
 def of_names():
     """Each octet alone as a name, and behind another octet of a name."""
     for octet in range(256):
@@ -89,7 +127,8 @@ def of_names():
             # white behind a name belongs to no name
             is_name = 33 <= octet <= 126 and octet != 58 or (before and octet in (9, 32, 58))
             text = name + b": b\r\n\r\n"
-            yield f"the octet {octet} {'behind a name' if before else 'as a name'}", text, *((0, text) if is_name else REFUSED)
+            wanted = (0, text) if is_name else refused(len(before), CONTROLS[octet]) if octet in CONTROLS else refused(0, "not a field")
+            yield f"the octet {octet} {'behind a name' if before else 'as a name'}", text, *wanted
 
 
 ENCAPSULATED = """
@@ -110,7 +149,7 @@ def of_kinds():
             text = f"A: b\r\n{spelled}: é\r\n\r\n".encode()
             made = ("Downgraded-" if name in ENCAPSULATED else "") + spelled
             surrogate = f"A: b\r\n{made}:\r\n =?UTF-8?B?w6k=?=\r\n\r\n".encode()
-            yield f"the field {spelled}", text, *((10, b"not built at 6\r\n") if name == "Content-Type" else (0, surrogate))
+            yield f"the field {spelled}", text, 0, surrogate
 
 
 def of_fields():
@@ -163,7 +202,7 @@ def in_a_pipe(program, tally):
 
 
 def check(program, tally):
-    for name, octets, status, wanted in [*of_messages(), *of_names(), *of_kinds(), *of_fields()]:
+    for name, octets, status, wanted in [*of_messages(), *of_entities(), *of_names(), *of_kinds(), *of_fields()]:
         tally.note(f"{name}, as the oracle has it", differs("oracle", outcome([b"downgrade"], octets), (status, wanted)))
         found, given = program.downgrade(octets)
         tally.note(name, differs("status", found, status) + differs("octets", given, wanted))

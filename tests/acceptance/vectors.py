@@ -6,9 +6,11 @@ import os
 
 from addresses import Uncertain
 from harness import differs, in_lanes
-from oracle import is_unbuilt, outcome
+from oracle import outcome
 
-NOT_BUILT = 10
+# What stands before a field, so that its entity is an opened message/global or isn't opened, and what that gives.
+GLOBAL = b"Content-Type: message/global\r\n", b"Content-Type: message/rfc822\r\n"
+CLOSED = (b"Content-Transfer-Encoding: base64\r\n",) * 2
 
 
 def lines_of(path):
@@ -17,22 +19,17 @@ def lines_of(path):
 
 
 def fields(folder):
-    """Messages of one field, of every kind. A field named Content-Type isn't built; those of an opened message are left out."""
+    """Messages of two fields, the second of every kind."""
     for number, vector in enumerate(lines_of(os.path.join(folder, "fields.jsonl"))):
+        before, made_before = GLOBAL if vector["global"] else CLOSED
         raw, made = vector["raw"].encode(), vector["made"].encode()
-        if not vector["global"]:
-            wanted = (NOT_BUILT, b"not built at 0\r\n") if is_unbuilt(raw) else (0, made + b"\r\n")
-            yield f"fields.jsonl, line {number + 1}", raw + b"\r\n", wanted
+        yield f"fields.jsonl, line {number + 1}", before + raw + b"\r\n", (0, made_before + made + b"\r\n")
 
 
 def messages(folder):
-    """Messages without a Content-Type field. Each is of one block. The last CRLF, where it is missing, is added."""
+    """Whole messages."""
     for number, vector in enumerate(lines_of(os.path.join(folder, "messages.jsonl"))):
-        octets, status = bytes.fromhex(vector["message"]), vector["status"]
-        if status == 0 and not octets.endswith(b"\r\n") and octets:
-            octets += b"\r\n"
-        given = bytes.fromhex(vector["downgrade"]) if status == 0 else b"refused\r\n"
-        yield f"messages.jsonl, line {number + 1}", octets, (status, given)
+        yield f"messages.jsonl, line {number + 1}", bytes.fromhex(vector["message"]), (vector["status"], bytes.fromhex(vector["downgrade"]))
 
 
 def by_oracle(octets):
@@ -45,22 +42,16 @@ def by_oracle(octets):
 
 def check(program, tally, folder):
     def one(case):
-        """The status that was given, whether the oracle could tell, and what is wrong."""
-        name, octets, wanted = case
+        """Whether the oracle could tell, and what is wrong."""
+        _, octets, wanted = case
         answer, told = program.downgrade(octets), by_oracle(octets)
         faults = differs("answer, as the oracle has it", answer, told) if told else []
-        # a message may have a field that isn't built, and then the oracle alone tells which is the first
-        if answer[0] != NOT_BUILT or name.startswith("fields"):
-            faults += differs("answer", answer, wanted)
-        return answer[0], told is not None, faults
+        return told is not None, faults + differs("answer", answer, wanted)
 
     for name, cases in (("fields.jsonl", list(fields(folder))), ("messages.jsonl", list(messages(folder)))):
         answers = in_lanes(one, cases)
-        for case, (_, _, faults) in zip(cases, answers):
+        for case, (_, faults) in zip(cases, answers):
             tally.note(case[0], [*faults, f"message: {case[1]!r}"] if faults else [])
-        unbuilt = sum(status == NOT_BUILT for status, _, _ in answers)
-        uncertain = sum(not is_told for _, is_told, _ in answers)
-        print(f"vectors: {len(cases)} of {name} were run; of {unbuilt} the program and the oracle say that they aren't built, for a Content-Type")
+        uncertain = sum(not is_told for is_told, _ in answers)
+        print(f"vectors: {len(cases)} of {name} were run")
         print(f"vectors: {uncertain} of {name} have a domain of which the oracle tells no A-label form, and the vector alone was asked")
-    inner = sum(vector["global"] for vector in lines_of(os.path.join(folder, "fields.jsonl")))
-    print(f"vectors: {inner} of fields.jsonl are of opened messages, and weren't run")

@@ -1,5 +1,6 @@
 pub mod TakingLemmas
 pub mod WordsLemmas
+pub mod RopeLemmas
 pub mod OutcomeLemmas
 pub mod RunLemmas
 pub mod ServingLemmas

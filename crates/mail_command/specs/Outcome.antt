@@ -1,30 +1,38 @@
 -- What a command of one message comes to: its status, and the octets that it gives.
-use Rattle.std.specs.Prelude.{◌≡◌, ℕ, ◌<◌, ◌≤◌, List, ◌++◌, length, codes, decimal}
+use Rattle.std.specs.Prelude.{◌≡◌, ◌≢◌, ℕ, ◌<◌, ◌≤◌, List, [], ◌++◌, length, codes, decimal}
 use Rattle.mail_wire.specs.Lines.{crlf}
-use Rattle.mail_wire.specs.Message.{IsMessage}
-use Rattle.utf8_fields.specs.declared.block.Field.{Field}
-use Rattle.utf8_fields.specs.Block.{HasBlock}
-use Rattle.field_downgrade.specs.Unbuilt.{IsFirstUnbuilt, AreBuilt}
-use Rattle.field_downgrade.specs.Message.{HasServedFields}
+use Rattle.mime_tree.specs.declared.entity.Entity.{Entity}
+use Rattle.mime_tree.specs.declared.entity.TreeFault.{TreeFault}
+use Rattle.mime_tree.specs.declared.entity.TreeFault.TheVariants.{Nul, BareCr, BareLf, NotField, NotUtf8, Memory}
+use Rattle.mime_tree.specs.Completing.{IsCompleted}
+use Rattle.mime_tree.specs.Faults.{IsTreeFault}
+use Rattle.mime_tree.specs.Tree.{HasTree}
+use Rattle.surrogate_rope.specs.Layout.{HasLayout, IsSurrogate}
 
 -- the most octets of a message: 32 MiB
 abbrev pub message_max : ℕ
 message_max = 33_554_432
 
--- the octets are a message (RFC 5322) with this header block, whose fields are UTF-8 (RFC 6532)
-pub record IsMail (octets : List ℕ) (fields : List Field) (end : ℕ) : Type 0 where
-  pub message : IsMessage octets
-  pub block : HasBlock octets fields end
+-- the line that tells where a message is refused, and why
+abbrev pub refusal_line : ℕ → List ℕ → List ℕ
+refusal_line at reason = codes "refused at " ++ (decimal at ++ (codes ": " ++ (reason ++ crlf)))
+
+-- the line that tells the fault of a message; want of memory has none
+abbrev pub fault_line : TreeFault → List ℕ
+fault_line (Nul at) = refusal_line at (codes "nul")
+fault_line (BareCr at) = refusal_line at (codes "bare cr")
+fault_line (BareLf at) = refusal_line at (codes "bare lf")
+fault_line (NotField at) = refusal_line at (codes "not a field")
+fault_line (NotUtf8 at) = refusal_line at (codes "not utf-8")
+fault_line Memory = []
 
 -- What the command `downgrade` comes to on these octets.
 pub data DowngradeOutcome (octets : List ℕ) (status : ℕ) (given : List ℕ) : Type 0 where
   -- more octets than a message may have
-  TooLarge : message_max < length octets → status ≡ 7 → given ≡ codes "refused" ++ crlf → DowngradeOutcome octets status given
-  -- no message, or one without a header block
-  NoMail : length octets ≤ message_max → ((fields : List Field) (end : ℕ) → ¬ IsMail octets fields end) → status ≡ 7 → given ≡ codes "refused" ++ crlf → DowngradeOutcome octets status given
-  -- a field that can't be rewritten yet; the first one's place
-  NotBuilt : (fields : List Field) (end at : ℕ) → length octets ≤ message_max → IsMail octets fields end → IsFirstUnbuilt octets fields at
-      → status ≡ 10 → given ≡ codes "not built at " ++ (decimal at ++ crlf) → DowngradeOutcome octets status given
-  -- the surrogate
-  Downgraded : (fields : List Field) (end : ℕ) → length octets ≤ message_max → IsMail octets fields end → AreBuilt octets fields
-      → HasServedFields octets fields end given → status ≡ 0 → DowngradeOutcome octets status given
+  TooLarge : message_max < length octets → status ≡ 7 → given ≡ refusal_line message_max (codes "too large") → DowngradeOutcome octets status given
+  -- no message: its first fault, once its last line is ended
+  Refused : (completed : List ℕ) (fault : TreeFault) → length octets ≤ message_max → IsCompleted octets completed → IsTreeFault completed fault → fault ≢ Memory
+      → status ≡ 7 → given ≡ fault_line fault → DowngradeOutcome octets status given
+  -- the surrogate of the message, once its last line is ended: the layout rule's, and each field stands for the original's
+  Downgraded : (completed : List ℕ) (entities : List Entity) → length octets ≤ message_max → IsCompleted octets completed → HasTree completed entities
+      → HasLayout completed entities given → IsSurrogate completed given → status ≡ 0 → DowngradeOutcome octets status given

@@ -79,8 +79,8 @@ fn work<W: Wire, J: Keeper>(
 
 /// Runs the command that the words name, and answers its status: 0 where the work is done, 1 after a fault of the wire,
 /// 2 after one of the keeper, 3 for want of memory, 4 where the words are those of no command, 5 where the journal is bad,
-/// 6 where a session took 1 GiB without an end, 7 where the octets are no message with a header block of UTF-8 fields or are
-/// more than 32 MiB, 10 where a field or a record can't be read yet.
+/// 6 where a session took 1 GiB without an end, 7 where the octets are no message or are more than 32 MiB, 10 where a record
+/// can't be read yet.
 pub fn run<W: Wire, J: Keeper>(alloc: Global, words: &Words, wire: &mut W, keeper: &mut J) -> u8
     ensures words { IsNoCommand words.now → RefusesWords (W.tells wire.old) (W.tells wire.new) result }
     ensures downgrade { IsDowngrade words.now → RunsDowngrade (W.tells wire.old) (W.tells wire.new) result }

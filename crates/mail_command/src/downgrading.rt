@@ -1,65 +1,71 @@
 //! The command `downgrade`.
-ghost use Rattle.std.specs.Prelude.{◌≡◌, ◌≢◌, ◌++◌, Err, IfOk, OnErr, codes, decimal};
-ghost use Rattle.mail_wire.specs.Lines.{crlf};
+ghost use Rattle.std.specs.Prelude.{◌≡◌, ◌≢◌, Err, IfOk, OnErr};
 ghost use Rattle.mail_wire.specs.Moves.{HasWireCause};
-ghost use Rattle.mail_command.specs.Outcome.{DowngradeOutcome};
+ghost use Rattle.surrogate_rope.specs.Ropes.{IsRopeOf, octets_of};
+ghost use Rattle.mail_command.specs.Outcome.{DowngradeOutcome, refusal_line, fault_line};
 ghost use Rattle.mail_command.specs.Running.{Answers, BreaksOff, IsBrokenOff};
 
-use crate::lines::{Reply, place_line};
+use crate::lines::{Reply, refusal_line};
 use crate::taking::take_up_to;
-use field_downgrade::message::{downgrade_message, first_unbuilt};
-use mail_wire::message::is_message;
 use mail_wire::outside::{Fault, Wire};
 use mail_wire::traffic::give_all;
 use mail_wire::values::{Memory, Octets};
+use mime_tree::completing::complete;
+use mime_tree::entity::TreeFault;
+use mime_tree::reading::read_tree;
 use std::alloc::Global;
-use utf8_fields::block::FieldFault;
-use utf8_fields::reading::read_block;
+use surrogate_rope::rope::Rope;
 
 /// The most octets of a message: 32 MiB.
 pub const MESSAGE_MAX: usize = 33_554_432;
 
-// No message, one without a header block, or too large a one.
-fn refused(alloc: Global) -> Result<Reply, Memory>
-    ensures { IfOk result (λ reply. (reply.status ≡ 7) × (reply.given ≡ codes "refused" ++ crlf)) }
+// A message is refused at this place.
+fn refused(alloc: Global, at: usize, reason: &[u8]) -> Result<Reply, Memory>
+    ensures { IfOk result (λ reply. (reply.status ≡ 7) × (reply.given ≡ refusal_line at reason.now)) }
 {
-    let given = Octets::from_slice(alloc, b"refused\r\n")?;
+    let given = refusal_line(alloc, at as u64, reason)?;
     Ok(Reply { status: 7, given })
 }
 
-// No header block, or want of memory.
-fn refused_block(alloc: Global, fault: FieldFault) -> Result<Reply, Memory>
-    ensures { IfOk result (λ reply. (fault ≢ FieldFault.Memory) × (reply.status ≡ 7) × (reply.given ≡ codes "refused" ++ crlf)) }
+// The fault of a message, or want of memory.
+fn refused_fault(alloc: Global, fault: TreeFault) -> Result<Reply, Memory>
+    ensures { IfOk result (λ reply. (fault ≢ TreeFault.Memory) × (reply.status ≡ 7) × (reply.given ≡ fault_line fault)) }
 {
     match fault {
-        FieldFault::Memory => Err(Memory),
-        FieldFault::NotField { .. } | FieldFault::NotUtf8 { .. } => refused(alloc),
+        TreeFault::Nul { at } => refused(alloc, at, b"nul"),
+        TreeFault::BareCr { at } => refused(alloc, at, b"bare cr"),
+        TreeFault::BareLf { at } => refused(alloc, at, b"bare lf"),
+        TreeFault::NotField { at } => refused(alloc, at, b"not a field"),
+        TreeFault::NotUtf8 { at } => refused(alloc, at, b"not utf-8"),
+        TreeFault::Memory => Err(Memory),
     }
 }
 
-// A field at this place can't be rewritten yet.
-fn not_built(alloc: Global, at: usize) -> Result<Reply, Memory>
-    ensures { IfOk result (λ reply. (reply.status ≡ 10) × (reply.given ≡ codes "not built at " ++ (decimal at ++ crlf))) }
+// All octets of a rope.
+fn rope_octets(alloc: Global, msg: &[u8], rope: &Rope) -> Result<Octets, Memory>
+    requires { IsRopeOf msg.now rope.now }
+    ensures { IfOk result (λ octets. octets ≡ octets_of msg.now rope.now) }
 {
-    let given = place_line(alloc, b"not built at ", at as u64)?;
-    Ok(Reply { status: 10, given })
+    let mut octets = Vec::from_elem(alloc, 0, rope.size())?;
+    rope.read_at(msg, 0, octets.as_mut_slice());
+    Ok(Octets::from_vec(octets))
 }
 
 /// What `downgrade` comes to on these octets.
-pub fn downgrade(alloc: Global, octets: &[u8]) -> Result<Reply, Memory>
-    ensures { IfOk result (λ reply. DowngradeOutcome octets.now reply.status reply.given) }
+pub fn downgrade(alloc: Global, octets: Octets) -> Result<Reply, Memory>
+    ensures { IfOk result (λ reply. DowngradeOutcome octets reply.status reply.given) }
 {
-    if octets.len() > MESSAGE_MAX || !is_message(octets) {
-        return refused(alloc);
+    if octets.len() > MESSAGE_MAX {
+        return refused(alloc, MESSAGE_MAX, b"too large");
     }
-    let block = match read_block(alloc, octets) {
-        Ok(block) => block,
-        Err(fault) => return refused_block(alloc, fault),
+    let mut completed = octets;
+    complete(&mut completed)?;
+    let tree = match read_tree(alloc, completed.as_slice()) {
+        Ok(tree) => tree,
+        Err(fault) => return refused_fault(alloc, fault),
     };
-    if let Some(at) = first_unbuilt(octets, &block) {
-        return not_built(alloc, at);
-    }
-    let given = downgrade_message(alloc, octets, &block)?;
+    let rope = Rope::build(alloc, completed.as_slice(), &tree)?;
+    let given = rope_octets(alloc, completed.as_slice(), &rope)?;
     Ok(Reply { status: 0, given })
 }
 
@@ -72,7 +78,7 @@ pub fn run_downgrade<W: Wire>(alloc: Global, wire: &mut W) -> Result<u8, Fault>
     ensures keeper { ¬ (result ≡ Err Fault.Keeper) }
 {
     let taken = take_up_to(alloc, wire, MESSAGE_MAX)?;
-    let reply = downgrade(alloc, taken.as_slice())?;
+    let reply = downgrade(alloc, taken)?;
     give_all(wire, reply.given.as_slice())?;
     Ok(reply.status)
 }

@@ -1,5 +1,6 @@
 //! What commands give.
 ghost use Rattle.std.specs.Prelude.{◌≡◌, IfOk};
+ghost use Rattle.mail_command.specs.Outcome.{refusal_line};
 ghost use Rattle.mail_command.specs.Running.{place_line};
 
 use itoa::Buffer;
@@ -20,6 +21,19 @@ pub fn place_line(alloc: Global, text: &[u8], at: u64) -> Result<Octets, Memory>
     let mut place = Buffer::new();
     let mut line = Octets::from_slice(alloc, text)?;
     line.push_slice(place.format(at).as_bytes())?;
+    line.push_slice(b"\r\n")?;
+    Ok(line)
+}
+
+/// The line that tells where a message is refused, and why.
+pub fn refusal_line(alloc: Global, at: u64, reason: &[u8]) -> Result<Octets, Memory>
+    ensures { IfOk result (λ line. line ≡ refusal_line at reason.now) }
+{
+    let mut place = Buffer::new();
+    let mut line = Octets::from_slice(alloc, b"refused at ")?;
+    line.push_slice(place.format(at).as_bytes())?;
+    line.push_slice(b": ")?;
+    line.push_slice(reason)?;
     line.push_slice(b"\r\n")?;
     Ok(line)
 }

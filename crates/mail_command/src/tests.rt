@@ -16,7 +16,7 @@ const CAFE_SURROGATE: &str = "Subject:\r\n =?UTF-8?B?Y2Fmw6k=?=\r\n bar\r\n\r\nx
 fn answer(
     alloc: Global,
     word: &str,
-    input: &str,
+    input: &[u8],
     sizes: &[usize],
     failures: &[Failure],
 ) -> Result<(u8, Octets), Fail> {
@@ -24,7 +24,7 @@ fn answer(
     words.push(word)?;
     let mut wire = MemWire::new(
         alloc,
-        Octets::from_slice(alloc, input.as_bytes())?,
+        Octets::from_slice(alloc, input)?,
         Vec::from_slice(alloc, sizes)?,
         Vec::from_slice(alloc, failures)?,
     );
@@ -66,11 +66,25 @@ fn rows_of_downgrade(rt: HostRuntime) -> Result<(), Fail> {
             0,
             "Downgraded-Message-ID:\r\n =?UTF-8?B?PMOpQHg+?=\r\nContent-Disposition:\r\n a;\r\n b*=UTF-8''%C3%A9\r\n",
         ),
-        ("A: b\r\nContent-Type: é\r\n\r\n", 10, "not built at 6\r\n"),
-        ("Subject", 7, "refused\r\n"),
-        ("A: b\n", 7, "refused\r\n"),
+        ("A: b", 0, "A: b\r\n"),
+        ("A: b\r\n\r\nx", 0, "A: b\r\n\r\nx\r\n"),
+        (
+            "A: b\r\nContent-Type: é\r\n\r\n",
+            0,
+            "A: b\r\nContent-Type:\r\n =?UTF-8?B?w6k=?=\r\n\r\n",
+        ),
+        (
+            "Content-Type: multipart/mixed; boundary=b\r\n\r\né\r\n--b\r\nSubject: é\r\n\r\né\r\n--b--\r\né",
+            0,
+            "Content-Type: multipart/mixed; boundary=b\r\n\r\né\r\n--b\r\nSubject:\r\n =?UTF-8?B?w6k=?=\r\n\r\né\r\n--b--\r\né\r\n",
+        ),
+        (
+            "Content-Type: message/global\r\n\r\nSubject: é\r\n",
+            0,
+            "Content-Type: message/rfc822\r\n\r\nSubject:\r\n =?UTF-8?B?w6k=?=\r\n",
+        ),
     ] {
-        let (found, octets) = answer(rt.alloc(), "downgrade", input, &[], &[])?;
+        let (found, octets) = answer(rt.alloc(), "downgrade", input.as_bytes(), &[], &[])?;
         assert_eq!(rt; found, status, "at {input:?}");
         assert!(rt; octets.as_slice() == given.as_bytes(), "at {input:?}");
     }
@@ -78,8 +92,33 @@ fn rows_of_downgrade(rt: HostRuntime) -> Result<(), Fail> {
 }
 
 #[test]
+fn faults_are_told_by_their_places(rt: HostRuntime) -> Result<(), Fail> {
+    for (input, given) in [
+        ("Subject", "refused at 0: not a field\r\n"),
+        ("A: b\r\nx\r\n", "refused at 6: not a field\r\n"),
+        ("A: b\n", "refused at 4: bare lf\r\n"),
+        ("A: b\r\n\r\nx\n", "refused at 9: bare lf\r\n"),
+        ("A: b\r", "refused at 4: bare cr\r\n"),
+        ("A: b\r\n\r\nx\ry\r\n", "refused at 9: bare cr\r\n"),
+        ("A: \0\r\n", "refused at 3: nul\r\n"),
+        (
+            "Content-Type: multipart/mixed; boundary=b\r\n\r\n--b\r\né\r\n",
+            "refused at 50: not a field\r\n",
+        ),
+    ] {
+        let (found, octets) = answer(rt.alloc(), "downgrade", input.as_bytes(), &[], &[])?;
+        assert_eq!(rt; found, 7, "at {input:?}");
+        assert!(rt; octets.as_slice() == given.as_bytes(), "at {input:?}");
+    }
+    let (found, octets) = answer(rt.alloc(), "downgrade", b"A: \xff", &[], &[])?;
+    assert_eq!(rt; found, 7);
+    assert!(rt; octets.as_slice() == b"refused at 3: not utf-8\r\n".as_slice());
+    Ok(())
+}
+
+#[test]
 fn words_of_no_command_are_refused(rt: HostRuntime) -> Result<(), Fail> {
-    let (status, given) = answer(rt.alloc(), "down", CAFE, &[], &[])?;
+    let (status, given) = answer(rt.alloc(), "down", CAFE.as_bytes(), &[], &[])?;
     assert_eq!(rt; status, 4);
     assert!(rt; given.as_slice() == b"words refused\r\n".as_slice());
     Ok(())
@@ -87,7 +126,7 @@ fn words_of_no_command_are_refused(rt: HostRuntime) -> Result<(), Fail> {
 
 #[test]
 fn the_answer_is_the_same_octet_by_octet(rt: HostRuntime) -> Result<(), Fail> {
-    let (status, given) = answer(rt.alloc(), "downgrade", CAFE, &[1; 25], &[])?;
+    let (status, given) = answer(rt.alloc(), "downgrade", CAFE.as_bytes(), &[1; 25], &[])?;
     assert_eq!(rt; status, 0);
     assert!(rt; given.as_slice() == CAFE_SURROGATE.as_bytes());
     Ok(())
@@ -100,7 +139,7 @@ fn a_failing_give_leaves_a_prefix(rt: HostRuntime) -> Result<(), Fail> {
         let (status, given) = answer(
             rt.alloc(),
             "downgrade",
-            CAFE,
+            CAFE.as_bytes(),
             &[],
             &[Failure { call: 2, kept }],
         )?;

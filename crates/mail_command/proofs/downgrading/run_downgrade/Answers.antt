@@ -18,10 +18,10 @@ returns-in_err-give_all-clause-broken_off g c =
     let p = err_from_is_err_and c.from_residual-in_err-give_all.result c.from_residual-in_err-give_all.ensures.1 in
     rw p.1 (downgrades_partly (g.W.Wire.tells c.args.wire.now) (g.W.Wire.tells c.take_up_to.new.wire) (g.W.Wire.tells c.give_all.new.wire)
     c.in_ok-taken.taken c.in_ok-reply.reply.given c.in_ok-reply.reply.status c.in_ok-taken.ensures.taken
-    (rw c.as_slice.ensures at c.in_ok-reply.ensures) (rw c.as_slice-2.ensures at c.in_err-give_all.ensures.gives))
+    c.in_ok-reply.ensures (rw c.as_slice.ensures at c.in_err-give_all.ensures.gives))
 
 pub returns-clause-answers : goal.returns-clause-answers
 returns-clause-answers g c =
     downgrades (g.W.Wire.tells c.args.wire.now) (g.W.Wire.tells c.take_up_to.new.wire) (g.W.Wire.tells c.give_all.new.wire)
     c.in_ok-taken.taken c.in_ok-reply.reply.given c.in_ok-reply.reply.status c.in_ok-taken.ensures.taken
-    (rw c.as_slice.ensures at c.in_ok-reply.ensures) (rw c.as_slice-2.ensures at c.in_ok-give_all.ensures.gives)
+    c.in_ok-reply.ensures (rw c.as_slice.ensures at c.in_ok-give_all.ensures.gives)
