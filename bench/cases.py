@@ -153,6 +153,51 @@ def long_identifier(size):
     yield b"References: <" + WORD * (size // len(WORD)) + b"@x>\r\n\r\nx\r\n"
 
 
+def multipart(boundary):
+    """The header of a multipart, and the line before its first part."""
+    return f"Content-Type: multipart/mixed; boundary={boundary}\r\n\r\n--{boundary}\r\n".encode()
+
+
+def many_parts(count):
+    """A multipart of so many parts, each with a subject beyond ASCII."""
+    yield multipart("b")
+    yield from numbered("Subject: été {:06}\r\n\r\nx\r\n--b\r\n", count)
+    yield b"\r\nx\r\n--b--\r\n"
+
+
+def nested(boundaries, size):
+    """Multiparts in one another around lines of so many octets."""
+    for boundary in boundaries:
+        yield multipart(boundary)
+    yield "Subject: été\r\n\r\n".encode()
+    for at in range(0, size // len(LINE), 1000):
+        yield LINE * min(1000, size // len(LINE) - at)
+
+
+def nested_multiparts(size):
+    """32 multiparts in one another."""
+    yield from nested([f"b{number}" for number in range(32)], size)
+
+
+def same_boundary(size):
+    """The same with one boundary for all."""
+    yield from nested(["b"] * 32, size)
+
+
+def dashed_lines(count):
+    """So many lines that begin with two hyphens, inside of 32 multiparts."""
+    for number in range(32):
+        yield multipart(f"b{number}")
+    yield b"\r\n"
+    for at in range(0, count, 1000):
+        yield b"--b33\r\n" * min(1000, count - at)
+
+
+def part_of_lines(size):
+    """A part with an ASCII body of so many octets."""
+    yield from nested(["b"], size)
+
+
 MIB = 1 << 20
 
 # name, what writes the message, n; each is measured at n and at 2n
@@ -178,6 +223,11 @@ CASES = [
     ("a parameter of 5,000 and 10,000 pieces in falling order", falling_pieces, 5_000),
     ("a trace of 50,000 and 100,000 clauses", many_clauses, 50_000),
     ("identifiers of 512 KiB and 1 MiB", long_identifier, MIB // 2),
+    ("10,000 and 20,000 parts", many_parts, 10_000),
+    ("32 nested multiparts around 1 and 2 MiB", nested_multiparts, MIB),
+    ("the same with one boundary", same_boundary, MIB),
+    ("500,000 and 1,000,000 lines that begin with two hyphens", dashed_lines, 500_000),
+    ("a part of 15 and 30 MiB", part_of_lines, 15 * MIB),
 ]
 
 
