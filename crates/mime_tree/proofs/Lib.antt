@@ -39,3 +39,6 @@ pub mod WordLemmas
 pub mod OpeningLemmas
 pub mod OneTreeFault
 pub mod SectionLemmas
+pub mod DecidingHeads
+pub mod DecidingOpenings
+pub mod DecidingTrees

@@ -3,14 +3,14 @@ use Rattle.std.proofs.Common.{◌≡◌, ℕ, zero, suc, ◌+◌, ◌<◌, ◌�
 use Rattle.std.specs.Prelude.{◌==◌}
 use Rattle.std.proofs.lemmas.Bool.Decides.{nat_tests}
 use Rattle.std.proofs.lemmas.Bool.{cases_lt}
-use Rattle.std.proofs.lemmas.List.{length-take-le, drop-drop, length-drop}
+use Rattle.std.proofs.lemmas.List.{length-take-le, drop-drop, length-drop, drop_all}
 use Rattle.mail_wire.specs.Lines.{lines_of}
 use Rattle.mail_wire.proofs.LineLemmas.{concat_lines_of}
 use Rattle.utf8_fields.proofs.Heads.{lines_of-nil}
 use Rattle.mime_tree.specs.Marks.{text_of}
 use Rattle.mime_tree.specs.Parts.{size}
 use Rattle.mime_tree.specs.Open.{is_marked_text, is_marked, begins_marked, after, after_header, is_empty_line, lines_at, IsStop, IsHeaderStop, IsAfterLine}
-use Rattle.mime_tree.proofs.Regions.{after-begins, after-on}
+use Rattle.mime_tree.proofs.Regions.{after-begins, after-on, after-none}
 use Rattle.mime_tree.proofs.Headers.{after_header-begins, after_header-on, after_header-stop}
 
 -- A line stands at `at`: its text, and how long both are.
@@ -176,3 +176,24 @@ marked_some s octets at marked = elim (cases_lt at (length octets)) [
 -- how many octets the lines from a place on have
 pub size_at : (octets : List ℕ) (at : ℕ) → at ≤ length octets → at + size (lines_at octets at) ≡ length octets
 size_at octets at fits = rw (concat_lines_of (drop at octets)) (omega (arith, length-drop at octets))
+
+-- with one more there are some
+some_left : (n : ℕ) → true ≡ (suc n == 0) → ⊥
+some_left n none = grind (arith, nat_tests)
+
+no_mark : (lines : List (List ℕ)) → begins_marked [] lines ≡ false
+unfolding begins_marked is_marked_text
+no_mark [] = refl
+no_mark (line ∷ rest) = refl
+
+-- without boundaries all is passed
+pub IsStop-all : (boundaries : List (List ℕ)) (octets : List ℕ) (from : ℕ) → true ≡ (length boundaries == 0) → from ≤ length octets → IsStop boundaries octets from (record { at = length octets; marked = false })
+IsStop-all (first ∷ boundaries) octets from none fits = absurd (some_left (length boundaries) none)
+IsStop-all [] octets from none fits =
+    let behind : lines_at octets (length octets) ≡ [] = ap lines_of (drop_all (length octets) octets (omega arith)) ∙ lines_of-nil [] refl in
+    record {
+      lines = behind ∙ sym (after-none [] (lines_at octets from) (no_mark (after [] (lines_at octets from))));
+      marked = sym (no_mark (lines_at octets (length octets)));
+      onward = fits;
+      fits = omega arith;
+    }

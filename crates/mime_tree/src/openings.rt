@@ -2,9 +2,6 @@
 ghost use Rattle.std.specs.Prelude.{◌≡◌, ◌≢◌, ◌↔◌, ◌+◌, ◌≤◌, ◌∷◌, [], ◌||◌, ℕ, Bool, List, Some, length, map, filter, not, codes, IfOk, IfSome, IfNone, IsTrue};
 ghost use Rattle.std.specs.Str.{bytes_eq};
 ghost use Rattle.std.specs.List.{All, list_all};
-ghost use Rattle.mail_wire.specs.Octets.{is_white};
-ghost use Rattle.mail_wire.specs.Spans.{IsTrimmed};
-ghost use Rattle.utf8_fields.specs.Parts.{HasValue};
 ghost use Rattle.utf8_fields.specs.Block.{raw_of};
 ghost use Rattle.encoded_words.specs.Values.{value_of};
 ghost use Rattle.field_tokens.specs.declared.TokenKind.TheVariants.{Atom};
@@ -14,7 +11,7 @@ ghost use Rattle.mime_tree.specs.Openings.{is_letter, is_digit_or_sign, is_other
 
 use encoded_words::Unit;
 use field_tokens::{Style, Token, TokenFault, TokenKind, tokens};
-use mail_wire::text::{is_same_name, is_white, split_white, unfold};
+use mail_wire::text::is_same_name;
 use mail_wire::values::{Memory, Octets};
 use param_2231::{Param, ParamFault, ParamKind, Params, read_params};
 use std::alloc::Global;

@@ -2,6 +2,7 @@
 ghost use Rattle.std.specs.Prelude.{◌≡◌, ◌≢◌, ◌+◌, ◌<◌, ◌≤◌, ◌++◌, ◌∷◌, ℕ, List, [], length, drop, IfOk, IfErr, IsErrAnd, OnOk, IsTrue, true, false, None, MatchResult, ◌⊎◌};
 ghost use Rattle.utf8_fields.specs.declared.block.FieldFault.{FieldFault};
 ghost use Rattle.mail_wire.specs.Lines.{lines_of};
+ghost use Rattle.mail_wire.specs.Message.{IsSound};
 ghost use Rattle.utf8_fields.specs.Faults.{IsFaultIn};
 ghost use Rattle.mime_tree.specs.declared.entity.Entity.{Entity};
 ghost use Rattle.mime_tree.specs.declared.entity.TreeFault.{TreeFault};
@@ -78,6 +79,12 @@ fn skip_lines(octets: &[u8], boundaries: &[Octets], from: usize) -> Stop
     requires fits { from ≤ length octets.now }
     ensures { IsStop boundaries.now octets.now from result }
 {
+    if boundaries.is_empty() {
+        return Stop {
+            at: octets.len(),
+            marked: false,
+        };
+    }
     let mut at = from;
     while at < octets.len() {
         let (_, rest) = octets.split_at(at);
@@ -406,8 +413,9 @@ fn told(fault: FieldFault) -> TreeFault
     }
 }
 
-/// Reads the tree of a message.
-pub fn read_tree(alloc: Global, octets: &[u8]) -> Result<Tree, TreeFault>
+/// Reads the tree of octets without NUL, and with CR and LF only as CRLF.
+pub fn read_sound_tree(alloc: Global, octets: &[u8]) -> Result<Tree, TreeFault>
+    requires { IsSound octets.now }
     ensures tree { IfOk result (λ tree. HasTree octets.now tree.entities) }
     ensures fault { IfErr result (IsTreeFault octets.now) }
 
@@ -416,7 +424,6 @@ pub fn read_tree(alloc: Global, octets: &[u8]) -> Result<Tree, TreeFault>
     ensures exact_fault { (fault : TreeFault) → IsTreeFault octets.now fault → fault ≢ TreeFault.Memory →
         IsErrAnd result (λ found. (found ≡ fault) ⊎ (found ≡ TreeFault.Memory)) }
 {
-    check_message(octets)?;
     let mut entities = Entities::new(alloc);
     let mut boundaries = Vec::new(alloc);
     let start = Start { from: 0, at: 0 };
@@ -433,4 +440,18 @@ pub fn read_tree(alloc: Global, octets: &[u8]) -> Result<Tree, TreeFault>
         Ok(_) => Ok(Tree { entities }),
         Err(fault) => Err(told(fault)),
     }
+}
+
+/// Reads the tree of a message.
+pub fn read_tree(alloc: Global, octets: &[u8]) -> Result<Tree, TreeFault>
+    ensures tree { IfOk result (λ tree. HasTree octets.now tree.entities) }
+    ensures fault { IfErr result (IsTreeFault octets.now) }
+
+    // Where the octets have a tree or a fault, that is the answer, unless memory is wanting.
+    ensures exact { (entities : List Entity) → HasTree octets.now entities → MatchResult result (λ tree. tree.entities ≡ entities) (λ fault. fault ≡ TreeFault.Memory) }
+    ensures exact_fault { (fault : TreeFault) → IsTreeFault octets.now fault → fault ≢ TreeFault.Memory →
+        IsErrAnd result (λ found. (found ≡ fault) ⊎ (found ≡ TreeFault.Memory)) }
+{
+    check_message(octets)?;
+    read_sound_tree(alloc, octets)
 }

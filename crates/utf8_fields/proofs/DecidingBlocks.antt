@@ -19,7 +19,7 @@ use Rattle.utf8_fields.proofs.FirstField.{field_of}
 use Rattle.utf8_fields.proofs.OneBlock.{fields_end, same_further}
 
 -- it holds, or it doesn't
-abbrev Decided : Type 0 → Type 0
+abbrev pub Decided : Type 0 → Type 0
 Decided P = P ⊎ ¬ P
 
 decide_eq : (x y : ℕ) → Decided (x ≡ y)
@@ -97,7 +97,7 @@ faulty_below octets (suc n) = elim (decide_faulty octets n) [
     last : (at : ℕ) → at < suc n → n ≤ at → at ≡ n
     last at l up = omega (arith, l, up)
 
-decide_sound : (octets : List ℕ) → Decided (IsSound octets)
+pub decide_sound : (octets : List ℕ) → Decided (IsSound octets)
 decide_sound octets = elim (faulty_below octets (length octets)) [
   | inl found ↦ inr (λ sound. sound found.0 found.1)
   | inr none ↦ inl (λ at faulty. none at (faulty_within octets at faulty) faulty)
@@ -164,10 +164,10 @@ decide_lines first more = elim (decide_name first) [
 ]
 
 -- The block of lines.
-record SomeBlock (lines : List (List ℕ)) (at : ℕ) : Type 0 where
-  fields : List Field
-  end : ℕ
-  block : HasBlockIn lines at fields end
+pub record SomeBlock (lines : List (List ℕ)) (at : ℕ) : Type 0 where
+  pub fields : List Field
+  pub end : ℕ
+  pub block : HasBlockIn lines at fields end
 
 -- a block whose first field has these lines
 block_from : (first : List ℕ) (lines more rest : List (List ℕ)) (at : ℕ) → HasFurther lines more rest → AreFieldLines first more → SomeBlock rest (at + length (concat (first ∷ more)))
@@ -211,7 +211,7 @@ behind_first first lines more rest at end (field ∷ fields) other f b =
       block = record { fields = fields; end = end; block = record { header = done.2; rest = b.rest; lines = same.1; fields_are = later; ends = b.ends } };
     }
 
-decide_in : (n : ℕ) (lines : List (List ℕ)) (at : ℕ) → length lines ≤ n → Decided (SomeBlock lines at)
+pub decide_in : (n : ℕ) (lines : List (List ℕ)) (at : ℕ) → length lines ≤ n → Decided (SomeBlock lines at)
 decide_in n [] at small = inl (record { fields = []; end = at; block = record { header = []; rest = []; lines = refl; fields_are = (refl, refl); ends = tt } })
 decide_in zero (first ∷ lines) at small = absurd (omega (arith, small))
 decide_in (suc n) (first ∷ lines) at small = elim (decide_same first crlf) [

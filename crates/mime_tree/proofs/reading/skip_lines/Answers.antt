@@ -1,6 +1,9 @@
 use Rattle.std.proofs.Common.{◌∙◌, sym}
-use Rattle.mime_tree.proofs.LinesAt.{HasLine-from, begins_at, more_left, HasPassed-none, HasPassed-more, IsStop-marked, IsStop-end}
+use Rattle.mime_tree.proofs.LinesAt.{HasLine-from, begins_at, more_left, HasPassed-none, HasPassed-more, IsStop-marked, IsStop-end, IsStop-all}
 use Rattle.mime_tree.proofs.reading.skip_lines.Goals as goal
+
+pub returns-then-is_empty : goal.returns-then-is_empty
+returns-then-is_empty c = IsStop-all c.args.boundaries.now c.args.octets.now c.args.from c.if-is_empty.ensures c.requires.fits
 
 pub loop-at-init : goal.loop-at-init
 loop-at-init c = HasPassed-none (c.args.boundaries.now) c.args.octets.now c.args.from c.requires.fits
