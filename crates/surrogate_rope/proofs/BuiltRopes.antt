@@ -2,6 +2,7 @@
 use Rattle.std.proofs.Common.{◌≡◌, ℕ, List, [], ◌∷◌, ◌++◌, length, refl, sym, subst, append-nil}
 use Rattle.mime_tree.specs.declared.entity.Entity.{Entity}
 use Rattle.mime_tree.specs.Outlines.{outlines_of}
+use Rattle.mail_wire.specs.Message.{IsSound}
 use Rattle.mime_tree.specs.Tree.{HasTree}
 use Rattle.mime_tree.proofs.KeptTrees.{trees_are_kept}
 use Rattle.field_downgrade.specs.Stands.{HasFieldLayout}
@@ -13,10 +14,12 @@ use Rattle.surrogate_rope.specs.Ropes.{Piece, IsRopeOf, CountsChanged}
 use Rattle.surrogate_rope.proofs.ServedLines.{served_keeps_trees}
 use Rattle.surrogate_rope.proofs.Weaker.{IsWeaker, in_entity_weaker, rewrites_weaker, counts_weaker, same_weaker}
 
-served_layout : (msg : List ℕ) → IsWeaker (InEntity IsServed msg) (InEntity HasFieldLayout msg)
+-- a field that is served has the layout of its rule
+pub served_layout : (msg : List ℕ) → IsWeaker (InEntity IsServed msg) (InEntity HasFieldLayout msg)
 served_layout msg = in_entity_weaker IsServed HasFieldLayout msg (λ open_global raw made is. is.layout)
 
-served_stands : (msg : List ℕ) → IsWeaker (InEntity IsServed msg) (InEntity StandsInAscii msg)
+-- and stands for the other one, in ASCII
+pub served_stands : (msg : List ℕ) → IsWeaker (InEntity IsServed msg) (InEntity StandsInAscii msg)
 served_stands msg = in_entity_weaker IsServed StandsInAscii msg (λ open_global raw made is. (is.stands, is.ascii))
 
 -- The octets have a tree, and are a surrogate.
@@ -69,3 +72,7 @@ rope_read msg entities made octets read tree is same exact =
     let built = built_rope msg entities made tree is in
     let found : read ≡ built.others = exact built.others (subst (λ text. HasTree text built.others) (sym same) built.tree) in
     subst (λ others. IsRopeOf msg (record { pieces = Piece.New made.octets ∷ []; entities = outlines_of others; rewritten = made.rewritten })) (sym found) built.rope
+
+-- the octets of a surrogate are sound
+pub made_sound : (msg : List ℕ) (entities : List Entity) (made : Made) (octets : List ℕ) → HasTree msg entities → HasServedBlocks msg entities made → octets ≡ made.octets → IsSound octets
+made_sound msg entities made octets tree is same = subst IsSound (sym same) (built_rope msg entities made tree is).tree.is_message

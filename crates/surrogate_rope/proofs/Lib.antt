@@ -11,3 +11,5 @@ pub mod ServedLines
 pub mod Weaker
 pub mod BuiltRopes
 pub mod OneLayout
+pub mod SurrogateBlocks
+pub mod AllSurrogates

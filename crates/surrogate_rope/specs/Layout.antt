@@ -1,6 +1,6 @@
 -- The surrogate of a message (RFC 6857): its octets, and what they keep.
 use Rattle.std.specs.Prelude.{◌≡◌, ℕ, ◌↔◌, List, Bool, true, length, codes, Some, IsTrue}
-use Rattle.std.specs.List.{list_all}
+use Rattle.std.specs.List.{list_all, AllByRecursion}
 use Rattle.mail_wire.specs.Octets.{is_ascii}
 use Rattle.param_2231.specs.GlobalTypes.{NamesGlobal}
 use Rattle.field_downgrade.specs.Stands.{HasFieldLayout, Stands}
@@ -39,3 +39,16 @@ pub record IsSurrogate (msg made : List ℕ) : Type 0 where
   pub tree : HasTree msg entities
   pub made_tree : HasTree made others
   pub same : AreSame (InEntity StandsInAscii msg) msg (length msg) entities made (length made) others
+
+-- The message has this surrogate: the one that the layout rule gives.
+pub record HasSurrogate (msg made : List ℕ) : Type 0 where
+  pub entities : List Entity
+  pub tree : HasTree msg entities
+  pub layout : HasLayout msg entities made
+  pub surrogate : IsSurrogate msg made
+
+-- Every octet of every header block is ASCII.
+pub record HasAsciiBlocks (shown : List ℕ) : Type 0 where
+  pub entities : List Entity
+  pub tree : HasTree shown entities
+  pub ascii : AllByRecursion (λ (entity : Entity). AllByRecursion (λ raw. list_all is_ascii raw ≡ true) (raws_of shown entity.block)) entities

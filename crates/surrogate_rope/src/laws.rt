@@ -6,7 +6,7 @@ ghost use Rattle.mime_tree.specs.declared.openings.Opening.{Opening};
 ghost use Rattle.mime_tree.specs.Openings.{Opens};
 ghost use Rattle.mime_tree.specs.Tree.{HasTree, raws_of};
 ghost use Rattle.field_downgrade.specs.Message.{IsServed};
-ghost use Rattle.surrogate_rope.specs.Layout.{HasLayout, InEntity};
+ghost use Rattle.surrogate_rope.specs.Layout.{HasLayout, HasSurrogate, InEntity};
 
 /// The fields of a surrogate open an entity as the message's do.
 pub fn surrogates_open_alike()
@@ -17,4 +17,9 @@ pub fn surrogates_open_alike()
 /// A message has one layout at most.
 pub fn layouts_are_one()
     ensures { (msg made other : List ℕ) (entities others : List Entity) → HasTree msg entities → HasTree msg others → HasLayout msg entities made → HasLayout msg others other → made ≡ other }
+{}
+
+/// Every message with a tree has a surrogate.
+pub fn surrogates_are_there()
+    ensures { (msg : List ℕ) (entities : List Entity) → HasTree msg entities → (made : List ℕ) × HasSurrogate msg made }
 {}

@@ -8,7 +8,7 @@ ghost use Rattle.surrogate_rope.specs.Ropes.{RopeValue, Piece, IsRopeOf, octets_
 use crate::building::make_surrogate;
 use mail_wire::values::{Memory, Octets, Span};
 use mime_tree::entity::Tree;
-use mime_tree::reading::read_tree;
+use mime_tree::reading::read_sound_tree;
 use mime_tree::sections::Part;
 use std::alloc::Global;
 use std::marker::Model;
@@ -38,7 +38,7 @@ impl Rope {
         ensures { IfOk result (IsRopeOf msg.now) }
     {
         let made = make_surrogate(alloc, msg, tree)?;
-        let Ok(tree) = read_tree(alloc, made.octets.as_slice()) else {
+        let Ok(tree) = read_sound_tree(alloc, made.octets.as_slice()) else {
             return Err(Memory);
         };
         Ok(Rope {
