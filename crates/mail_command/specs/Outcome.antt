@@ -1,13 +1,11 @@
 -- What a command of one message comes to: its status, and the octets that it gives.
 use Rattle.std.specs.Prelude.{◌≡◌, ◌≢◌, ℕ, ◌<◌, ◌≤◌, List, [], ◌++◌, length, codes, decimal}
 use Rattle.mail_wire.specs.Lines.{crlf}
-use Rattle.mime_tree.specs.declared.entity.Entity.{Entity}
 use Rattle.mime_tree.specs.declared.entity.TreeFault.{TreeFault}
 use Rattle.mime_tree.specs.declared.entity.TreeFault.TheVariants.{Nul, BareCr, BareLf, NotField, NotUtf8, Memory}
 use Rattle.mime_tree.specs.Completing.{IsCompleted}
 use Rattle.mime_tree.specs.Faults.{IsTreeFault}
-use Rattle.mime_tree.specs.Tree.{HasTree}
-use Rattle.surrogate_rope.specs.Layout.{HasLayout, IsSurrogate}
+use Rattle.surrogate_rope.specs.Layout.{HasSurrogate}
 
 -- the most octets of a message: 32 MiB
 abbrev pub message_max : ℕ
@@ -34,5 +32,4 @@ pub data DowngradeOutcome (octets : List ℕ) (status : ℕ) (given : List ℕ) 
   Refused : (completed : List ℕ) (fault : TreeFault) → length octets ≤ message_max → IsCompleted octets completed → IsTreeFault completed fault → fault ≢ Memory
       → status ≡ 7 → given ≡ fault_line fault → DowngradeOutcome octets status given
   -- the surrogate of the message, once its last line is ended: the layout rule's, and each field stands for the original's
-  Downgraded : (completed : List ℕ) (entities : List Entity) → length octets ≤ message_max → IsCompleted octets completed → HasTree completed entities
-      → HasLayout completed entities given → IsSurrogate completed given → status ≡ 0 → DowngradeOutcome octets status given
+  Downgraded : (completed : List ℕ) → length octets ≤ message_max → IsCompleted octets completed → HasSurrogate completed given → status ≡ 0 → DowngradeOutcome octets status given

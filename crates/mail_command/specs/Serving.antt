@@ -53,7 +53,7 @@ EndsBy surrogate Pop store octets = (pop.turns_of surrogate (pop.start_of store)
 
 -- What a session is sent of a stream of client octets: the replies of its protocol's machine over one surrogate per message.
 -- No octet of a reply line is above 127, sizes and offsets are those of what is served, and what a session that has not
--- enabled UTF-8 is shown is a range of the surrogate: its header is ASCII, and every field stands for the original's. An
+-- enabled UTF-8 is shown is a range of the surrogate: all its headers are ASCII, and every field stands for the original's. An
 -- enabled session is shown the stored octets.
 pub record IsSent (surrogate : List ℕ → List ℕ) (role : Role) (store after : StoreState) (octets given : List ℕ) : Type 0 where
   pub replies : given ≡ replies_to surrogate role store octets

@@ -4,7 +4,6 @@ pub mod FrameLemmas
 pub mod AddressLemmas
 pub mod GrammarLemmas
 pub mod ReadingLemmas
-pub mod StoredLemmas
 pub mod IndexLemmas
 pub mod Answering
 pub mod NameLemmas

@@ -2,8 +2,6 @@
 use Rattle.std.proofs.Common.{◌≡◌, ℕ, ◌≤◌, List, [], ◌∷◌, ◌++◌, length, drop, refl, sym, ap, subst, ◌∙◌, append_assoc, append-nil, arith, inl, inr, ◌⊎◌, length-append}
 use Rattle.std.specs.List.{flat_map, AllByRecursion}
 use Rattle.std.proofs.lemmas.List.Concat.{flat_map-cons}
-use Rattle.mail_wire.specs.Lines.{lines_of}
-use Rattle.utf8_fields.proofs.OneBlock.{same_block}
 use Rattle.mail_store.specs.declared.limits.TheConstants.{RECORD_MAX}
 use Rattle.mail_store.specs.declared.records.Record.{Record}
 use Rattle.mail_store.specs.declared.records.Record.TheVariants as records
@@ -17,7 +15,6 @@ use Rattle.mail_store.proofs.Fields.{some_is}
 use Rattle.mail_store.proofs.FrameLemmas.{number_once, list_once}
 use Rattle.mail_store.proofs.Next.{read_not_later}
 use Rattle.mail_store.proofs.RecordLaws.{record_again}
-use Rattle.mail_store.proofs.StoredLemmas.{none_unbuilt}
 
 -- a whole list is no prefix of a record
 pub list_no_prefix : (body tail : List ℕ) → length body ≤ RECORD_MAX → IsCutShort (octet_list body ++ tail) → ⊥
@@ -105,9 +102,7 @@ in_order_not_later : (kept : Kept) (one : Record) → IsReadKind one → IsInOrd
 in_order_not_later kept (records.Account address password) read in_order later = later in_order.0.0
 in_order_not_later kept (records.Domain name) read in_order later = later in_order.0
 in_order_not_later kept (records.Folder account name) read in_order later = absurd read
-in_order_not_later kept (records.Message folder flags date octets) read in_order later =
-    let s = in_order.3 in
-    none_unbuilt octets s.fields (λ others end h. (same_block (lines_of octets) 0 s.fields others s.end end s.block h).0) s.built later
+in_order_not_later kept (records.Message folder flags date octets) read in_order later = absurd later
 in_order_not_later kept (records.Flags message flags) read in_order later = absurd read
 in_order_not_later kept (records.Expunge message) read in_order later = absurd read
 in_order_not_later kept (records.Queue path addresses octets) read in_order later = absurd read

@@ -5,17 +5,17 @@ use Rattle.mail_store.specs.declared.reading.ReadFault.TheVariants.{Memory, NoRe
 use Rattle.mail_store.specs.declared.records.Record.{Record}
 use Rattle.mail_store.specs.Records.{IsInOrder, IsRecord}
 use Rattle.mail_store.specs.Spelling.{fields_of}
-use Rattle.mail_store.specs.Stored.{IsStored, HasUnbuiltField}
+use Rattle.mail_store.specs.Stored.{IsStored}
 use Rattle.mail_store.specs.StoreState.{StoreState, with_record}
 use Rattle.mail_store.specs.Unbuilt.{IsLater, HasLaterKind, AreUnbuilt, IsReadKind, is_later_kind}
 use Rattle.mail_store.specs.Reading.{record_at, kind_at}
 
--- the octets may be kept, have a field that can't be rewritten yet, or neither
+-- the octets may be kept, or may not
 abbrev pub IsJudged : {T : Type 0} → Result T ReadFault → List ℕ → Type 0
-IsJudged (Ok done) octets = IsStored octets × ¬ HasUnbuiltField octets
+IsJudged (Ok done) octets = IsStored octets
 IsJudged (Err Memory) octets = Unit {0}
-IsJudged (Err NoRecord) octets = ¬ IsStored octets × ¬ HasUnbuiltField octets
-IsJudged (Err NotBuilt) octets = HasUnbuiltField octets
+IsJudged (Err NoRecord) octets = ¬ IsStored octets
+IsJudged (Err NotBuilt) octets = ⊥
 
 -- behind this kind
 abbrev pub ReadsKind : Result Record ReadFault → ℕ → List ℕ → Type 0

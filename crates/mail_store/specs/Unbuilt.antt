@@ -5,7 +5,6 @@ use Rattle.mail_store.specs.declared.limits.TheConstants.{RECORD_MAX}
 use Rattle.mail_store.specs.declared.records.Record.{Record}
 use Rattle.mail_store.specs.declared.records.Record.TheVariants as records
 use Rattle.mail_store.specs.Addresses.{IsAddressText, IsDomainText}
-use Rattle.mail_store.specs.Stored.{HasUnbuiltField}
 use Rattle.mail_store.specs.Spelling.{octet_list, fields_of, journal, Fits}
 use Rattle.mail_store.specs.Opening.{BeginsWith}
 
@@ -24,12 +23,12 @@ IsReadKind (records.Expunge message) = ⊥
 IsReadKind (records.Queue path addresses octets) = ⊥
 IsReadKind (records.Settle entry index) = ⊥
 
--- its kind isn't read yet, its address or domain isn't simple, or its message has a field that can't be rewritten
+-- its kind isn't read yet, or its address or domain isn't simple
 abbrev pub IsLater : Record → Type 0
 IsLater (records.Account address password) = ¬ IsAddressText address
 IsLater (records.Domain name) = ¬ IsDomainText name
 IsLater (records.Folder account name) = Unit {0}
-IsLater (records.Message folder flags date octets) = HasUnbuiltField octets
+IsLater (records.Message folder flags date octets) = ⊥
 IsLater (records.Flags message flags) = Unit {0}
 IsLater (records.Expunge message) = Unit {0}
 IsLater (records.Queue path addresses octets) = Unit {0}

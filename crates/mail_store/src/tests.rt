@@ -16,6 +16,8 @@ const ACCOUNT: [u8; 30] = *b"\0\0\0\x1a\x01\0\0\0\x0fann@example.org\0\0\0\x02pw
 const MESSAGE: [u8; 69] =
     *b"\0\0\0A\x04\0\0\0\0\0\0\0\0\x1a01-Jan-1970 00:00:00 +0000\0\0\0\x19Subject: caf\xc3\xa9 bar\r\n\r\nx\r\n";
 
+const MESSAGE_FRONT: [u8; 36] = *b"\x04\0\0\0\0\0\0\0\0\x1a01-Jan-1970 00:00:00 +0000";
+
 const SUBJECT: [u8; 25] = *b"Subject: caf\xc3\xa9 bar\r\n\r\nx\r\n";
 
 fn keeper_of(alloc: Global, parts: &[&[u8]], failures: Vec<Failure>) -> Result<MemKeeper, Fail> {
@@ -74,6 +76,55 @@ fn a_cut_record_is_cut_off(rt: HostRuntime) -> Result<(), Fail> {
     let store = Store::open(alloc, &mut keeper, 1000)?;
     assert!(rt; store.account_count() == 0 && store.name() == "example.org");
     assert_eq!(rt; keeper.octets().len(), 8 + DOMAIN.len());
+    Ok(())
+}
+
+// Why the store of an account and of this message isn't opened, or none.
+fn fault_of_message(alloc: Global, octets: &[u8]) -> Result<Option<OpenFault>, Fail> {
+    if octets.len() > 1000 {
+        return Err(Fail::from("too long"));
+    }
+    let len = (octets.len() as u32).to_be_bytes();
+    let record_len = (octets.len() as u32 + 40).to_be_bytes();
+    let parts = [
+        b"MAILJNL1".as_slice(),
+        &ACCOUNT,
+        &record_len,
+        &MESSAGE_FRONT,
+        &len,
+        octets,
+    ];
+    let mut keeper = keeper_of(alloc, &parts, Vec::new(alloc))?;
+    match Store::open(alloc, &mut keeper, 1000) {
+        Ok(_) => Ok(None),
+        Err(fault) => Ok(Some(fault)),
+    }
+}
+
+#[test]
+fn octets_with_a_tree_are_a_message(rt: HostRuntime) -> Result<(), Fail> {
+    let alloc = rt.alloc();
+    let nested =
+        b"Content-Type: multipart/mixed; boundary=a\r\n\r\n--a\r\nContent-Type: multipart/mixed; boundary=b\r\n\r\n--b\r\nSubject: \xc3\xa9\r\n\r\nx\r\n--b--\r\n--a--\r\n";
+    assert!(rt; fault_of_message(alloc, nested)?.is_none());
+    assert!(rt; fault_of_message(alloc, b"Content-Type: text/plain\r\n\r\nx")?.is_none());
+    assert!(rt; fault_of_message(alloc, b"content-type :")?.is_none());
+    assert!(rt; fault_of_message(alloc, b"")?.is_none());
+    Ok(())
+}
+
+#[test]
+fn octets_without_a_tree_are_none(rt: HostRuntime) -> Result<(), Fail> {
+    let alloc = rt.alloc();
+    let bad = Some(OpenFault::BadJournal { at: 38 });
+    assert!(rt; fault_of_message(alloc, b"A: b\r\n\r\nx\n")? == bad);
+    assert!(rt; fault_of_message(alloc, b"A: b\r\n\r\n\0")? == bad);
+    assert!(rt; fault_of_message(alloc, b"A: b\r")? == bad);
+    assert!(rt; fault_of_message(alloc, b"x\r\n")? == bad);
+    assert!(rt; fault_of_message(alloc, b"A: \xff\r\n")? == bad);
+    assert!(rt; fault_of_message(alloc, b"Content-Type: message/rfc822\r\n\r\nx\r\n")? == bad);
+    let part = b"Content-Type: multipart/mixed; boundary=a\r\n\r\n--a\r\nx\r\n--a--\r\n";
+    assert!(rt; fault_of_message(alloc, part)? == bad);
     Ok(())
 }
 

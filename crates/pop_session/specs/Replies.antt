@@ -3,7 +3,8 @@ use Rattle.std.specs.Prelude.{◌≡◌, ℕ, ◌++◌, ◌==◌, List, [], ◌�
 use Rattle.std.specs.List.{flat_map, list_all, AllByRecursion}
 use Rattle.mail_wire.specs.Lines.{crlf, lines_of, is_crlf}
 use Rattle.mail_wire.specs.Octets.{is_ascii}
-use Rattle.surrogate_cache.specs.Served.{legacy, enabled, IsSurrogate, HasAsciiHeader, served_by}
+use Rattle.surrogate_rope.specs.Layout.{HasSurrogate, HasAsciiBlocks}
+use Rattle.surrogate_cache.specs.Served.{legacy, enabled, served_by}
 use Rattle.pop_session.specs.Machine.{Part, line, shown}
 
 -- a dot before a line that begins with one
@@ -39,10 +40,10 @@ part_octets surrogate (shown msg mode at len) = multi_line (take len (drop at (s
 abbrev pub reply_octets : (List ℕ → List ℕ) → List Part → List ℕ
 reply_octets surrogate parts = flat_map (part_octets surrogate) parts
 
--- A line is ASCII. What a legacy session is shown is a range of the message's surrogate, all of whose header is ASCII.
+-- A line is ASCII. What a legacy session is shown is a range of the message's surrogate, all of whose header blocks are ASCII.
 abbrev pub IsFit : (List ℕ → List ℕ) → Part → Type 0
 IsFit surrogate (line octets) = list_all is_ascii octets ≡ true
-IsFit surrogate (shown msg legacy at len) = IsSurrogate msg (surrogate msg) × HasAsciiHeader (surrogate msg)
+IsFit surrogate (shown msg legacy at len) = HasSurrogate msg (surrogate msg) × HasAsciiBlocks (surrogate msg)
 IsFit surrogate (shown msg enabled at len) = Unit {0}
 
 abbrev pub AreFit : (List ℕ → List ℕ) → List Part → Type 0

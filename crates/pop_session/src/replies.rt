@@ -2,7 +2,9 @@
 ghost use Rattle.std.specs.Prelude.{◌≡◌, ◌<◌, ◌++◌, length, IfOk, string_bytes, [], Err};
 ghost use Rattle.mail_wire.specs.Lines.{crlf};
 ghost use Rattle.mail_wire.specs.Moves.{GivesOrFails, HasWireCause};
-ghost use Rattle.surrogate_cache.specs.Served.{WithSurrogates};
+ghost use Rattle.mail_store.specs.Stored.{IsStored};
+ghost use Rattle.surrogate_rope.specs.Served.{IsShownOf, shown_octets};
+ghost use Rattle.surrogate_cache.specs.Served.{IsServed, HasServedHeaders, WithSurrogates};
 ghost use Rattle.pop_session.specs.Asked.{IsAsked, IsKnown};
 ghost use Rattle.pop_session.specs.Commands.{number_of};
 ghost use Rattle.pop_session.specs.Machine.{size_of, stat_reply, list_reply, list_one_reply, retr_reply, two_numbers};
@@ -15,9 +17,24 @@ use mail_store::kept::Listed;
 use mail_store::storing::Store;
 use mail_wire::outside::{Fault, Wire};
 use mail_wire::values::Memory;
+use mime_tree::reading::read_tree;
 use std::alloc::Global;
 use surrogate_cache::cache::Cache;
 use surrogate_cache::view::View;
+use surrogate_rope::shown::Shown;
+
+// What a session of this kind is shown of the stored message of a number.
+fn show<V: View>(alloc: Global, cache: &mut Cache, id: u32, octets: &[u8]) -> Result<Shown, Memory>
+    requires { IsStored octets.now }
+    ensures shown { IfOk result (IsShownOf octets.now) }
+    ensures served { IfOk result (λ shown. IsServed V.mode octets.now (shown_octets octets.now shown)) }
+    ensures headers { IfOk result (λ shown. HasServedHeaders V.mode (shown_octets octets.now shown)) }
+{
+    match read_tree(alloc, octets) {
+        Ok(tree) => V::show(alloc, cache, id, octets, tree),
+        Err(_) => Err(Memory),
+    }
+}
 
 // How many octets a session of this kind is served of a message.
 fn size<V: View>(
@@ -30,7 +47,7 @@ fn size<V: View>(
     ensures { IfOk result (λ n. WithSurrogates (λ surrogate. n ≡ size_of surrogate V.mode store.now one.now)) }
 {
     let octets = store.octets(one.id);
-    let shown = V::show(alloc, cache, one.id, octets)?;
+    let shown = show::<V>(alloc, cache, one.id, octets)?;
     Ok(shown.size(octets))
 }
 
@@ -112,7 +129,7 @@ pub fn retr<V: View, W: Wire>(
     ensures keeper { ¬ (result ≡ Err Fault.Keeper) }
 {
     let octets = store.octets(one.id);
-    let shown = V::show(alloc, cache, one.id, octets)?;
+    let shown = show::<V>(alloc, cache, one.id, octets)?;
     give_message(alloc, &shown, octets, wire)
 }
 

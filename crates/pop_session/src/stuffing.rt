@@ -2,7 +2,7 @@
 ghost use Rattle.std.specs.Prelude.{◌≡◌, ◌++◌, IfOk, OnOk, OnErr, [], if◌then◌else◌, Err, codes};
 ghost use Rattle.mail_wire.specs.Lines.{crlf};
 ghost use Rattle.mail_wire.specs.Moves.{GivesOrFails, GivesPrefix, HasWireCause};
-ghost use Rattle.surrogate_cache.specs.Served.{shown_octets};
+ghost use Rattle.surrogate_rope.specs.Served.{IsShownOf, shown_octets};
 ghost use Rattle.pop_session.specs.Replies.{multi_line};
 ghost use Rattle.pop_session.specs.Stuffing.{is_start, needs_dot, next_place as place_behind, place_after, stuffed_from, PassesOn};
 
@@ -10,7 +10,7 @@ use mail_wire::outside::{Fault, Wire};
 use mail_wire::traffic::give_all;
 use mail_wire::values::{Memory, Octets};
 use std::alloc::Global;
-use surrogate_cache::shown::Shown;
+use surrogate_rope::shown::Shown;
 
 /// Where in its line an octet stands.
 #[derive(Clone, Copy, Debug, PartialEq, Eq)]
@@ -99,8 +99,9 @@ pub fn give_message<W: Wire>(
     msg: &[u8],
     wire: &mut W,
 ) -> Result<(), Fault>
+    requires { IsShownOf msg.now shown.now }
     ensures gives { GivesOrFails (W.tells wire.old) (W.tells wire.new) result
-        (codes "+OK\r\n" ++ (multi_line (shown_octets shown.now msg.now) ++ codes ".\r\n")) }
+        (codes "+OK\r\n" ++ (multi_line (shown_octets msg.now shown.now) ++ codes ".\r\n")) }
     ensures cause { HasWireCause (W.tells wire.old) (W.tells wire.new) result Fault.Wire }
     ensures keeper { ¬ (result ≡ Err Fault.Keeper) }
 {

@@ -161,6 +161,30 @@ fn messages_are_sent_with_their_dots(rt: HostRuntime) -> Result<(), Fail> {
     Ok(())
 }
 
+const PARTS: &str =
+    "Content-Type: multipart/mixed; boundary=b\r\n\r\n--b\r\nSubject: é\r\n\r\n.x\r\n--b\r\nContent-Type: message/global\r\n\r\nSubject: é\r\n\r\né\r\n--b--\r\n";
+
+#[test]
+fn fields_of_parts_are_served_to_both_kinds(rt: HostRuntime) -> Result<(), Fail> {
+    let alloc = rt.alloc();
+    let mut store = store_of(alloc, &[PARTS.as_bytes()])?;
+    let legacy = is_answered_at_once(
+        alloc,
+        &mut store,
+        b"USER ann@example.org\r\nPASS pw\r\nRETR 1\r\n",
+        "+OK ready\r\n+OK\r\n+OK\r\n+OK\r\nContent-Type: multipart/mixed; boundary=b\r\n\r\n--b\r\nSubject:\r\n =?UTF-8?B?w6k=?=\r\n\r\n..x\r\n--b\r\nContent-Type: message/rfc822\r\n\r\nSubject:\r\n =?UTF-8?B?w6k=?=\r\n\r\né\r\n--b--\r\n.\r\n".as_bytes(),
+    );
+    assert!(rt; matches!(legacy, Ok(true)));
+    let enabled = is_answered_at_once(
+        alloc,
+        &mut store,
+        b"UTF8\r\nUSER ann@example.org\r\nPASS pw\r\nRETR 1\r\n",
+        "+OK ready\r\n+OK\r\n+OK\r\n+OK\r\n+OK\r\nContent-Type: multipart/mixed; boundary=b\r\n\r\n--b\r\nSubject: é\r\n\r\n..x\r\n--b\r\nContent-Type: message/global\r\n\r\nSubject: é\r\n\r\né\r\n--b--\r\n.\r\n".as_bytes(),
+    );
+    assert!(rt; matches!(enabled, Ok(true)));
+    Ok(())
+}
+
 #[test]
 fn commands_without_an_end_and_empty_mailboxes(rt: HostRuntime) -> Result<(), Fail> {
     let alloc = rt.alloc();

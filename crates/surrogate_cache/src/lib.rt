@@ -3,7 +3,6 @@
 
 pub mod cache;
 pub mod laws;
-pub mod shown;
 #[cfg(test)]
 mod tests;
 pub mod view;

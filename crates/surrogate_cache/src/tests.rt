@@ -1,20 +1,18 @@
 //! What is shown of a message, in both kinds.
-ghost use Rattle.surrogate_cache.specs.Served.{CanShow};
+ghost use Rattle.surrogate_rope.specs.Served.{IsShownOf};
 
 use crate::cache::Cache;
 use crate::view::{Enabled, Legacy, View};
-use field_downgrade::message::first_unbuilt;
 use mail_wire::values::{Memory, Octets};
+use mime_tree::reading::read_tree;
 use std::alloc::Global;
 use std::test::Fail;
-use utf8_fields::reading::read_block;
+use surrogate_rope::shown::Shown;
 
-// What is shown of a message, read in pieces of seven octets.
-fn shown<V: View>(alloc: Global, msg: &[u8]) -> Result<Octets, Memory>
-    requires { CanShow V.mode msg.now }
+// All that is shown, read in pieces of seven octets.
+fn all_of(alloc: Global, shown: &Shown, msg: &[u8]) -> Result<Octets, Memory>
+    requires { IsShownOf msg.now shown.now }
 {
-    let mut cache = Cache::plain();
-    let shown = V::show(alloc, &mut cache, 0, msg)?;
     let mut all = Octets::new(alloc);
     let mut piece = [0; 7];
     for _ in 0..shown.size(msg) {
@@ -24,26 +22,32 @@ fn shown<V: View>(alloc: Global, msg: &[u8]) -> Result<Octets, Memory>
     Ok(all)
 }
 
-// Whether the surrogate of a message is this one.
-fn has_surrogate(alloc: Global, msg: &[u8], want: &[u8]) -> bool {
-    let Ok(block) = read_block(alloc, msg) else {
-        return false;
+// What is shown of a message.
+fn shown<V: View>(alloc: Global, msg: &[u8]) -> Result<Octets, Memory> {
+    let Ok(tree) = read_tree(alloc, msg) else {
+        return Err(Memory);
     };
-    match first_unbuilt(msg, &block) {
-        Some(_) => false,
-        None => match shown::<Legacy>(alloc, msg) {
-            Ok(made) => made.as_slice() == want,
-            Err(_) => false,
-        },
-    }
+    let mut cache = Cache::plain();
+    let shown = V::show(alloc, &mut cache, 0, msg, tree)?;
+    all_of(alloc, &shown, msg)
 }
 
 #[test]
 fn messages_are_shown_by_kind(rt: HostRuntime) -> Result<(), Fail> {
     let message = "Subject: café bar\r\n\r\nx\r\n".as_bytes();
-    let made = b"Subject:\r\n =?UTF-8?B?Y2Fmw6k=?=\r\n bar\r\n\r\nx\r\n";
-    assert!(rt; has_surrogate(rt.alloc(), message, made));
+    let made = b"Subject:\r\n =?UTF-8?B?Y2Fmw6k=?=\r\n bar\r\n\r\nx\r\n".as_slice();
+    assert!(rt; shown::<Legacy>(rt.alloc(), message)?.as_slice() == made);
     assert!(rt; shown::<Enabled>(rt.alloc(), message)?.as_slice() == message);
     assert!(rt; Enabled::enabled() && !Legacy::enabled());
+    Ok(())
+}
+
+#[test]
+fn fields_of_inner_messages_are_shown_by_kind(rt: HostRuntime) -> Result<(), Fail> {
+    let message = "Content-Type: message/global\r\n\r\nSubject: é\r\n\r\né".as_bytes();
+    let made =
+        "Content-Type: message/rfc822\r\n\r\nSubject:\r\n =?UTF-8?B?w6k=?=\r\n\r\né".as_bytes();
+    assert!(rt; shown::<Legacy>(rt.alloc(), message)?.as_slice() == made);
+    assert!(rt; shown::<Enabled>(rt.alloc(), message)?.as_slice() == message);
     Ok(())
 }

@@ -1,13 +1,15 @@
 //! The two kinds of session.
 ghost use Rattle.std.specs.Prelude.{◌≡◌, IfOk};
-ghost use Rattle.surrogate_cache.specs.Served.{Mode, legacy, enabled, is_enabled, CanShow, IsServed, IsServable, shown_octets, IsShownBy, HasServedHeader};
+ghost use Rattle.mime_tree.specs.Tree.{HasTree};
+ghost use Rattle.surrogate_rope.specs.Served.{IsShownOf, shown_octets};
+ghost use Rattle.surrogate_cache.specs.Served.{Mode, legacy, enabled, is_enabled, IsServed, IsShownBy, HasServedHeaders};
 
 use crate::cache::Cache;
-use crate::shown::Shown;
-use field_downgrade::message::downgrade_message;
-use mail_wire::values::{Memory, Octets};
+use mail_wire::values::Memory;
+use mime_tree::entity::Tree;
 use std::alloc::Global;
-use utf8_fields::reading::read_block;
+use surrogate_rope::rope::Rope;
+use surrogate_rope::shown::Shown;
 
 /// A kind of session.
 pub trait View {
@@ -16,11 +18,18 @@ pub trait View {
     fn enabled() -> bool
         ensures { result ≡ is_enabled mode };
 
-    /// What a session of this kind is shown of the message of a number.
-    fn show(alloc: Global, cache: &mut Cache, id: u32, msg: &[u8]) -> Result<Shown, Memory>
-        requires { CanShow mode msg.now }
-        ensures served { IfOk result (λ shown. IsServed mode msg.now (shown_octets shown msg.now)) }
-        ensures header { IfOk result (λ shown. HasServedHeader mode (shown_octets shown msg.now)) }
+    /// What a session of this kind is shown of the message of a number, whose tree this is.
+    fn show(
+        alloc: Global,
+        cache: &mut Cache,
+        id: u32,
+        msg: &[u8],
+        tree: Tree,
+    ) -> Result<Shown, Memory>
+        requires { HasTree msg.now tree.entities }
+        ensures shown { IfOk result (IsShownOf msg.now) }
+        ensures served { IfOk result (λ shown. IsServed mode msg.now (shown_octets msg.now shown)) }
+        ensures headers { IfOk result (λ shown. HasServedHeaders mode (shown_octets msg.now shown)) }
         ensures kind { IfOk result (IsShownBy mode) };
 }
 
@@ -32,18 +41,6 @@ pub struct Legacy;
 #[derive(Clone, Copy, Debug)]
 pub struct Enabled;
 
-// Makes the surrogate of a message.
-fn surrogate(alloc: Global, msg: &[u8]) -> Result<Octets, Memory>
-    requires { IsServable msg.now }
-    ensures served { IfOk result (λ made. IsServed legacy msg.now made) }
-    ensures header { IfOk result (λ made. HasServedHeader legacy made) }
-{
-    match read_block(alloc, msg) {
-        Ok(block) => downgrade_message(alloc, msg, &block),
-        Err(_) => Err(Memory),
-    }
-}
-
 impl View for Legacy {
     ghost mode = { legacy };
 
@@ -51,9 +48,15 @@ impl View for Legacy {
         false
     }
 
-    fn show(alloc: Global, _cache: &mut Cache, _id: u32, msg: &[u8]) -> Result<Shown, Memory> {
-        let made = surrogate(alloc, msg)?;
-        Ok(Shown::Made(made))
+    fn show(
+        alloc: Global,
+        _cache: &mut Cache,
+        _id: u32,
+        msg: &[u8],
+        tree: Tree,
+    ) -> Result<Shown, Memory> {
+        let rope = Rope::build(alloc, msg, &tree)?;
+        Ok(Shown::Rope(rope))
     }
 }
 
@@ -64,7 +67,13 @@ impl View for Enabled {
         true
     }
 
-    fn show(_alloc: Global, _cache: &mut Cache, _id: u32, _msg: &[u8]) -> Result<Shown, Memory> {
-        Ok(Shown::Whole)
+    fn show(
+        _alloc: Global,
+        _cache: &mut Cache,
+        _id: u32,
+        _msg: &[u8],
+        tree: Tree,
+    ) -> Result<Shown, Memory> {
+        Ok(Shown::Whole(tree))
     }
 }

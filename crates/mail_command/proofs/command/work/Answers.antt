@@ -3,7 +3,7 @@ use Rattle.mail_command.specs.Running.{RunsSession}
 use Rattle.mail_command.specs.Statuses.{status_of}
 use Rattle.mail_command.proofs.RunLemmas.{runs_downgrade}
 use Rattle.mail_command.proofs.SessionLemmas.{at_pop, exact_journal}
-use Rattle.surrogate_cache.proofs.AllSurrogates.{GivesSurrogates-some}
+use Rattle.surrogate_cache.proofs.ServedLemmas.{surrogates_given}
 use Rattle.mail_command.proofs.command.work.Goals as goal
 
 pub returns-in-Some-Downgrade-clause-downgrade : goal.returns-in-Some-Downgrade-clause-downgrade
@@ -19,5 +19,5 @@ returns-in-Some-Session-clause-pop g c _ surrogate is =
 
 pub returns-in-Some-Session-clause-journal : goal.returns-in-Some-Session-clause-journal
 returns-in-Some-Session-clause-journal g c _ =
-    exact_journal GivesSurrogates-some.0 c.in-Some-Session.role 1073741824 (g.J.Keeper.tells c.args.keeper.now).octets (g.J.Keeper.tells c.run_session.new.keeper).octets (g.W.Wire.tells c.args.wire.now) (g.W.Wire.tells c.run_session.new.wire) (status_of c.run_session.result)
-    (c.run_session.ensures.runs GivesSurrogates-some.0 GivesSurrogates-some.1)
+    exact_journal surrogates_given.0 c.in-Some-Session.role 1073741824 (g.J.Keeper.tells c.args.keeper.now).octets (g.J.Keeper.tells c.run_session.new.keeper).octets (g.W.Wire.tells c.args.wire.now) (g.W.Wire.tells c.run_session.new.wire) (status_of c.run_session.result)
+    (c.run_session.ensures.runs surrogates_given.0 surrogates_given.1)

@@ -2,13 +2,13 @@ use Rattle.std.proofs.Common.{◌≤◌, ◌+◌, length, arith, take, codes, re
 use Rattle.std.proofs.lemmas.Result.{err_from_is_err_and}
 use Rattle.mail_wire.specs.declared.outside.Fault.TheVariants as fault
 use Rattle.mail_wire.proofs.Moving.{GoesOn-of}
-use Rattle.surrogate_cache.specs.Served.{shown_octets}
+use Rattle.surrogate_rope.specs.Served.{shown_octets}
 use Rattle.pop_session.proofs.StuffedPieces.{nothing_given, prefix_given, prefix_pending, part_given, read_piece, piece_pending, end_given}
 use Rattle.pop_session.proofs.stuffing.give_message.Goals as goal
 
 pub loop-at-init : goal.loop-at-init
 loop-at-init g c = record {
-  given = rw c.in_ok-pending.ensures (nothing_given (g.W.Wire.tells c.args.wire.now) (codes "+OK\r\n") (shown_octets c.args.shown.now c.args.msg.now));
+  given = rw c.in_ok-pending.ensures (nothing_given (g.W.Wire.tells c.args.wire.now) (codes "+OK\r\n") (shown_octets c.args.msg.now c.args.shown.now));
   within = omega arith;
 }
 
@@ -16,13 +16,13 @@ pub returns-in_err-place-clause-gives : goal.returns-in_err-place-clause-gives
 returns-in_err-place-clause-gives g c =
     let failed = err_from_is_err_and c.from_residual-in_err-place.result c.from_residual-in_err-place.ensures.1 in
     rw failed.1
-    (prefix_given (g.W.Wire.tells c.args.wire.now) (g.W.Wire.tells c.loop-at.wire) (codes "+OK\r\n") (shown_octets c.args.shown.now c.args.msg.now) c.loop-at.pending (codes ".\r\n")
+    (prefix_given (g.W.Wire.tells c.args.wire.now) (g.W.Wire.tells c.loop-at.wire) (codes "+OK\r\n") (shown_octets c.args.msg.now c.args.shown.now) c.loop-at.pending (codes ".\r\n")
     c.loop-at.at c.loop-at.place c.loop-at.invariant.given)
 
 pub returns-in_err-give_piece-clause-gives : goal.returns-in_err-give_piece-clause-gives
 returns-in_err-give_piece-clause-gives g c =
     let failed = err_from_is_err_and c.from_residual-in_err-give_piece.result c.from_residual-in_err-give_piece.ensures.1 in
-    let octets = shown_octets c.args.shown.now c.args.msg.now in
+    let octets = shown_octets c.args.msg.now c.args.shown.now in
     let piece = take c.read_at-count.result c.read_at-count.new.into in
     let read = read_piece octets c.read_at-count.new.into c.loop-at.piece piece c.loop-at.at c.read_at-count.result c.read_at-count.ensures.count c.read_at-count.ensures.octets refl in
     let more = piece_pending (g.W.Wire.tells c.args.wire.now) (g.W.Wire.tells c.loop-at.wire) (codes "+OK\r\n") octets c.loop-at.pending piece c.push_stuffed.new.pending c.loop-at.at
@@ -33,7 +33,7 @@ returns-in_err-give_piece-clause-gives g c =
 
 pub loop-at-preserved : goal.loop-at-preserved
 loop-at-preserved g c =
-    let octets = shown_octets c.args.shown.now c.args.msg.now in
+    let octets = shown_octets c.args.msg.now c.args.shown.now in
     let piece = take c.read_at-count.result c.read_at-count.new.into in
     let read = read_piece octets c.read_at-count.new.into c.loop-at.piece piece c.loop-at.at c.read_at-count.result c.read_at-count.ensures.count c.read_at-count.ensures.octets refl in
     let more = piece_pending (g.W.Wire.tells c.args.wire.now) (g.W.Wire.tells c.loop-at.wire) (codes "+OK\r\n") octets c.loop-at.pending piece c.push_stuffed.new.pending c.loop-at.at
@@ -47,6 +47,6 @@ loop-at-preserved g c =
 
 pub returns-clause-gives : goal.returns-clause-gives
 returns-clause-gives g c =
-    let end : length (shown_octets c.args.shown.now c.args.msg.now) ≤ c.loop-at.at = omega (arith, c.size-size.ensures) in
+    let end : length (shown_octets c.args.msg.now c.args.shown.now) ≤ c.loop-at.at = omega (arith, c.size-size.ensures) in
     end_given (g.W.Wire.tells c.args.wire.now) (g.W.Wire.tells c.loop-at.wire) (g.W.Wire.tells c.give_end.new.wire) c.give_end.result (codes "+OK\r\n")
-    (shown_octets c.args.shown.now c.args.msg.now) c.loop-at.pending (codes ".\r\n") c.loop-at.at c.loop-at.place c.loop-at.invariant.given end c.give_end.ensures.gives
+    (shown_octets c.args.msg.now c.args.shown.now) c.loop-at.pending (codes ".\r\n") c.loop-at.at c.loop-at.place c.loop-at.invariant.given end c.give_end.ensures.gives

@@ -1,11 +1,11 @@
 use Rattle.std.proofs.Common.{◌≤◌, ◌-◌, codes}
-use Rattle.surrogate_cache.specs.Served.{shown_octets}
+use Rattle.surrogate_rope.specs.Served.{shown_octets}
 use Rattle.pop_session.proofs.StuffedPieces.{HasGiven}
 use Rattle.pop_session.proofs.stuffing.give_message.Given as goal
 
 abbrev pub invariant-loop-at : goal.invariant-loop-at
 invariant-loop-at g l = record {
-  given : HasGiven (g.W.Wire.tells l.initial.wire) (g.W.Wire.tells l.wire) (codes "+OK\r\n") (shown_octets l.shown l.msg) l.pending l.at l.place;
+  given : HasGiven (g.W.Wire.tells l.initial.wire) (g.W.Wire.tells l.wire) (codes "+OK\r\n") (shown_octets l.msg l.shown) l.pending l.at l.place;
   within : l.at ≤ l.size;
 }
 

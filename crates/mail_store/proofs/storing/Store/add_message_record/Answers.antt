@@ -13,6 +13,6 @@ invariant_of-self-2 c =
     let there : c.args.folder < length c.self.inside.folders.items = omega (arith, c.len.ensures, checked.0) in
     let room : length c.self.inside.messages.items < THINGS_MAX = omega (arith, c.len-count.ensures, checked.3) in
     let made : Message = record { folder = c.args.folder; flags = c.args.flags; live = true; date = c.args.date; octets = c.args.octets } in
-    let stored : IsStored c.args.octets = rw c.as_slice.ensures at c.in_ok-judge.ensures.0 in
+    let stored : IsStored c.args.octets = rw c.as_slice.ensures at c.in_ok-judge.ensures in
     rw (c.push_reserved.ensures, c.in_ok-push_number.ensures.ok, c.in_ok-reserve.ensures.items)
     (AreIndexes-message_at (kept_of c.self.inside) c.self.inside.contents.items c.self.inside.inboxes.items (number_of c.self.inside.names) made c.len-count.result c.self.invariant there room stored (omega (arith, c.len-count.ensures)))
