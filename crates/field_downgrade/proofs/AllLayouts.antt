@@ -1,22 +1,18 @@
 -- Every field that can be rewritten has a served form.
 use Rattle.std.proofs.Common.{◌≡◌, ℕ, ◌≤◌, Bool, true, false, not, inl, inr, zero, suc, List, [], ◌∷◌, ◌++◌, length, map, drop, refl, sym, ap, ◌∙◌, arith}
 use Rattle.std.proofs.lemmas.Bool.{and_parts, and_from, both_ways, cases_Bool}
-use Rattle.std.proofs.lemmas.List.Elements.{All-head, All-tail}
-use Rattle.std.specs.List.{list_all, All, AllZip, concat}
+use Rattle.std.specs.List.{list_all}
 use Rattle.mail_wire.specs.Octets.{is_ascii}
 use Rattle.encoded_words.specs.Folding.{word_pieces, made_body}
 use Rattle.encoded_words.proofs.AllChunks.{AreBWords-some}
 use Rattle.utf8_fields.specs.Parts.{FieldParts, IsField, field_octets}
-use Rattle.utf8_fields.specs.declared.block.Field.{Field}
-use Rattle.utf8_fields.specs.Block.{HasBlock, raw_of}
-use Rattle.utf8_fields.proofs.HaveParts.{block_fields, have_parts}
 use Rattle.field_downgrade.specs.declared.segments.Side.{Side}
 use Rattle.field_downgrade.specs.declared.segments.Side.TheVariants.{Edge, Encoded, Plain}
 use Rattle.field_downgrade.specs.Words.{Word, plain_text, last_run, is_high}
 use Rattle.field_downgrade.specs.Layout.{CutsLeft, CutsRight, IsCopied, begins_high, ends_high, first_side, last_side, copied_pieces, made_of}
 use Rattle.field_downgrade.specs.Steps.{NeedsRun, SplitsCopied, SplitsCore, BeginsCore, BeginsEncoded, CanWrite, WritesSegment, WritesWords, MakesUnstructured}
 use Rattle.field_downgrade.specs.Stands.{IsHighField}
-use Rattle.field_downgrade.specs.Message.{IsServed, HasServedFields}
+use Rattle.field_downgrade.specs.Message.{IsServed}
 use Rattle.field_downgrade.proofs.SegmentLemmas.{NotEncoded, EndsHigh, not_true}
 use Rattle.field_downgrade.proofs.Writing.{WritesOn, WritesOn-start, WritesOn-step, WritesOn-begins, WritesOn-end, WritesSegment-from, CanWrite-from, needs_left, needs_right, text_utf8, shorter}
 use Rattle.field_downgrade.proofs.Rewriting.{IsServed-words, IsServed-other}
@@ -154,16 +150,3 @@ IsServed-some open_global octets is_any = elim (cases_Bool (list_all is_ascii oc
         | inr other ↦ let g = structured_some open_global octets f high other in (field_octets g.0, IsServed-other open_global octets (field_octets g.0) f g.0 high other g.1 refl)
       ]
 ]
-
--- The same for each field of a message.
-made_fields : (msg : List ℕ) (fields : List Field) → All (λ field. IsField (raw_of msg field)) fields → (header : List (List ℕ)) × AllZip (IsServed false) (map (raw_of msg) fields) header
-made_fields msg [] are = ([], tt)
-made_fields msg (field ∷ fields) are =
-    let first = IsServed-some false (raw_of msg field) (All-head (λ field. IsField (raw_of msg field)) field fields are) in
-    let more = made_fields msg fields (All-tail (λ field. IsField (raw_of msg field)) field fields are) in
-    (first.0 ∷ more.0, (first.1, more.1))
-
-pub HasServedFields-some : (msg : List ℕ) (fields : List Field) (end : ℕ) → HasBlock msg fields end → (made : List ℕ) × HasServedFields msg fields end made
-HasServedFields-some msg fields end block =
-    let header = made_fields msg fields (have_parts msg fields (block_fields msg 0 fields end (omega arith) block)) in
-    (concat header.0 ++ drop end msg, record { header = header.0; each = header.1; whole = refl })

@@ -11,8 +11,6 @@ pub mod SegmentLemmas
 pub mod Writing
 pub mod OneMeaning
 pub mod BlockFields
-pub mod UnbuiltLemmas
-pub mod MessageLemmas
 pub mod PlainReading
 pub mod PlainTextLemmas
 pub mod TypedLemmas
@@ -36,4 +34,3 @@ pub mod Rewriting
 pub mod OneLayout
 pub mod NamingLemmas
 pub mod AllLayouts
-pub mod GivenLayouts

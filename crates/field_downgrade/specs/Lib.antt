@@ -8,7 +8,6 @@ pub mod Received
 pub mod ReceivedSteps
 pub mod GlobalBodies
 pub mod Stands
-pub mod Unbuilt
 pub mod Message
 pub mod Views
 pub mod Steps

@@ -55,18 +55,6 @@ fn push_high(alloc: Global, raw: &[u8], open_global: bool, made: &mut Octets) ->
     }
 }
 
-/// Puts a field of an entity other than an opened message/global last, as it is served. After want of memory a part of it
-/// was put.
-pub(crate) fn push_field(alloc: Global, raw: &[u8], made: &mut Octets) -> Result<(), Memory>
-    requires { IsField raw.now }
-    ensures { OnOk result (Adds (IsServed false raw.now) made.old made.new) }
-{
-    if !is_ascii(raw) {
-        return push_high(alloc, raw, false, made);
-    }
-    made.push_slice(raw)
-}
-
 // Puts a field of these parts with another body last.
 fn push_with_body(made: &mut Octets, parts: &Parts<'_>, body: &[u8]) -> Result<(), Memory>
     ensures { OnOk result (made.new ≡ made.old ++ field_octets (with_body (parts_of parts.now) body.now)) }

@@ -6,7 +6,6 @@ mod global_bodies;
 pub mod kind;
 pub mod laws;
 mod lines;
-pub mod message;
 mod plain;
 mod received;
 mod segments;
@@ -14,6 +13,5 @@ mod structured;
 #[cfg(test)]
 mod tests;
 mod typed;
-mod unbuilt;
 mod word;
 mod words;

@@ -1,10 +1,21 @@
 //! The worked rows, by the public calls.
+ghost use Rattle.std.specs.Prelude.{◌≡◌, ◌+◌, ◌≤◌, length};
+ghost use Rattle.utf8_fields.specs.Block.{raw_of};
+
 use crate::field::{Rewrite, downgrade_field};
 use crate::kind::{Kind, kind_of};
-use crate::message::{downgrade_message, first_unbuilt, raw_of};
 use param_2231::ParamKind;
 use std::test::Fail;
+use utf8_fields::block::Field;
 use utf8_fields::reading::read_block;
+
+// The raw octets of a field.
+fn raw_of<'m>(msg: &'m [u8], field: &Field) -> &'m [u8]
+    requires { field.now.raw.at + field.now.raw.len ≤ length msg.now }
+    ensures { result.now ≡ raw_of msg.now field.now }
+{
+    &msg[field.raw.at..field.raw.at + field.raw.len]
+}
 
 // Rewrites the only field of a message, and compares. Where it is told so, the message is an opened message/global.
 fn gives_in(rt: &HostRuntime, open_global: bool, msg: &[u8], want: &[u8]) -> bool {
@@ -24,28 +35,6 @@ fn gives_in(rt: &HostRuntime, open_global: bool, msg: &[u8], want: &[u8]) -> boo
 
 fn gives(rt: &HostRuntime, msg: &[u8], want: &[u8]) -> bool {
     gives_in(rt, false, msg, want)
-}
-
-// The place of the first unbuilt field of a message, if it has a block with one.
-fn unbuilt_at(rt: &HostRuntime, msg: &str) -> Option<usize> {
-    let Ok(block) = read_block(rt.alloc(), msg.as_bytes()) else {
-        return None;
-    };
-    first_unbuilt(msg.as_bytes(), &block)
-}
-
-// Rewrites the fields of a message, where none is unbuilt, and compares.
-fn message_gives(rt: &HostRuntime, msg: &[u8], want: &[u8]) -> bool {
-    let Ok(block) = read_block(rt.alloc(), msg) else {
-        return false;
-    };
-    match first_unbuilt(msg, &block) {
-        Some(_) => false,
-        None => match downgrade_message(rt.alloc(), msg, &block) {
-            Ok(made) => made.as_slice() == want,
-            Err(_) => false,
-        },
-    }
 }
 
 #[test]
@@ -336,25 +325,6 @@ fn an_opened_global_message_is_called_a_message(rt: HostRuntime) -> Result<(), F
     }
     let field = "Content-Type: message/global\r\n";
     assert!(rt; gives(&rt, field.as_bytes(), field.as_bytes()));
-    Ok(())
-}
-
-#[test]
-fn first_unbuilt_is_where_it_stands(rt: HostRuntime) -> Result<(), Fail> {
-    assert!(rt; unbuilt_at(&rt, "To: a\r\ncontent-type: a\r\n") == Some(7));
-    assert!(rt; unbuilt_at(&rt, "-: é\r\nReceived: é\r\nKeywords: ,é\r\n").is_none());
-    Ok(())
-}
-
-#[test]
-fn a_message_has_its_fields_rewritten(rt: HostRuntime) -> Result<(), Fail> {
-    assert!(rt;
-        message_gives(
-            &rt,
-            "To: a@b\r\nSubject: café bar\r\n\r\né: é\r\n".as_bytes(),
-            "To: a@b\r\nSubject:\r\n =?UTF-8?B?Y2Fmw6k=?=\r\n bar\r\n\r\né: é\r\n".as_bytes()
-        )
-    );
     Ok(())
 }
 
