@@ -18,9 +18,10 @@ from email.utils import formatdate, parsedate_tz
 import layout
 import meaning
 import units
+from blocks import parts_of
 from generated import SCRIPTS, WHITE, ascii_word, high_word
 from harness import differs, in_lanes, show
-from oracle import outcome, parts_of, read_mail
+from oracle import outcome, read_mail
 
 SEED = 6858
 COUNT = 300

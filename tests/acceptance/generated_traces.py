@@ -11,11 +11,12 @@ from email.header import decode_header
 from email.utils import formatdate, parseaddr, parsedate_tz
 
 import layout
+from blocks import parts_of
 from generated import SCRIPTS, value
 from generated_addresses import ADDRESS_SOUP, DOMAINS, ODD_DOMAINS, any_address, blank, field_faults, local, spread, with_a_labels
 from generated_fields import FOLDS, SOUP, atom, comment, joined, message_of, quoted, soup
 from harness import differs, in_lanes, show
-from oracle import parts_of, read_mail
+from oracle import read_mail
 
 SEED = 5321
 COUNT = 300

@@ -16,8 +16,7 @@ The rules, as far as they are built:
 import re
 
 import trees
-from blocks import Refused, is_sound, parts_of, read_block
-from parameters import TYPE
+from blocks import Refused, read_block
 
 MESSAGE_MAX = 33_554_432
 FAULT = re.compile(rb"(\0)|(\r)(?!\n)|(?<!\r)(\n)")
@@ -32,10 +31,6 @@ def outcome(words, octets):
         return 0, trees.surrogate(sound(octets))
     except Refused as fault:
         return 7, b"refused at %d: %s\r\n" % fault.args
-
-
-def surrogate(fields, rest):
-    return b"".join(map(trees.surrogate_field, fields)) + rest
 
 
 def sound(octets):
@@ -53,9 +48,3 @@ def sound(octets):
 def read_mail(octets):
     """The raw fields of a message, and what stands behind them."""
     return read_block(sound(octets))
-
-
-def is_unbuilt(raw):
-    """Whether a field stands in the way of a message that is kept in a store."""
-    name, _, _ = parts_of(raw)
-    return name.lower() == TYPE

@@ -3,14 +3,16 @@
 A journal is `MAILJNL1` and records: a length of four octets (big-endian, from 1 to 67,108,864) and so many octets, which
 are a kind and its fields. Fewer than eight octets that begin `MAILJNL1` are begun anew; at the end a prefix of a record
 is cut off. So far records are accounts (1), domains (2) and messages (4); those of the kinds 3 and 5 to 8 aren't built,
-nor are addresses and domains that aren't simple, and messages with a field that can't be rewritten.
+nor are addresses and domains that aren't simple. The octets of a message have a tree of entities (trees.py); their last
+line may lack its CRLF. Other octets are no record.
 
 A session answers lines that end with CRLF. A line is too long as soon as its octet 65,537 is there. One space stands
 behind the keyword, and the rest of the line is the argument. State comes first, then the arguments, then the rest."""
 
 import re
 
-from oracle import Refused, is_sound, is_unbuilt, read_block, surrogate
+import trees
+from blocks import Refused, is_sound
 
 FIRST_OCTETS = b"MAILJNL1"
 RECORD_MAX = 67_108_864
@@ -134,15 +136,12 @@ def add_domain(fields):
 def add_message(store, fields):
     folder, flags, date, octets = fields.number(), fields.take(1)[0], fields.octets(), fields.octets()
     fields.end()
-    try:
-        raw, rest = read_block(octets)
-    except Refused as error:
-        raise NoRecord from error
-    if any(map(is_unbuilt, raw)):
-        raise NotBuilt
     if folder >= len(store.inboxes) or flags >= 32 or not DATE.fullmatch(date) or not is_sound(octets):
         raise NoRecord
-    store.inboxes[folder].append((octets, surrogate(raw, rest)))
+    try:
+        store.inboxes[folder].append((octets, trees.surrogate(octets)))
+    except Refused as error:
+        raise NoRecord from error
 
 
 def is_simple(text):

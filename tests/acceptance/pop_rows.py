@@ -4,7 +4,7 @@ import paths
 from harness import in_lanes
 from journal import FIRST_OCTETS, account, domain, journal, mailbox, message
 from pop_oracle import outcome
-from rows import CAFE
+from rows import CAFE, MIXED
 from talk import all_cuts, answer_faults, joined
 
 READY = ["+OK ready"]
@@ -14,7 +14,13 @@ ANN = mailbox([])
 TWO = journal(domain(b"example.org"), account(b"ann@example.org", b"pw"), account(b"bob@example.org", b""), message(1, b"A: b\r\n"))
 DOTS = mailbox([b"A: b\r\n\r\n.\r\n..\r\nx.\r\n\r\n.x"])
 LINE_MAX = 65_536
-UNBUILT = b"Content-Type: a/b\r\n"
+TYPED = b"Content-Type: a/b\r\n"
+# a part that is a message, with a part inside
+NESTED = [
+    "Content-Type: multipart/mixed; boundary=a", "", "--a", "Content-Type: message/rfc822", "", "Subject: é",
+    "Content-Type: multipart/mixed; boundary=b", "", "--b", "Subject: café bar", "", ".é", "--b--", "--a--",
+]
+HIGH_MADE, CAFE_MADE = ["Subject:", " =?UTF-8?B?w6k=?="], ["Subject:", " =?UTF-8?B?Y2Fmw6k=?=", " bar"]
 TRACED = mailbox(["Received: for <é@x>; 1\r\nReturn-Path: <a@é>\r\nMessage-ID: <é@x>\r\nContent-Disposition: a;x=é\r\n-x: é\r\n".encode()])
 
 
@@ -44,6 +50,12 @@ def of_mail():
             [*LOGGED_IN, "-ERR no such message", "-ERR no such message", "+OK 1 44", "-ERR no such message", "-ERR no such message", "+OK 1 44"]),
         ("dots, and a last line without CRLF", DOTS, [*LOGIN, "STAT", "RETR 1"],
             [*LOGGED_IN, "+OK 1 23", "+OK", "A: b", "", "..", "...", "x.", "", "..x", "."]),
+        ("a nested multipart retrieved by a legacy client", mailbox([octets_of(NESTED)]), [*LOGIN, "STAT", "RETR 1"],
+            [*LOGGED_IN, "+OK 1 221", "+OK", *NESTED[:5], *HIGH_MADE, *NESTED[6:9], *CAFE_MADE, "", "..é", *NESTED[12:], "."]),
+        ("a nested multipart retrieved by an enabled client", mailbox([octets_of(NESTED)]), ["UTF8", *LOGIN, "STAT", "RETR 1"],
+            ["+OK ready", "+OK", "+OK", "+OK", "+OK 1 186", "+OK", *NESTED[:11], "..é", *NESTED[12:], "."]),
+        ("a part's last line without CRLF", mailbox([f"{MIXED}--b\r\nSubject: é".encode()]), [*LOGIN, "STAT", "RETR 1"],
+            [*LOGGED_IN, "+OK 1 77", "+OK", *MIXED.splitlines(), "--b", *HIGH_MADE, "."]),
         ("a message without octets", mailbox([b""]), [*LOGIN, "STAT", "RETR 1"], [*LOGGED_IN, "+OK 1 0", "+OK", "."]),
     ]
 
@@ -130,8 +142,12 @@ def of_journals():
             ANN + message(0, b"A: b\r\n", flags=31, date=b" 9-jUN-0000 99:99:99 -9999")),
         refused("a line that is no field", ANN + message(0, b"x\r\n"), 5, b"bad journal at %d" % len(ANN)),
         refused("a bare LF in the body", ANN + message(0, b"A: b\r\n\r\nx\n"), 5, b"bad journal at %d" % len(ANN)),
-        refused("a type", ANN + message(0, UNBUILT), 10, b"not built at %d" % len(ANN)),
-        refused("a type in no folder", ANN + message(9, UNBUILT, flags=99), 10, b"not built at %d" % len(ANN)),
+        refused("a part that is no entity", ANN + message(0, f"{MIXED}--b\r\né\r\n".encode()), 5, b"bad journal at %d" % len(ANN)),
+        refused("a part that isn't UTF-8", ANN + message(0, MIXED.encode() + b"--b\r\nA: \xff\r\n"), 5, b"bad journal at %d" % len(ANN)),
+        ("a part behind the last one that is no entity", ANN + message(0, f"{MIXED}--b\r\n--b--\r\né\r\n".encode()), *opens,
+            ANN + message(0, f"{MIXED}--b\r\n--b--\r\né\r\n".encode())),
+        ("a type", ANN + message(0, TYPED), *opens, ANN + message(0, TYPED)),
+        refused("a type in no folder", ANN + message(9, TYPED, flags=99), 5, b"bad journal at %d" % len(ANN)),
         refused("the first of two faults", ANN + domain(b"-") + b"\0\0\0\1\x09", 10, b"not built at %d" % len(ANN)),
     ]
 

@@ -11,6 +11,7 @@ import paths
 from harness import in_lanes
 from journal import account, domain, journal, message, record, text
 from pop_oracle import outcome
+from rows import MIXED
 from talk import all_cuts, joined
 
 SEED = 6856
@@ -20,12 +21,18 @@ JOURNALS = 300
 NAMES = [b"ann@example.org", b"b@x", b"a.b@x.org", b"0@0.0"]
 PASSWORDS = [b"", b"pw", b" p w ", b"\xff\x00", "pässword".encode(), b"p\rw", b"p\nw"]
 DOTS = [b"\r\n.", b"A: b\r\n\r\n.\r\n..\r\n\r\n.", b"A: b\r\n\r\n" + b".\r\n" * 400]
+MESSAGE = "Content-Type: message/global\r\n"
 FIELDS = ["X: é", "A: b\r\n é\r\n", "Subject: =?é\r\n", "Date: (é)", "Keywords: é,\r\n", "Content-Transfer-Encoding: é\r\n\r\n."]
 ADDRESSES = ["To: é", "From: é <a@b>, b@é\r\n", "Cc: é: é@b;\r\n\r\n."]
 TRACES = ["Message-ID: <é@x>", "-x: é\r\n", "Received: for é", "Return-Path: <>(é)\r\n\r\n", "Content-Disposition: a;x=é"]
-BUILT = [b"", b"\r\n", b"A: b", b"A: b\r\n\r\n\r\n\r\n", *(field.encode() for field in [*FIELDS, *ADDRESSES, *TRACES]), *DOTS]
-UNBUILT = [b"Content-Type: text/plain\r\n\r\nx\r\n", "-x: é\r\ncontent-type: é\r\n".encode(), b"Content-TYPE :"]
-FAULTY = [b"x", b" a: b\r\n", b"A: b\r", b"A: b\r\n\r\nx\n", b"A: \xff\r\n", b"A: b\r\n\r\n\0", "Received: é\r\n\r\n\0".encode()]
+TYPES = ["Content-Type: text/plain\r\n\r\nx\r\n", "-x: é\r\ncontent-type: é\r\n", "Content-TYPE :"]
+PARTS = [
+    f"{MIXED}--b\r\nX: é\r\n\r\n.\r\n--b \r\n.: é", f"{MIXED}--b\r\n{MESSAGE}\r\nX: é\r\n--b--\r\né", f"{MESSAGE}\r\n{MIXED}--b\r\n\r\n\r\n--b--\r\n.",
+    f"{MIXED}--b\r\nContent-Type: multipart/digest; boundary=c\r\n\r\n--c\r\n\r\nX: é\r\n--c--\r\n--b\r\n-x: é\r\n", f"{MIXED}--b--",
+]
+KEPT = [b"", b"\r\n", b"A: b", b"A: b\r\n\r\n\r\n\r\n", *(text.encode() for text in [*FIELDS, *ADDRESSES, *TRACES, *TYPES, *PARTS]), *DOTS]
+INSIDE = [f"{MIXED}--b\r\né", f"{MESSAGE}\r\n x: y\r\n", f"{MIXED}--b\r\n{MESSAGE}\r\nx\r\n--b--\r\n"]
+FAULTY = [*(text.encode() for text in INSIDE), b"x", b" a: b\r\n", b"A: b\r", b"A: b\r\n\r\nx\n", b"A: \xff\r\n", b"A: b\r\n\r\n\0", "Received: é\r\n\r\n\0".encode()]
 MAKERS = [
     generated_fields.subject, generated_fields.keywords, generated_fields.date, generated_addresses.certain_list,
     generated_parameters.certain_disposition, generated_traces.certain_trace, generated_traces.certain_recipient, generated_traces.identifier,
@@ -38,7 +45,7 @@ RECORDS = [b"\0\0\0\1\x03", b"\0\0\0\1\x09", b"\0\0\0\0", b"\x04\0\0\1", record(
 
 def some_message(rng):
     if rng.random() < 0.4:
-        return rng.choice(BUILT)
+        return rng.choice(KEPT)
     octets, _ = generated.message(rng)
     if rng.random() < 0.3:
         name, value, *_ = rng.choice(MAKERS)(rng)
@@ -89,7 +96,7 @@ def some_journal(rng):
     """A journal that may be damaged, and a session over it."""
     accounts, records = some_mailbox(rng)
     if rng.random() < 0.6:
-        mail = message(rng.randint(0, 4), rng.choice(UNBUILT + FAULTY), flags=rng.choice([0, 31, 32]))
+        mail = message(rng.randint(0, 4), rng.choice(FAULTY), flags=rng.choice([0, 31, 32]))
         other = rng.choice([rng.choice(RECORDS), mail])
         records.insert(rng.randint(0, len(records)), other)
     octets = bytearray(journal(*records))
