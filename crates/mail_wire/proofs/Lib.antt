@@ -11,3 +11,4 @@ pub mod FirstLineLemmas
 pub mod TurnsLemmas
 pub mod LineEnd
 pub mod Feeding
+pub mod DateLemmas

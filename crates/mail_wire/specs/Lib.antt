@@ -12,3 +12,4 @@ pub mod KeeperTelling
 pub mod Keeping
 pub mod MemKept
 pub mod Turns
+pub mod Dates

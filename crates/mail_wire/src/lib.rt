@@ -1,6 +1,8 @@
 //! The outside of the mail server, and what every crate shares: small values, lines, folds and messages.
 #![tactic(auto)]
 
+pub mod clock;
+pub mod dates;
 pub mod edge;
 pub mod file_keeper;
 pub mod framing;

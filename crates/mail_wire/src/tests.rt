@@ -1,4 +1,6 @@
 //! Texts, words, wires and keepers, each public call once with ample memory.
+use crate::clock::{CLOCK_END, Clock, FixedClock, SystemClock};
+use crate::dates::{date_text, internal_date};
 use crate::file_keeper::FileKeeper;
 use crate::in_memory::{Failure, MemWire};
 use crate::keeping::Keeper;
@@ -122,5 +124,38 @@ fn a_keeper_over_a_file_keeps_and_counts(rt: HostRuntime) -> Result<(), Fail> {
         FileKeeper::new(rt, "none/journal").len(),
         Err(Failed::Outside)
     );
+    Ok(())
+}
+
+// A clock's reading, through its bound.
+fn reading_of<C: Clock>(clock: &mut C) -> u64 {
+    clock.now()
+}
+
+#[test]
+fn a_fixed_clock_stands_still(rt: HostRuntime) -> Result<(), Fail> {
+    let mut clock = FixedClock::new(86_399);
+    assert_eq!(rt; reading_of(&mut clock), 86_399);
+    assert_eq!(rt; reading_of(&mut clock), 86_399);
+    Ok(())
+}
+
+#[test]
+fn the_systems_clock_tells_a_moment(rt: HostRuntime) -> Result<(), Fail> {
+    let mut clock = SystemClock::new(rt);
+    assert!(rt; reading_of(&mut clock) < CLOCK_END);
+    Ok(())
+}
+
+#[test]
+fn a_moment_has_its_texts(rt: HostRuntime) -> Result<(), Fail> {
+    let alloc = rt.alloc();
+    assert!(rt; date_text(alloc, 0)?.as_slice() == b"Thu, 01 Jan 1970 00:00:00 +0000".as_slice());
+    assert!(rt; internal_date(alloc, 0)?.as_slice() == b"01-Jan-1970 00:00:00 +0000".as_slice());
+    let last = CLOCK_END - 1;
+    assert!(rt;
+        date_text(alloc, last)?.as_slice() == b"Fri, 31 Dec 9999 23:59:59 +0000".as_slice()
+    );
+    assert!(rt; internal_date(alloc, last)?.as_slice() == b"31-Dec-9999 23:59:59 +0000".as_slice());
     Ok(())
 }
