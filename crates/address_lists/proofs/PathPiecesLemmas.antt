@@ -11,13 +11,13 @@ use Rattle.field_tokens.proofs.DecideTokens.{decide_tokens}
 use Rattle.address_lists.specs.declared.Address.{Address}
 use Rattle.address_lists.specs.Lexemes.{HasTokenValues, are_blank}
 use Rattle.address_lists.specs.Addresses.{address_text}
-use Rattle.address_lists.specs.Paths.{IsFirstAngled, IsPathOf, IsPath, HasPath, in_angles}
+use Rattle.address_lists.specs.Paths.{IsFirstAngled, IsPathOf, IsPath, HasPath, ReadsPaths, IsReading, in_angles}
 use Rattle.address_lists.specs.AddressLists.{MailboxValue}
 use Rattle.address_lists.specs.ListPieces.{served_address}
 use Rattle.address_lists.specs.PathPieces.{SaysPath, PathPieces, ServesPath}
 use Rattle.address_lists.proofs.PathLemmas.{HasTokenValues-once, HasPath-once, IsPath-once, angled_made, angles_once, no_open, no_close, something_behind, path_angles, path_of_tokens, KnownPath, no_address_path}
 use Rattle.address_lists.proofs.SoundPhrases.{text_comments}
-use Rattle.address_lists.proofs.WritableTokens.{text_can, mailbox_writable}
+use Rattle.address_lists.proofs.WritableTokens.{text_can, front_can, behind_can, address_parts, mailbox_writable}
 use Rattle.address_lists.proofs.DecideAddresses.{Found, splits_or_lacks, decide_address}
 
 -- ---- what a text says
@@ -110,6 +110,19 @@ decide_path text = elim (decide_tokens Mail text) [
   ]
 ]
 
+read_text : (text : List ℕ) → (answer : Option (Option Address)) × IsReading text answer
+read_text text = elim (decide_tokens Mail text) [
+  | inr none ↦ (None, λ answer has. none has.tokens has.has_tokens)
+  | inl found ↦ elim (decide_is_path found.0) [
+    | inr none ↦ (None, λ answer has. none answer (rw (HasTokenValues-once text found.0 has.tokens found.1 has.has_tokens) has.is_path))
+    | inl is ↦ (Some is.0, record { tokens = found.0; has_tokens = found.1; is_path = is.1 })
+  ]
+]
+
+-- A function that reads paths.
+pub paths_read : (path_of : List ℕ → Option (Option Address)) × ReadsPaths path_of
+paths_read = (λ text. (read_text text).0, λ text. (read_text text).1)
+
 -- ---- what the code reads
 
 -- the domain of a path's address is UTF-8
@@ -119,6 +132,14 @@ path_utf8 text a path =
     let is = path.is_path in
     (mailbox_writable path.tokens m (text_can text path.tokens path.has_tokens)
     (inr (record { before = is.before; inner = is.inner; angled = is.angled; named = record { says = (is.nothing_before, refl); address = inl is.holds; angle = refl } }))).domain
+
+-- the parts of a path's address are UTF-8
+pub path_parts : (text : List ℕ) (a : Address) → HasPath text (Some a) → IsUtf8 a.local × IsUtf8 a.domain
+path_parts text a path =
+    let is = path.is_path in
+    let can = text_can text path.tokens path.has_tokens in
+    let behind = behind_can path.tokens is.before (is.inner ++ is.angled.close_mark ∷ is.angled.after) is.angled.open_mark is.angled.whole can in
+    address_parts is.inner a (front_can is.inner (is.angled.close_mark ∷ is.angled.after) behind) is.holds
 
 -- a path of a known address is served as that is, or isn't
 pub path_not_served : (text : List ℕ) (a : Address) (found : Option Address) → HasPath text (Some a) → found ≡ served_address a → IfNone found ((served : Address) → ¬ ServesPath text served)

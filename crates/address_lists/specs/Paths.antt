@@ -46,3 +46,12 @@ ComesInPath address = (text : List ℕ) × HasPath text (Some address)
 
 abbrev pub in_angles : List ℕ → List ℕ
 in_angles octets = 60 ∷ (octets ++ 62 ∷ [])
+
+-- what a text says that may be a path
+abbrev pub IsReading : List ℕ → Option (Option Address) → Type 0
+IsReading text None = (answer : Option Address) → ¬ HasPath text answer
+IsReading text (Some answer) = HasPath text answer
+
+-- The function gives what each path says, and nothing of a text that is none. (A text is one path at most.)
+abbrev pub ReadsPaths : (List ℕ → Option (Option Address)) → Type 0
+ReadsPaths path_of = (text : List ℕ) → IsReading text (path_of text)

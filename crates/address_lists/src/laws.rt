@@ -1,8 +1,8 @@
 //! Laws of addresses and their texts.
-ghost use Rattle.std.specs.Prelude.{◌≡◌, ℕ, ◌⊎◌, false, List, Option, Some};
+ghost use Rattle.std.specs.Prelude.{◌≡◌, ℕ, ◌⊎◌, false, List, Option, Some, IsUtf8};
 ghost use Rattle.std.specs.List.{list_all};
 ghost use Rattle.mail_wire.specs.Octets.{is_ascii};
-ghost use Rattle.address_lists.specs.Paths.{HasPath};
+ghost use Rattle.address_lists.specs.Paths.{HasPath, ReadsPaths};
 ghost use Rattle.encoded_words.specs.Words.{UnitValue};
 ghost use Rattle.field_tokens.specs.Comments.{CommentValue};
 ghost use Rattle.field_tokens.specs.Trees.{Tree};
@@ -17,6 +17,17 @@ ghost use Rattle.address_lists.specs.declared.Address.{Address};
 /// A text is the path of one address at most, or of none.
 pub fn paths_are_one()
     ensures { (text : List ℕ) (answer other : Option Address) → HasPath text answer → HasPath text other → answer ≡ other }
+{}
+
+/// The parts of a path's address are UTF-8.
+pub fn paths_are_utf8()
+    ensures local { (text : List ℕ) (address : Address) → HasPath text (Some address) → IsUtf8 address.local }
+    ensures domain { (text : List ℕ) (address : Address) → HasPath text (Some address) → IsUtf8 address.domain }
+{}
+
+/// Some function gives what each path says.
+pub fn paths_are_read()
+    ensures { (path_of : List ℕ → Option (Option Address)) × ReadsPaths path_of }
 {}
 
 /// A text is one list of addresses at most, and so has one list of comments.
