@@ -14,8 +14,8 @@ use Rattle.mail_store.specs.Kept.{nothing}
 use Rattle.mail_store.specs.Opening.{HasRecords}
 use Rattle.mail_store.specs.Records.{AreRecords}
 use Rattle.mail_store.specs.StoreState.{StoreState}
-use Rattle.mail_store.specs.Unbuilt.{IsUnbuiltAt}
-use Rattle.mail_store.proofs.Readings.{records_not_bad, records_not_unbuilt}
+use Rattle.mail_store.proofs.Readings.{records_not_bad}
+use Rattle.surrogate_cache.specs.Served.{Meanings}
 use Rattle.mail_command.specs.declared.serving.Role.{Role}
 use Rattle.mail_command.specs.declared.serving.Role.TheVariants.{Pop}
 use Rattle.mail_command.specs.Serving.{ServesLawfully, ServesAll, ServesUpTo}
@@ -47,36 +47,36 @@ broken_by result fault.Keeper is = rw is (inr refl)
 broken_by result fault.Memory is = rw is (inl (inr refl))
 
 -- the journal wasn't opened, and no line tells why
-pub not_opened : (surrogate : List ℕ → List ℕ) (role : Role) (max : ℕ) (old new : Option (List ℕ)) (a : Telling) (status : ℕ) → LeavesRecords old new
-    → BreaksSessionOff status → RunsSession surrogate role max old new a a status
-not_opened surrogate role max old new a status leaves broken = Broken broken (InJournal (Gives-nil a)) leaves
+pub not_opened : (meanings : Meanings) (role : Role) (max : ℕ) (old new : Option (List ℕ)) (a : Telling) (status : ℕ) → LeavesRecords old new
+    → BreaksSessionOff status → RunsSession meanings role max old new a a status
+not_opened meanings role max old new a status leaves broken = Broken broken (InJournal (Gives-nil a)) leaves
 
 -- a line tells why
-pub told : (surrogate : List ℕ → List ℕ) (role : Role) (max : ℕ) (old new : Option (List ℕ)) (a b : Telling) (met : OpenFault) (status : ℕ) (line : List ℕ)
-    → IfSome old (λ octets. IsJournalFault octets new met) → IsToldBy met status line → Gives a b line → RunsSession surrogate role max old new a b status
-told surrogate role max old new a b met status line is tells gives = Unopened line (record { fault = met; told = tells; is = is }) gives
+pub told : (meanings : Meanings) (role : Role) (max : ℕ) (old new : Option (List ℕ)) (a b : Telling) (met : OpenFault) (status : ℕ) (line : List ℕ)
+    → IfSome old (λ octets. IsJournalFault octets new met) → IsToldBy met status line → Gives a b line → RunsSession meanings role max old new a b status
+told meanings role max old new a b met status line is tells gives = Unopened line (record { fault = met; told = tells; is = is }) gives
 
 -- the line was broken off
-pub told_partly : (surrogate : List ℕ → List ℕ) (role : Role) (max : ℕ) (old new : Option (List ℕ)) (a b : Telling) (met : OpenFault) (told status : ℕ) (line : List ℕ) → LeavesRecords old new
+pub told_partly : (meanings : Meanings) (role : Role) (max : ℕ) (old new : Option (List ℕ)) (a b : Telling) (met : OpenFault) (told status : ℕ) (line : List ℕ) → LeavesRecords old new
     → IfSome old (λ octets. IsJournalFault octets new met) → IsToldBy met told line → GivesPrefix a b line → BreaksSessionOff status
-    → RunsSession surrogate role max old new a b status
-told_partly surrogate role max old new a b met told status line leaves is tells gives broken =
+    → RunsSession meanings role max old new a b status
+told_partly meanings role max old new a b met told status line leaves is tells gives broken =
     Broken broken (InLine told line (record { fault = met; told = tells; is = is }) gives) leaves
 
 -- a session was served
-pub served : (surrogate : List ℕ → List ℕ) (role : Role) (max : ℕ) (old new : Option (List ℕ)) (a b : Telling) (store after : StoreState) → LeavesRecords old new → IsFold store.kept
-    → IfSome old (λ octets. OpensTo octets new store.kept) → after ≡ store → ServesAll surrogate role store after max a b → RunsSession surrogate role max old new a b 0
-served surrogate role max old new a b store after leaves fold opens same all =
+pub served : (meanings : Meanings) (role : Role) (max : ℕ) (old new : Option (List ℕ)) (a b : Telling) (store after : StoreState) → LeavesRecords old new → IsFold store.kept
+    → IfSome old (λ octets. OpensTo octets new store.kept) → after ≡ store → ServesAll meanings role store after max a b → RunsSession meanings role max old new a b 0
+served meanings role max old new a b store after leaves fold opens same all =
     Ended store after (record { fold = fold; opens = opens }) all (holds_by old new store after leaves opens same) refl
 
-pub served_up_to : (surrogate : List ℕ → List ℕ) (role : Role) (max : ℕ) (old new : Option (List ℕ)) (a b : Telling) (store after : StoreState) → LeavesRecords old new → IsFold store.kept
-    → IfSome old (λ octets. OpensTo octets new store.kept) → after ≡ store → ServesUpTo surrogate role store after max a b → RunsSession surrogate role max old new a b 6
-served_up_to surrogate role max old new a b store after leaves fold opens same all =
+pub served_up_to : (meanings : Meanings) (role : Role) (max : ℕ) (old new : Option (List ℕ)) (a b : Telling) (store after : StoreState) → LeavesRecords old new → IsFold store.kept
+    → IfSome old (λ octets. OpensTo octets new store.kept) → after ≡ store → ServesUpTo meanings role store after max a b → RunsSession meanings role max old new a b 6
+served_up_to meanings role max old new a b store after leaves fold opens same all =
     Limit store after (record { fold = fold; opens = opens }) all (holds_by old new store after leaves opens same) refl
 
-pub served_partly : (surrogate : List ℕ → List ℕ) (role : Role) (max : ℕ) (old new : Option (List ℕ)) (a b : Telling) (store : StoreState) (status : ℕ) → LeavesRecords old new → IsFold store.kept
-    → IfSome old (λ octets. OpensTo octets new store.kept) → ServesLawfully surrogate role store max a b → BreaksSessionOff status → RunsSession surrogate role max old new a b status
-served_partly surrogate role max old new a b store status leaves fold opens so_far broken =
+pub served_partly : (meanings : Meanings) (role : Role) (max : ℕ) (old new : Option (List ℕ)) (a b : Telling) (store : StoreState) (status : ℕ) → LeavesRecords old new → IsFold store.kept
+    → IfSome old (λ octets. OpensTo octets new store.kept) → ServesLawfully meanings role store max a b → BreaksSessionOff status → RunsSession meanings role max old new a b status
+served_partly meanings role max old new a b store status leaves fold opens so_far broken =
     Broken broken (InSession store (record { fold = fold; opens = opens }) so_far) leaves
 
 -- the one role is POP3's
@@ -85,42 +85,24 @@ at_pop P Pop is = is
 
 -- ---- the answer is exact for the journal
 
-bad_by : (octets : List ℕ) (new : Option (List ℕ)) (met : OpenFault) (status : ℕ) (line : List ℕ) (at : ℕ) → IsToldBy met status line → IsJournalFault octets new met
-    → ((place : ℕ) → ¬ IsUnbuiltAt octets place) → status ≡ 5
-bad_by octets new (faults.BadJournal place) status line at told is built = told.0
-bad_by octets new (faults.NotBuilt place) status line at told is built = absurd (built place is.0)
-bad_by octets new faults.Keeper status line at told is built = absurd told
-bad_by octets new faults.Memory status line at told is built = absurd told
+bad_by : (octets : List ℕ) (new : Option (List ℕ)) (met : OpenFault) (status : ℕ) (line : List ℕ) → IsToldBy met status line → IsJournalFault octets new met → status ≡ 5
+bad_by octets new (faults.BadJournal place) status line told is = told.0
+bad_by octets new faults.Keeper status line told is = absurd told
+bad_by octets new faults.Memory status line told is = absurd told
 
-not_built_by : (octets : List ℕ) (new : Option (List ℕ)) (met : OpenFault) (status : ℕ) (line : List ℕ) (at : ℕ) → IsToldBy met status line → IsJournalFault octets new met
-    → IsUnbuiltAt octets at → status ≡ 10
-not_built_by octets new (faults.BadJournal place) status line at told is unbuilt = absurd (is.1 at unbuilt)
-not_built_by octets new (faults.NotBuilt place) status line at told is unbuilt = told.0
-not_built_by octets new faults.Keeper status line at told is unbuilt = absurd told
-not_built_by octets new faults.Memory status line at told is unbuilt = absurd told
-
--- a journal that was opened is neither
+-- a journal that was opened isn't bad
 opened_exact : (octets : List ℕ) (new : Option (List ℕ)) (store : StoreState) (status : ℕ) → OpensStore (Some octets) new store → IsExactJournal octets status
-opened_exact octets new store status opens = record {
-  bad = λ at bad built. absurd (records_not_bad octets opens.opens.all at opens.opens.had bad);
-  not_built = λ at unbuilt. absurd (records_not_unbuilt octets opens.opens.all at opens.opens.had opens.opens.are_read unbuilt);
-}
+opened_exact octets new store status opens at bad = absurd (records_not_bad octets opens.opens.all at opens.opens.had bad)
 
-exact_at : (surrogate : List ℕ → List ℕ) (role : Role) (max : ℕ) (octets : List ℕ) (new : Option (List ℕ)) (a b : Telling) (status : ℕ)
-    → RunsSession surrogate role max (Some octets) new a b status → IsExactJournal octets status
-exact_at surrogate role max octets new a b status (Ended store after opens served holds is) = opened_exact octets new store status opens
-exact_at surrogate role max octets new a b status (Limit store after opens served holds is) = opened_exact octets new store status opens
-exact_at surrogate role max octets new a b status (Unopened line unopened gives) = record {
-  bad = λ at bad built. inl (bad_by octets new unopened.fault status line at unopened.told unopened.is built);
-  not_built = λ at unbuilt. inl (not_built_by octets new unopened.fault status line at unopened.told unopened.is unbuilt);
-}
-exact_at surrogate role max octets new a b status (Broken broken partly leaves) = record {
-  bad = λ at bad built. inr broken;
-  not_built = λ at unbuilt. inr broken;
-}
+exact_at : (meanings : Meanings) (role : Role) (max : ℕ) (octets : List ℕ) (new : Option (List ℕ)) (a b : Telling) (status : ℕ)
+    → RunsSession meanings role max (Some octets) new a b status → IsExactJournal octets status
+exact_at meanings role max octets new a b status (Ended store after opens served holds is) = opened_exact octets new store status opens
+exact_at meanings role max octets new a b status (Limit store after opens served holds is) = opened_exact octets new store status opens
+exact_at meanings role max octets new a b status (Unopened line unopened gives) = λ at bad. inl (bad_by octets new unopened.fault status line unopened.told unopened.is)
+exact_at meanings role max octets new a b status (Broken broken partly leaves) = λ at bad. inr broken
 
 -- whatever the octets told
-pub exact_journal : (surrogate : List ℕ → List ℕ) (role : Role) (max : ℕ) (old new : Option (List ℕ)) (a b : Telling) (status : ℕ) → RunsSession surrogate role max old new a b status
+pub exact_journal : (meanings : Meanings) (role : Role) (max : ℕ) (old new : Option (List ℕ)) (a b : Telling) (status : ℕ) → RunsSession meanings role max old new a b status
     → IfSome old (λ octets. IsExactJournal octets status)
-exact_journal surrogate role max None new a b status runs = tt
-exact_journal surrogate role max (Some octets) new a b status runs = exact_at surrogate role max octets new a b status runs
+exact_journal meanings role max None new a b status runs = tt
+exact_journal meanings role max (Some octets) new a b status runs = exact_at meanings role max octets new a b status runs

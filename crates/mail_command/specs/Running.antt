@@ -16,7 +16,7 @@ use Rattle.mail_store.specs.Opening.{IsBadAt}
 use Rattle.mail_store.specs.Records.{AreRecords}
 use Rattle.mail_store.specs.Spelling.{journal}
 use Rattle.mail_store.specs.StoreState.{StoreState}
-use Rattle.mail_store.specs.Unbuilt.{IsUnbuiltAt}
+use Rattle.surrogate_cache.specs.Served.{Meanings}
 use Rattle.mail_command.specs.declared.serving.Role.{Role}
 use Rattle.mail_command.specs.Outcome.{DowngradeOutcome, message_max}
 use Rattle.mail_command.specs.Serving.{IsPrefixOf, ServesLawfully, ServesAll, ServesUpTo}
@@ -85,10 +85,9 @@ place_line text at = text ++ (decimal at ++ crlf)
 abbrev pub IsToldBy : OpenFault → ℕ → List ℕ → Type 0
 IsToldBy faults.Keeper status line = ⊥
 IsToldBy (faults.BadJournal at) status line = (status ≡ 5) × (line ≡ place_line (codes "bad journal at ") at)
-IsToldBy (faults.NotBuilt at) status line = (status ≡ 10) × (line ≡ place_line (codes "not built at ") at)
 IsToldBy faults.Memory status line = ⊥
 
--- The journal isn't opened: it is bad at a place, or a record stands there that isn't read yet, and the line tells which.
+-- The journal isn't opened: it is bad at a place, and the line tells where.
 pub record IsUnopened (old new : Option (List ℕ)) (status : ℕ) (line : List ℕ) : Type 0 where
   pub fault : OpenFault
   pub told : IsToldBy fault status line
@@ -99,32 +98,31 @@ abbrev pub BreaksSessionOff : ℕ → Type 0
 BreaksSessionOff status = IsBrokenOff status ⊎ (status ≡ 2)
 
 -- how far a session's command came that was broken off
-pub data BreaksSession (surrogate : List ℕ → List ℕ) (role : Role) (max : ℕ) (old new : Option (List ℕ)) (before now : Telling) : Type 0 where
+pub data BreaksSession (meanings : Meanings) (role : Role) (max : ℕ) (old new : Option (List ℕ)) (before now : Telling) : Type 0 where
   -- the journal wasn't opened
-  InJournal : Gives before now [] → BreaksSession surrogate role max old new before now
+  InJournal : Gives before now [] → BreaksSession meanings role max old new before now
   -- the line that tells why it can't be
-  InLine : (status : ℕ) (line : List ℕ) → IsUnopened old new status line → GivesPrefix before now line → BreaksSession surrogate role max old new before now
-  InSession : (store : StoreState) → OpensStore old new store → ServesLawfully surrogate role store max before now → BreaksSession surrogate role max old new before now
+  InLine : (status : ℕ) (line : List ℕ) → IsUnopened old new status line → GivesPrefix before now line → BreaksSession meanings role max old new before now
+  InSession : (store : StoreState) → OpensStore old new store → ServesLawfully meanings role store max before now → BreaksSession meanings role max old new before now
 
--- What the command of a session does, by its status. `surrogate` gives surrogates, and `max` is how many octets a session may
--- take.
-pub data RunsSession (surrogate : List ℕ → List ℕ) (role : Role) (max : ℕ) (old new : Option (List ℕ)) (before now : Telling) (status : ℕ) : Type 0 where
+-- What the command of a session does, by its status. `meanings` gives surrogates and reads paths, and `max` is how many
+-- octets a session may take.
+pub data RunsSession (meanings : Meanings) (role : Role) (max : ℕ) (old new : Option (List ℕ)) (before now : Telling) (status : ℕ) : Type 0 where
   -- the session or its input ended
-  Ended : (store after : StoreState) → OpensStore old new store → ServesAll surrogate role store after max before now → HoldsStore new after → status ≡ 0
-      → RunsSession surrogate role max old new before now status
+  Ended : (store after : StoreState) → OpensStore old new store → ServesAll meanings role store after max before now → HoldsStore new after → status ≡ 0
+      → RunsSession meanings role max old new before now status
   -- as many octets were taken as a session may take, and it hadn't ended
-  Limit : (store after : StoreState) → OpensStore old new store → ServesUpTo surrogate role store after max before now → HoldsStore new after → status ≡ 6
-      → RunsSession surrogate role max old new before now status
-  -- the journal was told to be bad, or not to be built yet
-  Unopened : (line : List ℕ) → IsUnopened old new status line → Gives before now line → RunsSession surrogate role max old new before now status
+  Limit : (store after : StoreState) → OpensStore old new store → ServesUpTo meanings role store after max before now → HoldsStore new after → status ≡ 6
+      → RunsSession meanings role max old new before now status
+  -- the journal was told to be bad
+  Unopened : (line : List ℕ) → IsUnopened old new status line → Gives before now line → RunsSession meanings role max old new before now status
   -- it was broken off; the keeper's records stay
-  Broken : BreaksSessionOff status → BreaksSession surrogate role max old new before now → LeavesRecords old new
-      → RunsSession surrogate role max old new before now status
+  Broken : BreaksSessionOff status → BreaksSession meanings role max old new before now → LeavesRecords old new
+      → RunsSession meanings role max old new before now status
 
--- A journal that is bad is answered 5, and one with a record that isn't read yet 10, unless the command was broken off.
-pub record IsExactJournal (octets : List ℕ) (status : ℕ) : Type 0 where
-  pub bad : (at : ℕ) → IsBadAt octets at → ((place : ℕ) → ¬ IsUnbuiltAt octets place) → (status ≡ 5) ⊎ BreaksSessionOff status
-  pub not_built : (at : ℕ) → IsUnbuiltAt octets at → (status ≡ 10) ⊎ BreaksSessionOff status
+-- A journal that is bad is answered 5, unless the command was broken off.
+abbrev pub IsExactJournal : List ℕ → ℕ → Type 0
+IsExactJournal octets status = (at : ℕ) → IsBadAt octets at → (status ≡ 5) ⊎ BreaksSessionOff status
 
 -- ---- causes
 

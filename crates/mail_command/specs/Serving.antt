@@ -7,6 +7,7 @@ use Rattle.mail_wire.specs.Transcript.{IsLawful, taken_of, given_of}
 use Rattle.mail_wire.specs.Moves.{Moves}
 use Rattle.mail_store.specs.declared.limits.TheConstants.{MESSAGE_MAX}
 use Rattle.mail_store.specs.StoreState.{StoreState}
+use Rattle.surrogate_cache.specs.Served.{Meanings}
 use Rattle.pop_session.specs.Machine.{Part, ended}
 use Rattle.pop_session.specs.Replies.{reply_octets, AreFit}
 use Rattle.pop_session.specs.Session as pop
@@ -31,23 +32,23 @@ pub record IsOpen (desk : Desk) : Type 0 where
   pub agrees : desk.store.message_max ≡ desk.limits.message_max
   pub works : desk.store.failed ≡ false
 
--- ---- what a protocol's machine makes of a stream; `surrogate` gives surrogates
+-- ---- what a protocol's machine makes of a stream; `meanings` gives surrogates and reads paths
 
 -- the parts that it gives: the greeting, and the replies to the whole commands up to the end
-abbrev pub parts_to : (List ℕ → List ℕ) → Role → StoreState → List ℕ → List Part
-parts_to surrogate Pop store octets = pop.parts_to surrogate store octets
+abbrev pub parts_to : Meanings → Role → StoreState → List ℕ → List Part
+parts_to meanings Pop store octets = pop.parts_to meanings store octets
 
 -- these parts in octets
-abbrev pub replies_to : (List ℕ → List ℕ) → Role → StoreState → List ℕ → List ℕ
-replies_to surrogate role store octets = reply_octets surrogate (parts_to surrogate role store octets)
+abbrev pub replies_to : Meanings → Role → StoreState → List ℕ → List ℕ
+replies_to meanings role store octets = reply_octets meanings (parts_to meanings role store octets)
 
 -- the store that the commands leave
-abbrev pub store_after : (List ℕ → List ℕ) → Role → StoreState → List ℕ → StoreState
-store_after surrogate Pop store octets = pop.store_after surrogate store octets
+abbrev pub store_after : Meanings → Role → StoreState → List ℕ → StoreState
+store_after meanings Pop store octets = pop.store_after meanings store octets
 
 -- the commands end the session
-abbrev pub EndsBy : (List ℕ → List ℕ) → Role → StoreState → List ℕ → Type 0
-EndsBy surrogate Pop store octets = (pop.turns_of surrogate (pop.start_of store) octets).after.state ≡ ended
+abbrev pub EndsBy : Meanings → Role → StoreState → List ℕ → Type 0
+EndsBy meanings Pop store octets = (pop.turns_of meanings (pop.start_of store) octets).after.state ≡ ended
 
 -- ---- the promise
 
@@ -55,10 +56,10 @@ EndsBy surrogate Pop store octets = (pop.turns_of surrogate (pop.start_of store)
 -- No octet of a reply line is above 127, sizes and offsets are those of what is served, and what a session that has not
 -- enabled UTF-8 is shown is a range of the surrogate: all its headers are ASCII, and every field stands for the original's. An
 -- enabled session is shown the stored octets.
-pub record IsSent (surrogate : List ℕ → List ℕ) (role : Role) (store after : StoreState) (octets given : List ℕ) : Type 0 where
-  pub replies : given ≡ replies_to surrogate role store octets
-  pub fit : AreFit surrogate (parts_to surrogate role store octets)
-  pub store_is : after ≡ store_after surrogate role store octets
+pub record IsSent (meanings : Meanings) (role : Role) (store after : StoreState) (octets given : List ℕ) : Type 0 where
+  pub replies : given ≡ replies_to meanings role store octets
+  pub fit : AreFit meanings (parts_to meanings role store octets)
+  pub store_is : after ≡ store_after meanings role store octets
 
 -- ---- what the call does
 
@@ -67,28 +68,28 @@ IsPrefixOf front whole = (rest : List ℕ) × (whole ≡ front ++ rest)
 
 -- Before each take all that was taken was answered, and nothing was given but a prefix of the replies to what was left. No
 -- more was taken than a session may take.
-pub record ServesLawfully (surrogate : List ℕ → List ℕ) (role : Role) (store : StoreState) (max : ℕ) (before now : Telling) : Type 0 where
+pub record ServesLawfully (meanings : Meanings) (role : Role) (store : StoreState) (max : ℕ) (before now : Telling) : Type 0 where
   pub entries : List Entry
   pub moves : Moves before now entries
-  pub lawful : IsLawful (replies_to surrogate role store) entries
+  pub lawful : IsLawful (replies_to meanings role store) entries
   pub few : length (taken_of entries) ≤ max
-  pub begun : IfSome before.left (λ octets. IsPrefixOf (given_of entries) (replies_to surrogate role store octets))
+  pub begun : IfSome before.left (λ octets. IsPrefixOf (given_of entries) (replies_to meanings role store octets))
 
 -- The session was sent what is due for all that was left, and has ended, or nothing is left.
-pub record ServesAll (surrogate : List ℕ → List ℕ) (role : Role) (store after : StoreState) (max : ℕ) (before now : Telling) : Type 0 where
+pub record ServesAll (meanings : Meanings) (role : Role) (store after : StoreState) (max : ℕ) (before now : Telling) : Type 0 where
   pub entries : List Entry
   pub moves : Moves before now entries
-  pub lawful : IsLawful (replies_to surrogate role store) entries
+  pub lawful : IsLawful (replies_to meanings role store) entries
   pub few : length (taken_of entries) ≤ max
-  pub sent : IsSent surrogate role store after (taken_of entries) (given_of entries)
-  pub whole : IfSome before.left (λ octets. IsSent surrogate role store after octets (given_of entries))
-  pub end : EndsBy surrogate role store (taken_of entries) ⊎ (IsAtEnd now.left × (length (taken_of entries) < max))
+  pub sent : IsSent meanings role store after (taken_of entries) (given_of entries)
+  pub whole : IfSome before.left (λ octets. IsSent meanings role store after octets (given_of entries))
+  pub end : EndsBy meanings role store (taken_of entries) ⊎ (IsAtEnd now.left × (length (taken_of entries) < max))
 
 -- As many octets were taken as a session may take. It was sent what is due for these, and has not ended.
-pub record ServesUpTo (surrogate : List ℕ → List ℕ) (role : Role) (store after : StoreState) (max : ℕ) (before now : Telling) : Type 0 where
+pub record ServesUpTo (meanings : Meanings) (role : Role) (store after : StoreState) (max : ℕ) (before now : Telling) : Type 0 where
   pub entries : List Entry
   pub moves : Moves before now entries
-  pub lawful : IsLawful (replies_to surrogate role store) entries
-  pub sent : IsSent surrogate role store after (taken_of entries) (given_of entries)
+  pub lawful : IsLawful (replies_to meanings role store) entries
+  pub sent : IsSent meanings role store after (taken_of entries) (given_of entries)
   pub full : length (taken_of entries) ≡ max
-  pub goes_on : ¬ EndsBy surrogate role store (taken_of entries)
+  pub goes_on : ¬ EndsBy meanings role store (taken_of entries)

@@ -1,7 +1,7 @@
 //! Runs a command over a wire and a keeper.
 ghost use Rattle.std.specs.Prelude.{◌≡◌, [], ◌∷◌, Err, IfOk, IfSome};
 ghost use Rattle.mail_wire.specs.Moves.{HasWireCause};
-ghost use Rattle.surrogate_cache.specs.Served.{WithSurrogates};
+ghost use Rattle.surrogate_cache.specs.Served.{WithMeanings};
 ghost use Rattle.mail_command.specs.Words.{Names, IsNoCommand, IsDowngrade, IsPop};
 ghost use Rattle.mail_command.specs.Running.{RefusesWords, RunsDowngrade, RunsSession, IsExactJournal, HasStatusCause};
 ghost use Rattle.mail_command.specs.Statuses.{status_of};
@@ -64,7 +64,7 @@ fn work<W: Wire, J: Keeper>(
 ) -> Result<u8, Fault>
     ensures words { IsNoCommand words.now → RefusesWords (W.tells wire.old) (W.tells wire.new) (status_of result) }
     ensures downgrade { IsDowngrade words.now → RunsDowngrade (W.tells wire.old) (W.tells wire.new) (status_of result) }
-    ensures pop { IsPop words.now → WithSurrogates (λ surrogate. RunsSession surrogate Role.Pop LIMITS.session_max
+    ensures pop { IsPop words.now → WithMeanings (λ meanings. RunsSession meanings Role.Pop LIMITS.session_max
         (J.tells keeper.old).octets (J.tells keeper.new).octets (W.tells wire.old) (W.tells wire.new) (status_of result)) }
     ensures journal { IsPop words.now → IfSome (J.tells keeper.old).octets (λ octets. IsExactJournal octets (status_of result)) }
     ensures untouched { ¬ IsPop words.now → J.tells keeper.new ≡ J.tells keeper.old }
@@ -79,14 +79,13 @@ fn work<W: Wire, J: Keeper>(
 
 /// Runs the command that the words name, and answers its status: 0 where the work is done, 1 after a fault of the wire,
 /// 2 after one of the keeper, 3 for want of memory, 4 where the words are those of no command, 5 where the journal is bad,
-/// 6 where a session took 1 GiB without an end, 7 where the octets are no message or are more than 32 MiB, 10 where a record
-/// can't be read yet.
+/// 6 where a session took 1 GiB without an end, 7 where the octets are no message or are more than 32 MiB.
 pub fn run<W: Wire, J: Keeper>(alloc: Global, words: &Words, wire: &mut W, keeper: &mut J) -> u8
     ensures words { IsNoCommand words.now → RefusesWords (W.tells wire.old) (W.tells wire.new) result }
     ensures downgrade { IsDowngrade words.now → RunsDowngrade (W.tells wire.old) (W.tells wire.new) result }
-    ensures pop { IsPop words.now → WithSurrogates (λ surrogate. RunsSession surrogate Role.Pop LIMITS.session_max
+    ensures pop { IsPop words.now → WithMeanings (λ meanings. RunsSession meanings Role.Pop LIMITS.session_max
         (J.tells keeper.old).octets (J.tells keeper.new).octets (W.tells wire.old) (W.tells wire.new) result) }
-    // A bad journal is told, and one that can't be read yet.
+    // A bad journal is told.
     ensures journal { IsPop words.now → IfSome (J.tells keeper.old).octets (λ octets. IsExactJournal octets result) }
     // Only a session opens the journal.
     ensures untouched { ¬ IsPop words.now → J.tells keeper.new ≡ J.tells keeper.old }

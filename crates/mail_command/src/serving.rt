@@ -4,7 +4,7 @@ ghost use Rattle.mail_wire.specs.Moves.{HasWireCause};
 ghost use Rattle.mail_wire.specs.Keeping.{HasKeeperCause};
 ghost use Rattle.mail_store.specs.Answers.{IsFold, OpensTo, IsJournalFault, LeavesRecords};
 ghost use Rattle.mail_store.specs.StoreState.{StoreState};
-ghost use Rattle.surrogate_cache.specs.Served.{WithSurrogates};
+ghost use Rattle.surrogate_cache.specs.Served.{WithMeanings};
 ghost use Rattle.mail_command.specs.Serving.{AreLimits, IsOpen, ServesLawfully, ServesAll, ServesUpTo};
 ghost use Rattle.mail_command.specs.Served.{HasServedCause};
 
@@ -95,11 +95,11 @@ fn serve_pop<W: Wire, J: Keeper>(
     wire: &mut W,
     keeper: &mut J,
 ) -> Result<bool, Fault>
-    ensures lawful { WithSurrogates (λ surrogate. ServesLawfully surrogate Role.Pop desk.old.store desk.old.limits.session_max (W.tells wire.old) (W.tells wire.new)) }
-    ensures ended { result ≡ Ok true → WithSurrogates (λ surrogate.
-        ServesAll surrogate Role.Pop desk.old.store desk.new.store desk.old.limits.session_max (W.tells wire.old) (W.tells wire.new)) }
-    ensures limit { result ≡ Ok false → WithSurrogates (λ surrogate.
-        ServesUpTo surrogate Role.Pop desk.old.store desk.new.store desk.old.limits.session_max (W.tells wire.old) (W.tells wire.new)) }
+    ensures lawful { WithMeanings (λ meanings. ServesLawfully meanings Role.Pop desk.old.store desk.old.limits.session_max (W.tells wire.old) (W.tells wire.new)) }
+    ensures ended { result ≡ Ok true → WithMeanings (λ meanings.
+        ServesAll meanings Role.Pop desk.old.store desk.new.store desk.old.limits.session_max (W.tells wire.old) (W.tells wire.new)) }
+    ensures limit { result ≡ Ok false → WithMeanings (λ meanings.
+        ServesUpTo meanings Role.Pop desk.old.store desk.new.store desk.old.limits.session_max (W.tells wire.old) (W.tells wire.new)) }
     ensures cause { HasWireCause (W.tells wire.old) (W.tells wire.new) result Fault.Wire }
     ensures keeper { ¬ (result ≡ Err Fault.Keeper) }
     ensures kept { J.tells keeper.new ≡ J.tells keeper.old }
@@ -142,13 +142,13 @@ pub fn serve_one<W: Wire, J: Keeper>(
 ) -> Served
     requires { IsOpen desk.old }
     // Before each take all that was taken was answered, nothing else was ever given, and no more was taken than the limit.
-    ensures lawful { WithSurrogates (λ surrogate. ServesLawfully surrogate role desk.old.store desk.old.limits.session_max (W.tells wire.old) (W.tells wire.new)) }
+    ensures lawful { WithMeanings (λ meanings. ServesLawfully meanings role desk.old.store desk.old.limits.session_max (W.tells wire.old) (W.tells wire.new)) }
     // The session was sent what is due for all that was left, and has ended, or nothing is left.
-    ensures ended { result ≡ Served.Ended → WithSurrogates (λ surrogate.
-        ServesAll surrogate role desk.old.store desk.new.store desk.old.limits.session_max (W.tells wire.old) (W.tells wire.new)) }
+    ensures ended { result ≡ Served.Ended → WithMeanings (λ meanings.
+        ServesAll meanings role desk.old.store desk.new.store desk.old.limits.session_max (W.tells wire.old) (W.tells wire.new)) }
     // It was sent what is due for as many octets as a session may take, and has not ended.
-    ensures limit { result ≡ Served.Limit → WithSurrogates (λ surrogate.
-        ServesUpTo surrogate role desk.old.store desk.new.store desk.old.limits.session_max (W.tells wire.old) (W.tells wire.new)) }
+    ensures limit { result ≡ Served.Limit → WithMeanings (λ meanings.
+        ServesUpTo meanings role desk.old.store desk.new.store desk.old.limits.session_max (W.tells wire.old) (W.tells wire.new)) }
 
     ensures cause { HasServedCause (W.tells wire.old) (W.tells wire.new) (J.tells keeper.old) (J.tells keeper.new) result }
     ensures open { IsOpen desk.new }

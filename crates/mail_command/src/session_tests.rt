@@ -87,13 +87,6 @@ fn rows_of_pop(rt: HostRuntime) -> Result<(), Fail> {
         (cut, b"", 0, b"+OK ready\r\n", begun),
         (b"", b"", 0, b"+OK ready\r\n", begun),
         (
-            b"MAILJNL1\0\0\0\x01\x03",
-            b"",
-            10,
-            b"not built at 8\r\n",
-            b"MAILJNL1\0\0\0\x01\x03",
-        ),
-        (
             b"MAILJNL1\0\0\0\x01\x09",
             b"",
             5,

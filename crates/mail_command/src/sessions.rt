@@ -1,6 +1,6 @@
 //! The commands that serve a session.
 ghost use Rattle.std.specs.Prelude.{◌≡◌, Err, IfOk};
-ghost use Rattle.surrogate_cache.specs.Served.{WithSurrogates};
+ghost use Rattle.surrogate_cache.specs.Served.{WithMeanings};
 ghost use Rattle.mail_command.specs.Running.{RunsSession, IsToldBy, HasStatusCause};
 ghost use Rattle.mail_command.specs.Statuses.{status_of};
 ghost use Rattle.mail_command.specs.declared.serving.TheConstants.{LIMITS};
@@ -24,10 +24,6 @@ fn unopened(alloc: Global, fault: OpenFault) -> Result<Reply, Fault>
             status: 5,
             given: place_line(alloc, b"bad journal at ", at)?,
         }),
-        OpenFault::NotBuilt { at } => Ok(Reply {
-            status: 10,
-            given: place_line(alloc, b"not built at ", at)?,
-        }),
         OpenFault::Keeper => Err(Fault::Keeper),
         OpenFault::Memory => Err(Fault::Memory),
     }
@@ -40,7 +36,7 @@ pub fn run_session<W: Wire, J: Keeper>(
     wire: &mut W,
     keeper: &mut J,
 ) -> Result<u8, Fault>
-    ensures runs { WithSurrogates (λ surrogate. RunsSession surrogate role LIMITS.session_max
+    ensures runs { WithMeanings (λ meanings. RunsSession meanings role LIMITS.session_max
         (J.tells keeper.old).octets (J.tells keeper.new).octets (W.tells wire.old) (W.tells wire.new) (status_of result)) }
     ensures cause { HasStatusCause (W.tells wire.old) (W.tells wire.new) (J.tells keeper.old) (J.tells keeper.new) (status_of result) }
 {

@@ -1,14 +1,20 @@
 -- What the reading calls answer, from the indexes.
-use Rattle.std.proofs.Common.{◌≡◌, ℕ, ◌+◌, ◌<◌, ◌≤◌, Bool, true, false, cond, eqb, List, [], ◌∷◌, ◌++◌, length, get_or, Option, Some, refl, sym, ap, subst, ◌∙◌, append_assoc, arith, inl, inr, length-append}
+use Rattle.std.proofs.Common.{◌≡◌, ℕ, zero, suc, ◌+◌, ◌<◌, ◌≤◌, Bool, true, false, cond, eqb, List, [], ◌∷◌, ◌++◌, length, get_or, reverse, Option, Some, None, refl, sym, ap, subst, ◌∙◌, append_assoc, append-nil, arith, inl, inr, length-append}
 use Rattle.std.specs.Prelude.{count_by, slice_get, option_to_list}
+use Rattle.std.specs.List.{All}
 use Rattle.std.proofs.lemmas.Bool.{cases_Bool}
+use Rattle.std.proofs.lemmas.List.{reverse-append, length-reverse}
+use Rattle.std.proofs.lemmas.List.Elements.{All-nil, All-push, All-from_recursion, recursion_from_All}
 use Rattle.std.proofs.lemmas.List.Sums.{sum_by-cons, count_by-le-length}
 use Rattle.std.proofs.lemmas.Option.{slice_get-get_or}
+use Rattle.mail_store.specs.declared.contents.Content.{Content}
 use Rattle.mail_store.specs.declared.limits.TheConstants.{THINGS_MAX}
 use Rattle.mail_store.specs.declared.kept.Message.{Message}
 use Rattle.mail_store.specs.declared.kept.Listed.{Listed}
-use Rattle.mail_store.specs.Kept.{Kept, numbers_in, uid_next, listed_from, listed, listed_one}
-use Rattle.mail_store.specs.StoreState.{AreIndexes}
+use Rattle.mail_store.specs.Chains.{chain, content_at, empty_content}
+use Rattle.mail_store.specs.Kept.{Kept, numbers_in, uid_next, listed_from, listed_one}
+use Rattle.mail_store.specs.StoreState.{Indexes, AreIndexes}
+use Rattle.mail_store.proofs.ChainLemmas.{AreBelow, chain_below}
 
 abbrev is_in : ℕ → Message → Bool
 is_in folder m = eqb m.folder folder
@@ -23,22 +29,37 @@ length-numbers_in folder at (m ∷ ms) =
       | inr other ↦ rw other (omega (arith, ih, rw other at whole))
     ]
 
-some_list : (a b : List ℕ) → Some a ≡ Some b → a ≡ b
-some_list a b e = cc
+some_content : (a b : Content) → Some a ≡ Some b → a ≡ b
+some_content a b e = cc
 
--- an element of a list doesn't depend on what stands past the end
-pub same_element : (xs : List (List ℕ)) (i : ℕ) (a b : List ℕ) → i < length xs → get_or xs i a ≡ get_or xs i b
-same_element xs i a b within = some_list _ _ (sym (slice_get-get_or xs i a within) ∙ slice_get-get_or xs i b within)
+-- what stands at a folder's place is its content
+pub content_is : (contents : List Content) (folder : ℕ) (content : Content) → folder < length contents → content ≡ get_or contents folder content → content ≡ content_at contents folder
+content_is contents folder content within is = is ∙ some_content _ _ (sym (slice_get-get_or contents folder content within) ∙ slice_get-get_or contents folder empty_content within)
 
-pub folder_list : (kept : Kept) (contents : List (List ℕ)) (inboxes : List ℕ) (names : List ℕ → Option ℕ) (folder : ℕ) (list : List ℕ) → AreIndexes kept contents inboxes names → folder < length kept.folders
-    → list ≡ get_or contents folder list → list ≡ numbers_in folder 0 kept.messages
-folder_list kept contents inboxes names folder list i there is = is ∙ same_element contents folder list [] (omega (arith, i.folder_count)) ∙ i.contents_is folder
+pub uid_is : (kept : Kept) (i : Indexes) (folder : ℕ) (content : Content) → AreIndexes kept i → folder < length kept.folders → content ≡ get_or i.contents folder content
+    → (content.count + 1 ≡ uid_next kept folder) × (content.count ≤ THINGS_MAX)
+uid_is kept i folder content h there is =
+    let its : content ≡ content_at i.contents folder = content_is i.contents folder content (omega (arith, h.folder_count)) is in
+    let count : content.count ≡ count_by (is_in folder) kept.messages = ap (λ (c : Content). c.count) its ∙ h.chained.count_is folder ∙ length-numbers_in folder 0 kept.messages in
+    (ap (λ (n : ℕ). n + 1) count, omega (arith, count, count_by-le-length (is_in folder) kept.messages, h.few.messages))
 
-pub uid_is : (kept : Kept) (contents : List (List ℕ)) (inboxes : List ℕ) (names : List ℕ → Option ℕ) (folder : ℕ) (list : List ℕ) → AreIndexes kept contents inboxes names → folder < length kept.folders
-    → list ≡ get_or contents folder list → (length list + 1 ≡ uid_next kept folder) × (length list ≤ THINGS_MAX)
-uid_is kept contents inboxes names folder list i there is =
-    let count : length list ≡ count_by (is_in folder) kept.messages = ap length (folder_list kept contents inboxes names folder list i there is) ∙ length-numbers_in folder 0 kept.messages in
-    (ap (λ (n : ℕ). n + 1) count, omega (arith, count, count_by-le-length (is_in folder) kept.messages, i.few_messages))
+-- a folder's chain is as long as its count, names messages, and has the numbers of its messages
+pub record IsFolderChain (kept : Kept) (folder : ℕ) (previous : List (Option ℕ)) (content : Content) : Type 0 where
+  pub count : length (chain content.count previous content.last) ≡ content.count
+  pub known : All (λ id. id < length kept.messages) (chain content.count previous content.last)
+  pub numbers : chain content.count previous content.last ≡ reverse (numbers_in folder 0 kept.messages)
+
+pub folder_chain : (kept : Kept) (i : Indexes) (folder : ℕ) (content : Content) → AreIndexes kept i → folder < length kept.folders → content ≡ get_or i.contents folder content → IsFolderChain kept folder i.previous content
+folder_chain kept i folder content h there is =
+    let its : content ≡ content_at i.contents folder = content_is i.contents folder content (omega (arith, h.folder_count)) is in
+    let at = content_at i.contents folder in
+    let below = All-from_recursion (λ (id : ℕ). id < length i.previous) (chain at.count i.previous at.last) (chain_below kept.messages i.contents i.previous folder h.chained) in
+    let numbers = h.chained.chain_is folder in
+    subst (IsFolderChain kept folder i.previous) (sym its) (record {
+      count = ap length numbers ∙ length-reverse (numbers_in folder 0 kept.messages) ∙ sym (h.chained.count_is folder);
+      known = subst (λ (n : ℕ). All (λ id. id < n) (chain at.count i.previous at.last)) h.chained.len below;
+      numbers = numbers;
+    })
 
 -- ---- a folder's list
 
@@ -78,5 +99,95 @@ listed_at-numbers_in folder uid before (m ∷ ms) =
 pub listed_is : (folder : ℕ) (ms : List Message) → listed_from folder 0 1 ms ≡ listed_at ms 1 (numbers_in folder 0 ms)
 listed_is folder ms = listed_at-numbers_in folder 1 [] ms
 
-pub list_start : (kept : Kept) (folder : ℕ) (list : List ℕ) → list ≡ numbers_in folder 0 kept.messages → listed_at kept.messages 1 list ≡ listed kept folder
-list_start kept folder list is = ap (listed_at kept.messages 1) is ∙ sym (listed_is folder kept.messages)
+-- ---- and from the last one back
+
+-- what is listed of these messages, the last of which has this UID
+abbrev pub listed_back : List Message → ℕ → List ℕ → List Listed
+listed_back all uid [] = []
+listed_back all uid (id ∷ ids) = option_to_list (listed_one (slice_get all id) id (uid + length ids)) ++ listed_back all uid ids
+
+listed_back-push : (all : List Message) (uid : ℕ) (ids : List ℕ) (id : ℕ) → listed_back all uid (ids ++ id ∷ []) ≡ listed_back all (uid + 1) ids ++ option_to_list (listed_one (slice_get all id) id uid)
+listed_back-push all uid [] id =
+    let plain : uid + 0 ≡ uid = omega arith in
+    append-nil (option_to_list (listed_one (slice_get all id) id (uid + 0))) ∙ ap (λ (n : ℕ). option_to_list (listed_one (slice_get all id) id n)) plain
+listed_back-push all uid (x ∷ ids) id =
+    let len : uid + length (ids ++ id ∷ []) ≡ uid + 1 + length ids = omega (arith, length-append ids (id ∷ [])) in
+    ap (λ (n : ℕ). option_to_list (listed_one (slice_get all x) x n) ++ listed_back all uid (ids ++ id ∷ [])) len
+    ∙ ap (λ (l : List Listed). option_to_list (listed_one (slice_get all x) x (uid + 1 + length ids)) ++ l) (listed_back-push all uid ids id)
+    ∙ sym (append_assoc (option_to_list (listed_one (slice_get all x) x (uid + 1 + length ids))) (listed_back all (uid + 1) ids) (option_to_list (listed_one (slice_get all id) id uid)))
+
+reverse-option : (o : Option Listed) → reverse (option_to_list o) ≡ option_to_list o
+reverse-option None = refl
+reverse-option (Some one) = refl
+
+listed_back-reverse : (all : List Message) (uid : ℕ) (ids : List ℕ) → reverse (listed_back all uid (reverse ids)) ≡ listed_at all uid ids
+listed_back-reverse all uid [] = refl
+listed_back-reverse all uid (id ∷ ids) =
+    let here = option_to_list (listed_one (slice_get all id) id uid) in
+    ap (λ (l : List ℕ). reverse (listed_back all uid l)) (reverse-append (id ∷ []) ids)
+    ∙ ap reverse (listed_back-push all uid (reverse ids) id)
+    ∙ reverse-append (listed_back all (uid + 1) (reverse ids)) here
+    ∙ ap (λ (l : List Listed). l ++ reverse (listed_back all (uid + 1) (reverse ids))) (reverse-option (listed_one (slice_get all id) id uid))
+    ∙ ap (λ (l : List Listed). here ++ l) (listed_back-reverse all (uid + 1) ids)
+
+-- so far on the way back, with so many messages left
+pub record IsBack (all : List Message) (previous : List (Option ℕ)) (left : ℕ) (place : Option ℕ) (items whole : List Listed) : Type 0 where
+  pub whole_is : items ++ listed_back all 1 (chain left previous place) ≡ whole
+  pub count : length (chain left previous place) ≡ left
+  pub below : AreBelow (length all) (chain left previous place)
+  pub known : All (λ one. one.id < length all) items
+
+pub IsBack-first : (all : List Message) (previous : List (Option ℕ)) (left : ℕ) (place : Option ℕ) → length (chain left previous place) ≡ left → All (λ id. id < length all) (chain left previous place)
+    → IsBack all previous left place [] (listed_back all 1 (chain left previous place))
+IsBack-first all previous left place count known = record {
+  whole_is = refl;
+  count = count;
+  below = recursion_from_All (λ (id : ℕ). id < length all) (chain left previous place) known;
+  known = All-nil (λ (one : Listed). one.id < length all);
+}
+
+-- the place names a message
+pub IsBack-within : (all : List Message) (previous : List (Option ℕ)) (left less id : ℕ) (items whole : List Listed) → left ≡ suc less → IsBack all previous left (Some id) items whole → id < length all
+IsBack-within all previous left less id items whole e b = (subst (λ (n : ℕ). AreBelow (length all) (chain n previous (Some id))) e b.below).0
+
+IsBack-turn : (all : List Message) (previous : List (Option ℕ)) (left less id : ℕ) (items whole more : List Listed) → left ≡ suc less → IsBack all previous left (Some id) items whole
+    → option_to_list (listed_one (slice_get all id) id left) ≡ more → All (λ one. one.id < length all) (items ++ more) → IsBack all previous less (get_or previous id None) (items ++ more) whole
+IsBack-turn all previous left less id items whole more e b is known =
+    let rest = chain less previous (get_or previous id None) in
+    let b_next = subst (λ (n : ℕ). IsBack all previous n (Some id) items whole) e b in
+    let count : length rest ≡ less = omega (arith, b_next.count) in
+    let uid : 1 + length rest ≡ left = omega (arith, count, e) in
+    let its : option_to_list (listed_one (slice_get all id) id (1 + length rest)) ≡ more = ap (λ (n : ℕ). option_to_list (listed_one (slice_get all id) id n)) uid ∙ is in
+    record {
+      whole_is = append_assoc items more (listed_back all 1 rest) ∙ ap (λ (l : List Listed). items ++ (l ++ listed_back all 1 rest)) (sym its) ∙ b_next.whole_is;
+      count = count;
+      below = b_next.below.1;
+      known = known;
+    }
+
+pub IsBack-push : (all : List Message) (previous : List (Option ℕ)) (left less id : ℕ) (items whole : List Listed) (one : Listed) → left ≡ suc less → IsBack all previous left (Some id) items whole
+    → Some one ≡ listed_one (slice_get all id) id left → one.id < length all → IsBack all previous less (get_or previous id None) (items ++ one ∷ []) whole
+IsBack-push all previous left less id items whole one e b is known = IsBack-turn all previous left less id items whole (one ∷ []) e b (ap option_to_list (sym is)) (All-push (λ (x : Listed). x.id < length all) items one b.known known)
+
+pub IsBack-skip : (all : List Message) (previous : List (Option ℕ)) (left less id : ℕ) (items whole : List Listed) → left ≡ suc less → IsBack all previous left (Some id) items whole
+    → None ≡ listed_one (slice_get all id) id left → IsBack all previous less (get_or previous id None) items whole
+IsBack-skip all previous left less id items whole e b is =
+    subst (λ (l : List Listed). IsBack all previous less (get_or previous id None) l whole) (append-nil items) (IsBack-turn all previous left less id items whole [] e b (ap option_to_list (sym is)) (subst (All (λ one. one.id < length all)) (sym (append-nil items)) b.known))
+
+chain_none : (left : ℕ) (previous : List (Option ℕ)) → chain left previous None ≡ []
+chain_none zero previous = refl
+chain_none (suc left) previous = refl
+
+-- nothing is left
+back_whole : (all : List Message) (items whole : List Listed) (ids : List ℕ) → items ++ listed_back all 1 ids ≡ whole → ids ≡ [] → items ≡ whole
+back_whole all items whole ids is e = sym (append-nil items) ∙ ap (λ (l : List ℕ). items ++ listed_back all 1 l) (sym e) ∙ is
+
+pub IsBack-none : (all : List Message) (previous : List (Option ℕ)) (left : ℕ) (items whole : List Listed) → IsBack all previous left None items whole → items ≡ whole
+IsBack-none all previous left items whole b = back_whole all items whole (chain left previous None) b.whole_is (chain_none left previous)
+
+pub IsBack-zero : (all : List Message) (previous : List (Option ℕ)) (left : ℕ) (place : Option ℕ) (items whole : List Listed) → left ≡ 0 → IsBack all previous left place items whole → items ≡ whole
+IsBack-zero all previous left place items whole e b = back_whole all items whole (chain left previous place) b.whole_is (ap (λ (n : ℕ). chain n previous place) e)
+
+-- what was listed on the way back of a folder that has this chain
+pub listed_from_back : (all : List Message) (ids : List ℕ) (items : List Listed) (folder : ℕ) → items ≡ listed_back all 1 ids → ids ≡ reverse (numbers_in folder 0 all) → reverse items ≡ listed_from folder 0 1 all
+listed_from_back all ids items folder is e = ap reverse (is ∙ ap (listed_back all 1) e) ∙ listed_back-reverse all 1 (numbers_in folder 0 all) ∙ sym (listed_is folder all)

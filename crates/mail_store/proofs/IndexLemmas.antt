@@ -1,19 +1,31 @@
 -- The indexes after each kind of record.
-use Rattle.std.proofs.Common.{◌≡◌, ◌≢◌, ℕ, zero, suc, ◌+◌, ◌<◌, Bool, true, false, cond, eqb, List, [], ◌∷◌, ◌++◌, length, get_or, set, Option, Some, None, refl, sym, ap, subst, ◌∙◌, arith, inl, inr, length-append, eq-eqb}
-use Rattle.std.specs.Prelude.{slice_get, IsUtf8}
+use Rattle.std.proofs.Common.{◌≡◌, ◌≢◌, ℕ, zero, suc, ◌+◌, ◌<◌, ◌≤◌, Bool, true, false, cond, eqb, List, [], ◌∷◌, ◌++◌, length, Option, Some, None, refl, sym, ap, subst, ◌∙◌, arith, inl, inr, length-append, eq-eqb}
+use Rattle.std.specs.Prelude.{slice_get}
+use Rattle.std.specs.List.{All}
+use Rattle.std.specs.Option.{option_map_or}
 use Rattle.std.specs.Str.{bytes_eq}
-use Rattle.std.proofs.lemmas.List.Elements.{All-push}
+use Rattle.std.proofs.lemmas.List.Elements.{All-push, All-append, All-from_recursion, recursion_from_All}
+use Rattle.std.proofs.lemmas.List.Sums.{sum_by-cons, sum_by_push}
 use Rattle.std.proofs.lemmas.Bool.{cases_Bool, cases_eq, ne_eqb}
-use Rattle.std.proofs.lemmas.List.{get_or-set_same, get_or-set_other, length-set}
-use Rattle.std.proofs.lemmas.Option.{slice_get_past}
+use Rattle.std.proofs.lemmas.Option.{slice_get_past, slice_get-get_or}
+use Rattle.address_lists.specs.declared.Address.{Address}
+use Rattle.address_lists.specs.Paths.{HasPath, IsReading, ReadsPaths, in_angles}
+use Rattle.address_lists.proofs.PathLemmas.{HasPath-once}
+use Rattle.mail_store.specs.declared.contents.Content.{Content}
 use Rattle.mail_store.specs.declared.limits.TheConstants.{THINGS_MAX}
 use Rattle.mail_store.specs.declared.kept.Folder.{Folder}
 use Rattle.mail_store.specs.declared.kept.Message.{Message}
 use Rattle.mail_store.specs.declared.kept.Account.{Account}
-use Rattle.mail_store.specs.Kept.{Kept, numbers_in, first_folder, first_account}
-use Rattle.mail_store.specs.Names.{kept_first, PutsName}
+use Rattle.mail_store.specs.declared.kept.Entry.{Entry}
+use Rattle.mail_store.specs.Addresses.{IsTextOf, IsDomainText, address_of}
+use Rattle.mail_store.specs.Chains.{empty_content, AreChained}
+use Rattle.mail_store.specs.Kept.{Kept, first_folder, change_at, settled, without}
+use Rattle.mail_store.specs.Names.{kept_first, PutsName, first_name, mailbox_key, has_key, first_mailbox}
+use Rattle.mail_store.specs.Records.{recipient_count}
 use Rattle.mail_store.specs.Stored.{IsStored}
-use Rattle.mail_store.specs.StoreState.{AreIndexes}
+use Rattle.mail_store.specs.StoreState.{Indexes, AreIndexes}
+use Rattle.mail_store.proofs.ChainLemmas.{AreChained-folder, AreChained-same}
+use Rattle.mail_store.proofs.SameMessages.{AreSameMessages, length-same, stored-same, length-change_at}
 
 no_none : (i : ℕ) → None ≡ Some i → ⊥
 no_none i e = cc
@@ -24,76 +36,16 @@ some_number a b e = cc
 no_some : (i : ℕ) → Some i ≡ None → ⊥
 no_some i e = cc
 
--- ---- one more message
-
-pub eqb_same : (n : ℕ) → eqb n n ≡ true
-eqb_same n = eq-eqb n n refl
-
-in_front : (b : Bool) (x : ℕ) (ys zs : List ℕ) → cond b (x ∷ (ys ++ zs)) (ys ++ zs) ≡ cond b (x ∷ ys) ys ++ zs
-in_front true x ys zs = refl
-in_front false x ys zs = refl
-
-pub numbers_in-push_same : (folder at : ℕ) (ms : List Message) (m : Message) → eqb m.folder folder ≡ true → numbers_in folder at (ms ++ m ∷ []) ≡ numbers_in folder at ms ++ (at + length ms) ∷ []
-numbers_in-push_same folder at [] m e =
-    let here : at ≡ at + 0 = omega arith in
-    rw e (ap (λ (n : ℕ). n ∷ []) here)
-numbers_in-push_same folder at (x ∷ ms) m e =
-    let there : at + 1 + length ms ≡ at + suc (length ms) = omega arith in
-    let ih = numbers_in-push_same folder (at + 1) ms m e ∙ ap (λ (n : ℕ). numbers_in folder (at + 1) ms ++ n ∷ []) there in
-    ap (λ (l : List ℕ). cond (eqb x.folder folder) (at ∷ l) l) ih ∙ in_front (eqb x.folder folder) at (numbers_in folder (at + 1) ms) ((at + suc (length ms)) ∷ [])
-
-pub numbers_in-push_other : (folder at : ℕ) (ms : List Message) (m : Message) → eqb m.folder folder ≡ false → numbers_in folder at (ms ++ m ∷ []) ≡ numbers_in folder at ms
-numbers_in-push_other folder at [] m e = rw e refl
-numbers_in-push_other folder at (x ∷ ms) m e = ap (λ (l : List ℕ). cond (eqb x.folder folder) (at ∷ l) l) (numbers_in-push_other folder (at + 1) ms m e)
-
--- the folder's list gets the number of the message, and no other list changes
-pub contents_push : (contents : List (List ℕ)) (ms : List Message) (m : Message) → m.folder < length contents
-    → ((f : ℕ) → get_or contents f [] ≡ numbers_in f 0 ms)
-    → (f : ℕ) → get_or (set contents m.folder (get_or contents m.folder [] ++ length ms ∷ [])) f [] ≡ numbers_in f 0 (ms ++ m ∷ [])
-contents_push contents ms m within is f =
-    elim (cases_eq f m.folder) [
-      | inl same ↦
-          let at : eqb m.folder f ≡ true = subst (λ (k : ℕ). eqb k f ≡ true) same (eqb_same f) in
-          let first : get_or (set contents m.folder (get_or contents m.folder [] ++ length ms ∷ [])) f [] ≡ get_or contents m.folder [] ++ length ms ∷ [] = subst (λ (k : ℕ). get_or (set contents m.folder (get_or contents m.folder [] ++ length ms ∷ [])) k [] ≡ get_or contents m.folder [] ++ length ms ∷ []) (sym same) (get_or-set_same contents m.folder _ [] within) in
-          let second : get_or contents m.folder [] ++ length ms ∷ [] ≡ numbers_in f 0 ms ++ length ms ∷ [] = ap (λ (l : List ℕ). l ++ length ms ∷ []) (is m.folder ∙ ap (λ (k : ℕ). numbers_in k 0 ms) (sym same)) in
-          let plain : 0 + length ms ≡ length ms = omega arith in
-          let third : numbers_in f 0 ms ++ length ms ∷ [] ≡ numbers_in f 0 ms ++ (0 + length ms) ∷ [] = ap (λ (n : ℕ). numbers_in f 0 ms ++ n ∷ []) (sym plain) in
-          first ∙ second ∙ third ∙ sym (numbers_in-push_same f 0 ms m at)
-      | inr other ↦
-          let differ : m.folder ≡ f → ⊥ = λ (e : m.folder ≡ f). other (sym e) in
-          get_or-set_other contents m.folder f _ [] other ∙ is f ∙ sym (numbers_in-push_other f 0 ms m (ne_eqb m.folder f differ))
-    ]
-
-pub AreIndexes-message : (kept : Kept) (contents : List (List ℕ)) (inboxes : List ℕ) (names : List ℕ → Option ℕ) (m : Message) → AreIndexes kept contents inboxes names
-    → m.folder < length kept.folders → length kept.messages < THINGS_MAX → IsStored m.octets
-    → AreIndexes (record kept { messages = kept.messages ++ m ∷ [] }) (set contents m.folder (get_or contents m.folder [] ++ length kept.messages ∷ [])) inboxes names
-AreIndexes-message kept contents inboxes names m i there room stored = record {
-  folder_count = length-set contents m.folder _ ∙ i.folder_count;
-  contents_is = contents_push contents kept.messages m (omega (arith, i.folder_count)) i.contents_is;
-  account_count = i.account_count;
-  inboxes_is = i.inboxes_is;
-  names_is = i.names_is;
-  domains_are_texts = i.domains_are_texts;
-  messages_are_stored = record { each = All-push (λ (message : Message). IsStored message.octets) kept.messages m i.messages_are_stored.each stored };
-  few_accounts = i.few_accounts;
-  few_messages = omega (arith, length-append kept.messages (m ∷ []));
-  few_folders = i.few_folders;
-}
-
-pub AreIndexes-message_at : (kept : Kept) (contents : List (List ℕ)) (inboxes : List ℕ) (names : List ℕ → Option ℕ) (m : Message) (n : ℕ) → AreIndexes kept contents inboxes names
-    → m.folder < length kept.folders → length kept.messages < THINGS_MAX → IsStored m.octets → n ≡ length kept.messages
-    → AreIndexes (record kept { messages = kept.messages ++ m ∷ [] }) (set contents m.folder (get_or contents m.folder [] ++ n ∷ [])) inboxes names
-AreIndexes-message_at kept contents inboxes names m n i there room stored e =
-    subst (λ (k : ℕ). AreIndexes (record kept { messages = kept.messages ++ m ∷ [] }) (set contents m.folder (get_or contents m.folder [] ++ k ∷ [])) inboxes names) (sym e) (AreIndexes-message kept contents inboxes names m i there room stored)
-
 -- ---- one more folder
 
--- an empty list at the end is what stands past it
-pub get_or-push_nil : (contents : List (List ℕ)) (f : ℕ) → get_or (contents ++ [] ∷ []) f [] ≡ get_or contents f []
-get_or-push_nil [] zero = refl
-get_or-push_nil [] (suc f) = refl
-get_or-push_nil (x ∷ contents) zero = refl
-get_or-push_nil (x ∷ contents) (suc f) = get_or-push_nil contents f
+-- a folder of an account that has one already
+pub first_folder-push_found : (account at : ℕ) (fs : List Folder) (x : Folder) (i : ℕ) → first_folder account at fs ≡ Some i → first_folder account at (fs ++ x ∷ []) ≡ Some i
+first_folder-push_found account at [] x i e = absurd (no_none i e)
+first_folder-push_found account at (f ∷ fs) x i e =
+    elim (cases_Bool (eqb f.account account)) [
+      | inl same ↦ rw same (rw same at e)
+      | inr other ↦ rw other (first_folder-push_found account (at + 1) fs x i (rw other at e))
+    ]
 
 -- a folder of an account that has none
 pub first_folder-push_none : (account at : ℕ) (fs : List Folder) (x : Folder) → first_folder account at fs ≡ None → first_folder account at (fs ++ x ∷ []) ≡ cond (eqb x.account account) (Some (at + length fs)) None
@@ -113,6 +65,85 @@ pub first_folder-push_other : (account at : ℕ) (fs : List Folder) (x : Folder)
 first_folder-push_other account at [] x other = rw other refl
 first_folder-push_other account at (f ∷ fs) x other = ap (λ (o : Option ℕ). cond (eqb f.account account) (Some at) o) (first_folder-push_other account (at + 1) fs x other)
 
+pub first_folder_within : (account at : ℕ) (fs : List Folder) (i : ℕ) → first_folder account at fs ≡ Some i → i < at + length fs
+first_folder_within account at [] i e = absurd (no_none i e)
+first_folder_within account at (f ∷ fs) i e =
+    elim (cases_Bool (eqb f.account account)) [
+      | inl same ↦
+          let is : at ≡ i = some_number at i (rw same at e) in
+          omega (arith, is)
+      | inr other ↦
+          let ih = first_folder_within account (at + 1) fs i (rw other at e) in
+          omega (arith, ih)
+    ]
+
+pub AreIndexes-folder : (kept : Kept) (i : Indexes) (x : Folder) → AreIndexes kept i → x.account < length kept.accounts → length kept.folders < THINGS_MAX
+    → AreIndexes (record kept { folders = kept.folders ++ x ∷ [] }) (record i { contents = i.contents ++ empty_content ∷ [] })
+AreIndexes-folder kept i x h there room = record {
+  folder_count = length-append i.contents (empty_content ∷ []) ∙ ap (λ (n : ℕ). n + 1) h.folder_count ∙ sym (length-append kept.folders (x ∷ []));
+  chained = AreChained-folder i.contents i.previous kept.messages h.chained;
+  account_count = h.account_count;
+  inboxes_is = λ (account : ℕ). elim (cases_eq x.account account) [
+    | inl same ↦
+        let within : x.account < length i.inboxes = omega (arith, h.account_count) in
+        let found = slice_get-get_or i.inboxes x.account 0 within in
+        subst (λ (k : ℕ). slice_get i.inboxes k ≡ first_folder k 0 (kept.folders ++ x ∷ [])) same (found ∙ sym (first_folder-push_found x.account 0 kept.folders x _ (sym (h.inboxes_is x.account) ∙ found)))
+    | inr other ↦ h.inboxes_is account ∙ sym (first_folder-push_other account 0 kept.folders x (ne_eqb x.account account other))
+  ];
+  mailboxes_is = h.mailboxes_is;
+  locals_is = h.locals_is;
+  recipients_is = h.recipients_is;
+  domains_are_texts = h.domains_are_texts;
+  messages_are_stored = h.messages_are_stored;
+  few = record {
+    accounts = h.few.accounts;
+    domains = h.few.domains;
+    folders = omega (arith, length-append kept.folders (x ∷ []));
+    messages = h.few.messages;
+    entries = h.few.entries;
+    recipients = h.few.recipients;
+  };
+}
+
+-- ---- one more domain
+
+pub first_name-push : (q : List ℕ) (at : ℕ) (names : List (List ℕ)) (name : List ℕ) → first_name q at (names ++ name ∷ []) ≡ kept_first (first_name q at names) name q (at + length names)
+first_name-push q at [] name =
+    let here : at ≡ at + 0 = omega arith in
+    ap (λ (n : ℕ). cond (bytes_eq name q) (Some n) None) here
+first_name-push q at (x ∷ names) name =
+    elim (cases_Bool (bytes_eq x q)) [
+      | inl same ↦ rw same refl
+      | inr other ↦
+          let there : at + 1 + length names ≡ at + suc (length names) = omega arith in
+          rw other (first_name-push q (at + 1) names name ∙ ap (λ (n : ℕ). kept_first (first_name q (at + 1) names) name q n) there)
+    ]
+
+pub AreIndexes-domain : (kept : Kept) (i : Indexes) (after : List ℕ → Option ℕ) (name : List ℕ) → AreIndexes kept i → IsDomainText name
+    → length kept.domains < THINGS_MAX → PutsName i.locals after name (length kept.domains)
+    → AreIndexes (record kept { domains = kept.domains ++ name ∷ [] }) (record i { locals = after })
+AreIndexes-domain kept i after name h text room puts =
+    let plain : length kept.domains ≡ 0 + length kept.domains = omega arith in
+    record {
+      folder_count = h.folder_count;
+      chained = h.chained;
+      account_count = h.account_count;
+      inboxes_is = h.inboxes_is;
+      mailboxes_is = h.mailboxes_is;
+      locals_is = λ (q : List ℕ). puts q ∙ ap (λ (o : Option ℕ). kept_first o name q (length kept.domains)) (h.locals_is q) ∙ ap (λ (n : ℕ). kept_first (first_name q 0 kept.domains) name q n) plain ∙ sym (first_name-push q 0 kept.domains name);
+      recipients_is = h.recipients_is;
+      domains_are_texts = All-push IsDomainText kept.domains name h.domains_are_texts text;
+      messages_are_stored = h.messages_are_stored;
+      few = record {
+        accounts = h.few.accounts;
+        domains = omega (arith, length-append kept.domains (name ∷ []));
+        folders = h.few.folders;
+        messages = h.few.messages;
+        entries = h.few.entries;
+        recipients = h.few.recipients;
+      };
+    }
+
 -- ---- one more account, with its folder
 
 pub slice_get-push_last : (xs : List ℕ) (x : ℕ) → slice_get (xs ++ x ∷ []) (length xs) ≡ Some x
@@ -125,78 +156,213 @@ slice_get-push_other [] x (suc k) other = refl
 slice_get-push_other (y ∷ xs) x zero other = refl
 slice_get-push_other (y ∷ xs) x (suc k) other = slice_get-push_other xs x k (λ e. other (ap suc e))
 
-first_account-push : (name : List ℕ) (at : ℕ) (accounts : List Account) (a : Account) → first_account name at (accounts ++ a ∷ []) ≡ kept_first (first_account name at accounts) a.address name (at + length accounts)
-first_account-push name at [] a =
+reading_is : (text : List ℕ) (answer : Option Address) (o : Option (Option Address)) → IsReading text o → HasPath text answer → o ≡ Some answer
+reading_is text answer None none h = absurd (none answer h)
+reading_is text answer (Some found) is h = ap (λ (a : Option Address). let o : Option (Option Address) = Some a in o) (HasPath-once text found answer is h)
+
+-- what a function that reads paths gives for the text of an address
+pub address_is : (path_of : List ℕ → Option (Option Address)) → ReadsPaths path_of → (text : List ℕ) (own : Address) → IsTextOf text own → address_of path_of text ≡ Some own
+address_is path_of reads text own is = rw (reading_is (in_angles text) (Some own) (path_of (in_angles text)) (reads (in_angles text)) is) refl
+
+pub first_mailbox-push : (path_of : List ℕ → Option (Option Address)) (key : List ℕ) (at : ℕ) (accounts : List Account) (a : Account) (own : Address) → address_of path_of a.address ≡ Some own
+    → first_mailbox path_of key at (accounts ++ a ∷ []) ≡ kept_first (first_mailbox path_of key at accounts) (mailbox_key own) key (at + length accounts)
+first_mailbox-push path_of key at [] a own e =
     let here : at ≡ at + 0 = omega arith in
-    ap (λ (n : ℕ). cond (bytes_eq a.address name) (Some n) None) here
-first_account-push name at (x ∷ accounts) a =
-    elim (cases_Bool (bytes_eq x.address name)) [
+    ap (λ (o : Option Address). cond (option_map_or (λ (x : Address). bytes_eq (mailbox_key x) key) o false) (Some at) None) e ∙ ap (λ (n : ℕ). cond (bytes_eq (mailbox_key own) key) (Some n) None) here
+first_mailbox-push path_of key at (x ∷ accounts) a own e =
+    elim (cases_Bool (has_key path_of key x)) [
       | inl same ↦ rw same refl
       | inr other ↦
           let there : at + 1 + length accounts ≡ at + suc (length accounts) = omega arith in
-          rw other (first_account-push name (at + 1) accounts a ∙ ap (λ (n : ℕ). kept_first (first_account name (at + 1) accounts) a.address name n) there)
+          rw other (first_mailbox-push path_of key (at + 1) accounts a own e ∙ ap (λ (n : ℕ). kept_first (first_mailbox path_of key (at + 1) accounts) (mailbox_key own) key n) there)
     ]
 
-pub AreIndexes-account : (kept : Kept) (contents : List (List ℕ)) (inboxes : List ℕ) (names after : List ℕ → Option ℕ) (a : Account) (name : List ℕ) → AreIndexes kept contents inboxes names
-    → length kept.accounts < THINGS_MAX → length kept.folders < THINGS_MAX → PutsName names after a.address (length kept.accounts)
-    → AreIndexes (record kept { accounts = kept.accounts ++ a ∷ []; folders = kept.folders ++ record { account = length kept.accounts; name = name } ∷ [] }) (contents ++ [] ∷ []) (inboxes ++ length kept.folders ∷ []) after
-AreIndexes-account kept contents inboxes names after a name i more room puts =
+-- an account's folder is put last with it
+inboxes_push : (accounts : List Account) (folders : List Folder) (inboxes : List ℕ) (x : Folder) → length inboxes ≡ length accounts → ((account : ℕ) → slice_get inboxes account ≡ first_folder account 0 folders)
+    → x.account ≡ length accounts → (account : ℕ) → slice_get (inboxes ++ length folders ∷ []) account ≡ first_folder account 0 (folders ++ x ∷ [])
+inboxes_push accounts folders inboxes x count is its account =
+    elim (cases_eq account (length inboxes)) [
+      | inl same ↦
+          let past : slice_get inboxes (length inboxes) ≡ None = slice_get_past inboxes (length inboxes) (omega arith) in
+          let none : first_folder (length inboxes) 0 folders ≡ None = sym (is (length inboxes)) ∙ past in
+          let own : eqb x.account (length inboxes) ≡ true = eq-eqb _ _ (its ∙ sym count) in
+          let plain : 0 + length folders ≡ length folders = omega arith in
+          let second = first_folder-push_none (length inboxes) 0 folders x none ∙ ap (λ (b : Bool). cond b (Some (0 + length folders)) None) own ∙ ap (λ (n : ℕ). Some n) plain in
+          subst (λ (k : ℕ). slice_get (inboxes ++ length folders ∷ []) k ≡ first_folder k 0 (folders ++ x ∷ [])) (sym same) (slice_get-push_last inboxes (length folders) ∙ sym second)
+      | inr other ↦
+          let differ : x.account ≡ account → ⊥ = λ (e : x.account ≡ account). other (sym e ∙ its ∙ sym count) in
+          slice_get-push_other inboxes (length folders) account other ∙ is account ∙ sym (first_folder-push_other account 0 folders x (ne_eqb x.account account differ))
+    ]
+
+pub AreIndexes-account : (kept : Kept) (i : Indexes) (after : List ℕ → Option ℕ) (a : Account) (own : Address) (name : List ℕ) → AreIndexes kept i → IsTextOf a.address own
+    → length kept.accounts < THINGS_MAX → length kept.folders < THINGS_MAX → PutsName i.mailboxes after (mailbox_key own) (length kept.accounts)
+    → AreIndexes (record kept { accounts = kept.accounts ++ a ∷ []; folders = kept.folders ++ record { account = length kept.accounts; name = name } ∷ [] })
+    (record i { contents = i.contents ++ empty_content ∷ []; inboxes = i.inboxes ++ length kept.folders ∷ []; mailboxes = after })
+AreIndexes-account kept i after a own name h text more room puts =
     let x : Folder = record { account = length kept.accounts; name = name } in
-    let none_before : length kept.accounts ≡ 0 + length kept.accounts = omega arith in
+    let plain : length kept.accounts ≡ 0 + length kept.accounts = omega arith in
     record {
-      folder_count = length-append contents ([] ∷ []) ∙ ap (λ (n : ℕ). n + 1) i.folder_count ∙ sym (length-append kept.folders (x ∷ []));
-      contents_is = λ (f : ℕ). get_or-push_nil contents f ∙ i.contents_is f;
-      account_count = length-append inboxes (length kept.folders ∷ []) ∙ ap (λ (n : ℕ). n + 1) i.account_count ∙ sym (length-append kept.accounts (a ∷ []));
-      inboxes_is = λ (account : ℕ). elim (cases_eq account (length inboxes)) [
-        | inl same ↦
-            let past : slice_get inboxes (length inboxes) ≡ None = slice_get_past inboxes (length inboxes) (omega arith) in
-            let none : first_folder (length inboxes) 0 kept.folders ≡ None = sym (i.inboxes_is (length inboxes)) ∙ past in
-            let its : eqb (length kept.accounts) (length inboxes) ≡ true = eq-eqb _ _ (sym i.account_count) in
-            let plain : 0 + length kept.folders ≡ length kept.folders = omega arith in
-            let second = first_folder-push_none (length inboxes) 0 kept.folders x none ∙ ap (λ (b : Bool). cond b (Some (0 + length kept.folders)) None) its ∙ ap (λ (n : ℕ). Some n) plain in
-            subst (λ (k : ℕ). slice_get (inboxes ++ length kept.folders ∷ []) k ≡ first_folder k 0 (kept.folders ++ x ∷ [])) (sym same) (slice_get-push_last inboxes (length kept.folders) ∙ sym second)
-        | inr other ↦
-            let differ : length kept.accounts ≡ account → ⊥ = λ (e : length kept.accounts ≡ account). other (sym e ∙ sym i.account_count) in
-            slice_get-push_other inboxes (length kept.folders) account other ∙ i.inboxes_is account ∙ sym (first_folder-push_other account 0 kept.folders x (ne_eqb (length kept.accounts) account differ))
-      ];
-      names_is = λ (q : List ℕ). puts q ∙ ap (λ (o : Option ℕ). kept_first o a.address q (length kept.accounts)) (i.names_is q) ∙ ap (λ (n : ℕ). kept_first (first_account q 0 kept.accounts) a.address q n) none_before ∙ sym (first_account-push q 0 kept.accounts a);
-      domains_are_texts = i.domains_are_texts;
-      messages_are_stored = i.messages_are_stored;
-      few_accounts = omega (arith, length-append kept.accounts (a ∷ []));
-      few_messages = i.few_messages;
-      few_folders = omega (arith, length-append kept.folders (x ∷ []));
+      folder_count = length-append i.contents (empty_content ∷ []) ∙ ap (λ (n : ℕ). n + 1) h.folder_count ∙ sym (length-append kept.folders (x ∷ []));
+      chained = AreChained-folder i.contents i.previous kept.messages h.chained;
+      account_count = length-append i.inboxes (length kept.folders ∷ []) ∙ ap (λ (n : ℕ). n + 1) h.account_count ∙ sym (length-append kept.accounts (a ∷ []));
+      inboxes_is = inboxes_push kept.accounts kept.folders i.inboxes x h.account_count h.inboxes_is refl;
+      mailboxes_is = λ (path_of : List ℕ → Option (Option Address)) (reads : ReadsPaths path_of) (key : List ℕ). puts key
+          ∙ ap (λ (o : Option ℕ). kept_first o (mailbox_key own) key (length kept.accounts)) (h.mailboxes_is path_of reads key)
+          ∙ ap (λ (n : ℕ). kept_first (first_mailbox path_of key 0 kept.accounts) (mailbox_key own) key n) plain
+          ∙ sym (first_mailbox-push path_of key 0 kept.accounts a own (address_is path_of reads a.address own text));
+      locals_is = h.locals_is;
+      recipients_is = h.recipients_is;
+      domains_are_texts = h.domains_are_texts;
+      messages_are_stored = h.messages_are_stored;
+      few = record {
+        accounts = omega (arith, length-append kept.accounts (a ∷ []));
+        domains = h.few.domains;
+        folders = omega (arith, length-append kept.folders (x ∷ []));
+        messages = h.few.messages;
+        entries = h.few.entries;
+        recipients = h.few.recipients;
+      };
     }
 
-pub AreIndexes-account_at : (kept : Kept) (contents : List (List ℕ)) (inboxes : List ℕ) (names after : List ℕ → Option ℕ) (a : Account) (name : List ℕ) (account folder : ℕ) → AreIndexes kept contents inboxes names
-    → length kept.accounts < THINGS_MAX → length kept.folders < THINGS_MAX → PutsName names after a.address account → account ≡ length kept.accounts → folder ≡ length kept.folders
-    → AreIndexes (record kept { accounts = kept.accounts ++ a ∷ []; folders = kept.folders ++ record { account = account; name = name } ∷ [] }) (contents ++ [] ∷ []) (inboxes ++ folder ∷ []) after
-AreIndexes-account_at kept contents inboxes names after a name account folder i more room puts e f =
-    subst (λ (n : ℕ). AreIndexes (record kept { accounts = kept.accounts ++ a ∷ []; folders = kept.folders ++ record { account = n; name = name } ∷ [] }) (contents ++ [] ∷ []) (inboxes ++ folder ∷ []) after) (sym e)
-    (subst (λ (n : ℕ). AreIndexes (record kept { accounts = kept.accounts ++ a ∷ []; folders = kept.folders ++ record { account = length kept.accounts; name = name } ∷ [] }) (contents ++ [] ∷ []) (inboxes ++ n ∷ []) after) (sym f) (AreIndexes-account kept contents inboxes names after a name i more room (subst (PutsName names after a.address) e puts)))
+-- ---- more messages
 
-pub AreIndexes-domain : (kept : Kept) (contents : List (List ℕ)) (inboxes : List ℕ) (names : List ℕ → Option ℕ) (name : List ℕ) → AreIndexes kept contents inboxes names → IsUtf8 name
-    → AreIndexes (record kept { domains = kept.domains ++ name ∷ [] }) contents inboxes names
-AreIndexes-domain kept contents inboxes names name i text = record {
-  folder_count = i.folder_count;
-  contents_is = i.contents_is;
-  account_count = i.account_count;
-  inboxes_is = i.inboxes_is;
-  names_is = i.names_is;
-  domains_are_texts = All-push IsUtf8 kept.domains name i.domains_are_texts text;
-  messages_are_stored = i.messages_are_stored;
-  few_accounts = i.few_accounts;
-  few_messages = i.few_messages;
-  few_folders = i.few_folders;
+pub AreIndexes-messages : (kept : Kept) (i : Indexes) (ms : List Message) (contents : List Content) (previous : List (Option ℕ)) → AreIndexes kept i
+    → All (λ message. IsStored message.octets) ms → length kept.messages + length ms ≤ THINGS_MAX → AreChained (kept.messages ++ ms) contents previous
+    → length contents ≡ length i.contents
+    → AreIndexes (record kept { messages = kept.messages ++ ms }) (record i { contents = contents; previous = previous })
+AreIndexes-messages kept i ms contents previous h stored room chained count = record {
+  folder_count = count ∙ h.folder_count;
+  chained = chained;
+  account_count = h.account_count;
+  inboxes_is = h.inboxes_is;
+  mailboxes_is = h.mailboxes_is;
+  locals_is = h.locals_is;
+  recipients_is = h.recipients_is;
+  domains_are_texts = h.domains_are_texts;
+  messages_are_stored = record { each = All-append (λ (message : Message). IsStored message.octets) kept.messages ms h.messages_are_stored.each stored };
+  few = record {
+    accounts = h.few.accounts;
+    domains = h.few.domains;
+    folders = h.few.folders;
+    messages = omega (arith, length-append kept.messages ms);
+    entries = h.few.entries;
+    recipients = h.few.recipients;
+  };
 }
 
-pub first_folder_within : (account at : ℕ) (fs : List Folder) (i : ℕ) → first_folder account at fs ≡ Some i → i < at + length fs
-first_folder_within account at [] i e = absurd (no_none i e)
-first_folder_within account at (f ∷ fs) i e =
-    elim (cases_Bool (eqb f.account account)) [
-      | inl same ↦
-          let is : at ≡ i = some_number at i (rw same at e) in
-          omega (arith, is)
-      | inr other ↦
-          let ih = first_folder_within account (at + 1) fs i (rw other at e) in
-          omega (arith, ih)
-    ]
+-- ---- messages that were changed
+
+pub AreIndexes-changed : (kept : Kept) (i : Indexes) (ms : List Message) → AreIndexes kept i → AreSameMessages kept.messages ms → AreIndexes (record kept { messages = ms }) i
+AreIndexes-changed kept i ms h same =
+    let len = length-same kept.messages ms same in
+    let is_stored = λ (message : Message). IsStored message.octets in
+    record {
+      folder_count = h.folder_count;
+      chained = AreChained-same i.contents i.previous kept.messages ms h.chained same.folders len;
+      account_count = h.account_count;
+      inboxes_is = h.inboxes_is;
+      mailboxes_is = h.mailboxes_is;
+      locals_is = h.locals_is;
+      recipients_is = h.recipients_is;
+      domains_are_texts = h.domains_are_texts;
+      messages_are_stored = record { each = All-from_recursion is_stored ms (stored-same kept.messages ms same.octets (recursion_from_All is_stored kept.messages h.messages_are_stored.each)) };
+      few = record {
+        accounts = h.few.accounts;
+        domains = h.few.domains;
+        folders = h.few.folders;
+        messages = omega (arith, len, h.few.messages);
+        entries = h.few.entries;
+        recipients = h.few.recipients;
+      };
+    }
+
+-- ---- the queue
+
+-- how many recipients an entry ever had
+abbrev width : Entry → ℕ
+width entry = length entry.recipients
+
+pub AreIndexes-entry : (kept : Kept) (i : Indexes) (e : Entry) → AreIndexes kept i → length kept.entries < THINGS_MAX
+    → recipient_count kept.entries + length e.recipients ≤ THINGS_MAX
+    → AreIndexes (record kept { entries = kept.entries ++ e ∷ [] }) (record i { recipients = i.recipients + length e.recipients })
+AreIndexes-entry kept i e h room short =
+    let count : recipient_count (kept.entries ++ e ∷ []) ≡ recipient_count kept.entries + length e.recipients = sum_by_push width kept.entries e in
+    record {
+      folder_count = h.folder_count;
+      chained = h.chained;
+      account_count = h.account_count;
+      inboxes_is = h.inboxes_is;
+      mailboxes_is = h.mailboxes_is;
+      locals_is = h.locals_is;
+      recipients_is = ap (λ (n : ℕ). n + length e.recipients) h.recipients_is ∙ sym count;
+      domains_are_texts = h.domains_are_texts;
+      messages_are_stored = h.messages_are_stored;
+      few = record {
+        accounts = h.few.accounts;
+        domains = h.few.domains;
+        folders = h.few.folders;
+        messages = h.few.messages;
+        entries = omega (arith, length-append kept.entries (e ∷ []));
+        recipients = omega (arith, count, short);
+      };
+    }
+
+recipient_count-change_at : (index : ℕ) (es : List Entry) (at : ℕ) → recipient_count (change_at (without index) es at) ≡ recipient_count es
+recipient_count-change_at index [] at = refl
+recipient_count-change_at index (e ∷ es) zero =
+    sum_by-cons width (without index e) es ∙ ap (λ (n : ℕ). n + recipient_count es) (length-change_at settled e.recipients index) ∙ sym (sum_by-cons width e es)
+recipient_count-change_at index (e ∷ es) (suc at) =
+    sum_by-cons width e (change_at (without index) es at) ∙ ap (λ (n : ℕ). length e.recipients + n) (recipient_count-change_at index es at) ∙ sym (sum_by-cons width e es)
+
+pub AreIndexes-settled : (kept : Kept) (i : Indexes) (entry index : ℕ) → AreIndexes kept i → AreIndexes (record kept { entries = change_at (without index) kept.entries entry }) i
+AreIndexes-settled kept i entry index h =
+    let count = recipient_count-change_at index kept.entries entry in
+    record {
+      folder_count = h.folder_count;
+      chained = h.chained;
+      account_count = h.account_count;
+      inboxes_is = h.inboxes_is;
+      mailboxes_is = h.mailboxes_is;
+      locals_is = h.locals_is;
+      recipients_is = h.recipients_is ∙ sym count;
+      domains_are_texts = h.domains_are_texts;
+      messages_are_stored = h.messages_are_stored;
+      few = record {
+        accounts = h.few.accounts;
+        domains = h.few.domains;
+        folders = h.few.folders;
+        messages = h.few.messages;
+        entries = omega (arith, length-change_at (without index) kept.entries entry, h.few.entries);
+        recipients = omega (arith, count, h.few.recipients);
+      };
+    }
+
+-- ---- a map that answers the same
+
+pub AreIndexes-locals : (kept : Kept) (i : Indexes) (after : List ℕ → Option ℕ) → AreIndexes kept i → ((name : List ℕ) → after name ≡ i.locals name) → AreIndexes kept (record i { locals = after })
+AreIndexes-locals kept i after h same = record {
+  folder_count = h.folder_count;
+  chained = h.chained;
+  account_count = h.account_count;
+  inboxes_is = h.inboxes_is;
+  mailboxes_is = h.mailboxes_is;
+  locals_is = λ (name : List ℕ). same name ∙ h.locals_is name;
+  recipients_is = h.recipients_is;
+  domains_are_texts = h.domains_are_texts;
+  messages_are_stored = h.messages_are_stored;
+  few = h.few;
+}
+
+pub AreIndexes-mailboxes : (kept : Kept) (i : Indexes) (after : List ℕ → Option ℕ) → AreIndexes kept i → ((key : List ℕ) → after key ≡ i.mailboxes key) → AreIndexes kept (record i { mailboxes = after })
+AreIndexes-mailboxes kept i after h same = record {
+  folder_count = h.folder_count;
+  chained = h.chained;
+  account_count = h.account_count;
+  inboxes_is = h.inboxes_is;
+  mailboxes_is = λ (path_of : List ℕ → Option (Option Address)) (reads : ReadsPaths path_of) (key : List ℕ). same key ∙ h.mailboxes_is path_of reads key;
+  locals_is = h.locals_is;
+  recipients_is = h.recipients_is;
+  domains_are_texts = h.domains_are_texts;
+  messages_are_stored = h.messages_are_stored;
+  few = h.few;
+}

@@ -23,13 +23,20 @@ module _ {K : Type 0} (eq : K → K → Bool) (test : K → Bool) where
   unfolding KeepsOthers
   other_entries old new h = h
 
-none_of : (o : Option ℕ) → is_some o ≡ false → o ≡ None
+pub none_of : (o : Option ℕ) → is_some o ≡ false → o ≡ None
 none_of None e = refl
 none_of (Some m) e = absurd cc
 
-kept_other : (o : Option ℕ) (key name : List ℕ) (n : ℕ) → bytes_eq key name ≡ false → o ≡ kept_first o key name n
+pub kept_other : (o : Option ℕ) (key name : List ℕ) (n : ℕ) → bytes_eq key name ≡ false → o ≡ kept_first o key name n
 kept_other None key name n e = rw e refl
 kept_other (Some m) key name n e = refl
+
+-- what was put at a key, or taken away there, leaves the other names
+pub keeps_others : (old new : BTreeMap (Vec ℕ) ℕ) (key : List ℕ) (there : Option ℕ)
+    → UpdatesBy (λ x y. slice_cmp nat_cmp x.items y.items) (λ k. slice_cmp nat_cmp key k.items) old new there
+    → (name : List ℕ) → bytes_eq key name ≡ false → number_of new name ≡ number_of old name
+keeps_others old new key there h name other =
+    other_entries _ _ _ _ h.3 _ (λ x y. (eq_by_cmp_equiv nat_list_cmp_total).congr name x.items y.items) (λ k. apart key name k.items other)
 
 -- a number put at a key that had none
 pub puts_first : (old new : BTreeMap (Vec ℕ) ℕ) (key : List ℕ) (n : ℕ) → is_some (number_of old key) ≡ false
@@ -43,6 +50,16 @@ puts_first old new key n none h name =
           let here : number_of new name ≡ Some n = ap (number_of new) (sym is) ∙ h.1 in
           rw (gone, same) here
       | inr other ↦
-          let kept : number_of new name ≡ number_of old name = other_entries _ _ _ _ h.3 _ (λ x y. (eq_by_cmp_equiv nat_list_cmp_total).congr name x.items y.items) (λ k. apart key name k.items other) in
+          let kept : number_of new name ≡ number_of old name = keeps_others old new key (Some n) h name other in
           kept ∙ kept_other (number_of old name) key name n other
+    ]
+
+-- a number taken away from a key
+pub takes_others : (old new : BTreeMap (Vec ℕ) ℕ) (key : List ℕ)
+    → UpdatesBy (λ x y. slice_cmp nat_cmp x.items y.items) (λ k. slice_cmp nat_cmp key k.items) old new None
+    → (name : List ℕ) → ¬ (name ≡ key) → number_of new name ≡ number_of old name
+takes_others old new key h name differs =
+    elim (cases_Bool (bytes_eq key name)) [
+      | inl same ↦ absurd (differs (sym ((bytes_eq-Decides key name).0 same)))
+      | inr other ↦ keeps_others old new key None h name other
     ]

@@ -1,7 +1,7 @@
 -- Going over a journal, record by record.
-use Rattle.std.proofs.Common.{◌≡◌, ℕ, ◌+◌, ◌≤◌, List, [], ◌∷◌, ◌++◌, length, take, drop, Option, Some, None, refl, sym, ap, subst, ◌∙◌, append_assoc, append-nil, arith, inl, inr, ◌⊎◌, length-append, length-take, length-drop}
+use Rattle.std.proofs.Common.{◌≡◌, ℕ, ◌+◌, ◌≤◌, List, [], ◌∷◌, ◌++◌, length, take, drop, Option, Some, None, refl, sym, ap, subst, ◌∙◌, append_assoc, append-nil, arith, inl, inr, ◌⊎◌, length-append, length-take}
 use Rattle.std.specs.Prelude.{IfSome}
-use Rattle.std.specs.List.{flat_map, AllByRecursion}
+use Rattle.std.specs.List.{flat_map}
 use Rattle.std.proofs.lemmas.Bool.{cases_lt}
 use Rattle.std.proofs.lemmas.List.{take_all, drop-drop}
 use Rattle.std.proofs.lemmas.List.Concat.{flat_map-cons}
@@ -15,31 +15,19 @@ use Rattle.mail_store.specs.Records.{IsRecord, AreRecords}
 use Rattle.mail_store.specs.Spelling.{octet_list, fields_of, record_text, journal, first_octets}
 use Rattle.mail_store.specs.StoreState.{StoreState}
 use Rattle.mail_store.specs.Opening.{IsCutShort, BeginsWith, HasRecords}
-use Rattle.mail_store.specs.Unbuilt.{IsReadKind, AreUnbuilt}
 use Rattle.mail_store.specs.Adding.{Added, NotAdded}
 use Rattle.mail_store.specs.Answers.{LeavesRecords}
 use Rattle.mail_store.specs.Replaying.{IsWhole, IsNoFrame, IsFieldsFault, Stays, IsSoFar, EndsAt, IsReadingFault, IsHalfRepaired, HalfRepairs, fields_at}
+use Rattle.mail_store.proofs.ChangeLemmas.{after_all-push}
 use Rattle.mail_store.proofs.FrameLemmas.{list_once}
 use Rattle.mail_store.proofs.Next.{some_fields}
-use Rattle.mail_store.proofs.Readings.{list_no_prefix, bad_not_unbuilt}
-
-pub told_unbuilt : (told : Option (List ℕ)) (fields : List ℕ) (at n : ℕ) → IfSome told (λ octets. fields ≡ fields_at octets at n) → AreUnbuilt fields → IfSome told (λ octets. AreUnbuilt (fields_at octets at n))
-told_unbuilt None fields at n e u = tt
-told_unbuilt (Some octets) fields at n e u = subst AreUnbuilt e u
+use Rattle.mail_store.proofs.Readings.{list_no_prefix}
 
 -- ---- lists of records, one more put last
-
-after_all-push : (kept : Kept) (all : List Record) (one : Record) → after_all kept (all ++ one ∷ []) ≡ after (after_all kept all) one
-after_all-push kept [] one = refl
-after_all-push kept (x ∷ all) one = after_all-push (after kept x) all one
 
 AreRecords-push : (kept : Kept) (all : List Record) (one : Record) → AreRecords kept all → IsRecord (after_all kept all) one → AreRecords kept (all ++ one ∷ [])
 AreRecords-push kept [] one h is = (is, tt)
 AreRecords-push kept (x ∷ all) one h is = (h.0, AreRecords-push (after kept x) all one h.1 is)
-
-are_read-push : (all : List Record) (one : Record) → AllByRecursion IsReadKind all → IsReadKind one → AllByRecursion IsReadKind (all ++ one ∷ [])
-are_read-push [] one h is = (is, tt)
-are_read-push (x ∷ all) one h is = (h.0, are_read-push all one h.1 is)
 
 flat_map-push : (all : List Record) (one : Record) → flat_map record_text (all ++ one ∷ []) ≡ flat_map record_text all ++ record_text one
 flat_map-push [] one = flat_map-cons record_text one [] ∙ append-nil (record_text one)
@@ -67,7 +55,6 @@ IsSoFar-next told at n first old new fields s w a len f =
     record {
       all = s.all ++ a.one ∷ [];
       records = AreRecords-push nothing s.all a.one s.records (subst (λ (k : Kept). IsRecord k a.one) s.kept_is a.is_record);
-      are_read = are_read-push s.all a.one s.are_read a.is_read;
       kept_is = ap (λ (x : StoreState). x.kept) a.new_is ∙ ap (λ (k : Kept). after k a.one) s.kept_is ∙ sym (after_all-push nothing s.all a.one);
       at_is = omega (arith, s.at_is, ap length pushed, length-append (journal s.all) (octet_list fields), len);
       text = texts told s.text w f pushed;
@@ -83,10 +70,8 @@ IsSoFar-next told at n first old new fields s w a len f =
 bad_frame : (octets : List ℕ) (at : ℕ) (first store : StoreState) → IsSoFar (Some octets) at first store → IsNoFrame (drop at octets) → IsReadingFault octets (faults.BadJournal at)
 bad_frame octets at first store s none =
     let whole : BeginsWith octets s.all (drop at octets) = record { text = s.text; records = s.records } in
-    let no_record = λ (one : Record) (rest : List ℕ) (is : IsRecord (store_of s.all) one) (e : drop at octets ≡ record_text one ++ rest). none.no_list (fields_of one) rest (some_fields one) is.short e in (
-      inr (s.all, drop at octets, s.at_is, record { whole = whole; no_prefix = none.no_prefix; no_record = no_record }),
-      bad_not_unbuilt octets (drop at octets) s.all whole s.are_read no_record (λ (fields, rest, text, some, short, unbuilt). none.no_list fields rest some short text),
-    )
+    let no_record = λ (one : Record) (rest : List ℕ) (is : IsRecord (store_of s.all) one) (e : drop at octets ≡ record_text one ++ rest). none.no_list (fields_of one) rest (some_fields one) is.short e in
+    inr (s.all, drop at octets, s.at_is, record { whole = whole; no_prefix = none.no_prefix; no_record = no_record })
 
 pub told_bad : (told : Option (List ℕ)) (at : ℕ) (first store : StoreState) → IsSoFar told at first store → IfSome told (λ octets. IsNoFrame (drop at octets)) → IfSome told (λ octets. IsReadingFault octets (faults.BadJournal at))
 told_bad None at first store s none = tt
@@ -103,33 +88,14 @@ bad_fields octets at n first store s w a =
     let none : NotAdded store fields = subst (NotAdded store) its a in
     let whole : BeginsWith octets s.all rest = record { text = s.text; records = s.records } in
     let no_record = λ (one : Record) (after_it : List ℕ) (is : IsRecord (store_of s.all) one) (e : rest ≡ record_text one ++ after_it).
-    none.no_record one (subst (λ (k : Kept). IsRecord k one) (sym s.kept_is) is) (list_once fields (fields_of one) behind after_it (omega (arith, short)) (omega (arith, is.short)) (sym w.text ∙ e)).0 in (
-      inr (s.all, rest, s.at_is, record { whole = whole; no_prefix = λ cut. list_no_prefix fields behind short (subst IsCutShort w.text cut); no_record = no_record }),
-      bad_not_unbuilt octets rest s.all whole s.are_read no_record (λ (others, tail, text, some, few, unbuilt). none.not_unbuilt (subst AreUnbuilt (sym (list_once fields others behind tail (omega (arith, short)) (omega (arith, few)) (sym w.text ∙ text)).0) unbuilt)),
-    )
-
-unbuilt_fields : (octets : List ℕ) (at n : ℕ) (first store : StoreState) → IsSoFar (Some octets) at first store → IsWhole n (drop at octets) → AreUnbuilt (fields_at octets at n) → IsReadingFault octets (faults.NotBuilt at)
-unbuilt_fields octets at n first store s w u =
-    let rest = drop at octets in
-    let fields = take n (drop 4 rest) in
-    let its : fields_at octets at n ≡ fields = sym (ap (take n) (drop-drop 4 at octets)) in
-    let len : length fields ≡ n = omega (arith, w.within, length-take n (drop 4 rest), length-drop 4 rest) in (
-      s.all,
-      rest,
-      s.at_is,
-      record {
-        whole = record { text = s.text; records = s.records };
-        are_read = s.are_read;
-        unbuilt = (fields, drop n (drop 4 rest), w.text, omega (arith, len, w.some), omega (arith, len, w.short), subst AreUnbuilt its u);
-      },
-    )
+    none one (subst (λ (k : Kept). IsRecord k one) (sym s.kept_is) is) (list_once fields (fields_of one) behind after_it (omega (arith, short)) (omega (arith, is.short)) (sym w.text ∙ e)).0 in
+    inr (s.all, rest, s.at_is, record { whole = whole; no_prefix = λ cut. list_no_prefix fields behind short (subst IsCutShort w.text cut); no_record = no_record })
 
 pub told_fault : (told : Option (List ℕ)) (at n : ℕ) (first store : StoreState) (fault : OpenFault) → IsSoFar told at first store → IfSome told (λ octets. IsWhole n (drop at octets))
     → IsFieldsFault told at n store fault → IfSome told (λ octets. IsReadingFault octets fault)
 told_fault None at n first store fault s w f = tt
 told_fault (Some octets) at n first store faults.Keeper s w f = tt
 told_fault (Some octets) at n first store (faults.BadJournal place) s w f = subst (λ (p : ℕ). IsReadingFault octets (faults.BadJournal p)) (sym f.0) (bad_fields octets at n first store s w f.1)
-told_fault (Some octets) at n first store (faults.NotBuilt place) s w f = subst (λ (p : ℕ). IsReadingFault octets (faults.NotBuilt p)) (sym f.0) (unbuilt_fields octets at n first store s w f.1)
 told_fault (Some octets) at n first store faults.Memory s w f = tt
 
 -- ---- after the repair

@@ -1,12 +1,13 @@
 -- Texts put last, one after the other.
-use Rattle.std.proofs.Common.{◌≡◌, ℕ, ◌+◌, ◌<◌, ◌≤◌, List, [], ◌∷◌, ◌++◌, length, subst, min, take, drop, get_or, Result, Ok, Err, arith, sym, ap, ◌∙◌, append_assoc, append-nil}
+use Rattle.std.proofs.Common.{◌≡◌, ℕ, ◌+◌, ◌<◌, ◌≤◌, List, [], ◌∷◌, ◌++◌, length, subst, min, take, drop, get_or, Result, Ok, Err, arith, sym, ap, ◌∙◌, append_assoc, append-nil, length-append}
 use Rattle.std.specs.List.{flat_map}
 use Rattle.std.proofs.Math.Seq.{take-append-add, take-append_seam}
 use Rattle.std.proofs.lemmas.Grind.{flat_map-append}
 use Rattle.std.proofs.lemmas.List.Folds.{length-flat_map-take}
 use Rattle.std.proofs.lemmas.List.{take-append-le, take_min, take_more, take-append-drop}
 use Rattle.mail_wire.specs.declared.values.Memory.{Memory}
-use Rattle.mail_store.specs.Spelling.{number, octet_list}
+use Rattle.mail_store.specs.Changing.{copy_for}
+use Rattle.mail_store.specs.Spelling.{number, octet_list, fields_of}
 use Rattle.mail_store.specs.Writing.{PutsText}
 
 -- a first part of the text was put last
@@ -63,3 +64,7 @@ next_within lists list i within is =
 -- a waiting message: what stands before its addresses, the addresses and what follows them
 pub queue_text : (path : List ℕ) (count : ℕ) (rest : List ℕ) → (7 ∷ (octet_list path ++ number count)) ++ rest ≡ 7 ∷ (octet_list path ++ (number count ++ rest))
 queue_text path count rest = ap (λ l. 7 ∷ l) (append_assoc (octet_list path) (number count) rest)
+
+-- how many octets the fields of a copy have
+pub copy_len : (folder : ℕ) (date octets : List ℕ) → 14 + length date + length octets ≡ length (fields_of (copy_for date octets folder))
+copy_len folder date octets = omega (arith, length-append date (octet_list octets))

@@ -1,38 +1,41 @@
--- The addresses and domains that a record may have, and what makes two of them the same: so far the simple ones alone,
--- whose text is their normal form.
-use Rattle.std.specs.Prelude.{◌≡◌, ℕ, ◌<◌, ◌≤◌, List, ◌∷◌, ◌++◌, length, Bool, true, ◌&&◌, ◌||◌, nat_le}
-use Rattle.std.specs.List.{AllByRecursion, list_all, join_with_byte}
-use Rattle.std.specs.Str.{bytes_eq}
+-- The addresses and domains that a record may have, and what makes two of them the same (RFC 6532, 3.2; UTS #46; Unicode, 3.13).
+use Rattle.std.specs.Prelude.{◌≡◌, ℕ, List, Bool, ◌&&◌, Option, Some, option_and_then}
+use Rattle.std.specs.Str.{bytes_eq, chars}
+use Rattle.caseless.specs.Caseless.{canonical_key}
+use Rattle.ace_domains.specs.Domains.{normal_form, compared_form}
+use Rattle.address_lists.specs.declared.Address.{Address}
+use Rattle.address_lists.specs.Paths.{HasPath, ReadsPaths, in_angles}
 
--- a letter in lower case, or a digit
-unfoldable pub is_run_octet : ℕ → Bool
-is_run_octet x = (nat_le 97 x && nat_le x 122) || (nat_le 48 x && nat_le x 57)
+-- in angle brackets it is the path of this address
+abbrev pub IsTextOf : List ℕ → Address → Type 0
+IsTextOf text address = HasPath (in_angles text) (Some address)
 
--- one to 63 such octets
-pub record IsRun (run : List ℕ) : Type 0 where
-  pub some : 0 < length run
-  pub short : length run ≤ 63
-  pub octets : list_all is_run_octet run ≡ true
+-- it is the text of an address
+abbrev pub IsAddressText : List ℕ → Type 0
+IsAddressText text = (address : Address) × IsTextOf text address
 
--- one or more runs with a dot between each two
-pub record AreRuns (text : List ℕ) : Type 0 where
-  pub runs : List (List ℕ)
-  pub some : 0 < length runs
-  pub each : AllByRecursion IsRun runs
-  pub joined : text ≡ join_with_byte 46 runs
-
--- runs of at most 253 octets together
+-- it is a normal form, which is its own
 abbrev pub IsDomainText : List ℕ → Type 0
-IsDomainText text = AreRuns text × (length text ≤ 253)
+IsDomainText name = normal_form name ≡ Some name
 
--- a text like a domain's, `@`, and a domain
-pub record IsAddressText (text : List ℕ) : Type 0 where
-  pub local : List ℕ
-  pub domain : List ℕ
-  pub spelled : text ≡ local ++ 64 ∷ domain
-  pub local_is : IsDomainText local
-  pub domain_is : IsDomainText domain
+-- local parts are the same by canonical caseless matching (Unicode, 3.13, D145)
+abbrev pub is_same_local : List ℕ → List ℕ → Bool
+is_same_local a b = bytes_eq (canonical_key (chars a)) (canonical_key (chars b))
 
--- the name names the address
-abbrev pub is_same_address : List ℕ → List ℕ → Bool
-is_same_address name address = bytes_eq address name
+-- domains are the same by their normal forms
+abbrev pub is_same_domain : List ℕ → List ℕ → Bool
+is_same_domain a b = bytes_eq (compared_form a) (compared_form b)
+
+-- the addresses name one mailbox
+abbrev pub is_same_mailbox : Address → Address → Bool
+is_same_mailbox a b = is_same_local a.local b.local && is_same_domain a.domain b.domain
+
+-- ---- what a text says
+
+-- the address of a text, by a function that reads paths
+abbrev pub address_of : (List ℕ → Option (Option Address)) → List ℕ → Option Address
+address_of path_of text = option_and_then (λ answer. answer) (path_of (in_angles text))
+
+-- whatever function reads paths
+abbrev pub WithPaths : ((List ℕ → Option (Option Address)) → Type 0) → Type 0
+WithPaths P = (path_of : List ℕ → Option (Option Address)) → ReadsPaths path_of → P path_of

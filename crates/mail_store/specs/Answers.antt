@@ -1,6 +1,5 @@
 -- What opening a store answers, and what the keeper has after it.
 use Rattle.std.specs.Prelude.{◌≡◌, ◌⊎◌, ℕ, List, Option, Some, None}
-use Rattle.std.specs.List.{AllByRecursion}
 use Rattle.mail_wire.specs.declared.outside.Failed.{Failed}
 use Rattle.mail_wire.specs.declared.outside.Failed.TheVariants as outcomes
 use Rattle.mail_store.specs.declared.opening.OpenFault.{OpenFault}
@@ -10,7 +9,6 @@ use Rattle.mail_store.specs.Kept.{Kept, nothing, store_of}
 use Rattle.mail_store.specs.Records.{AreRecords}
 use Rattle.mail_store.specs.Spelling.{journal}
 use Rattle.mail_store.specs.Opening.{HasRecords, IsBadAt}
-use Rattle.mail_store.specs.Unbuilt.{IsReadKind, IsUnbuiltAt}
 
 -- the fault that a refused call of a keeper is
 abbrev pub open_fault : Failed → OpenFault
@@ -27,15 +25,13 @@ pub record IsFold (kept : Kept) : Type 0 where
 pub record OpensTo (old : List ℕ) (new : Option (List ℕ)) (kept : Kept) : Type 0 where
   pub all : List Record
   pub had : HasRecords old all
-  pub are_read : AllByRecursion IsReadKind all
   pub kept_is : kept ≡ store_of all
   pub holds : new ≡ Some (journal all)
 
--- a bad journal is bad there, and what isn't built stands there first; the octets are as before
+-- a bad journal is bad there, and the octets are as before
 abbrev pub IsJournalFault : List ℕ → Option (List ℕ) → OpenFault → Type 0
 IsJournalFault old new faults.Keeper = Unit {0}
-IsJournalFault old new (faults.BadJournal at) = IsBadAt old at × ((place : ℕ) → ¬ IsUnbuiltAt old place) × (new ≡ Some old)
-IsJournalFault old new (faults.NotBuilt at) = IsUnbuiltAt old at × (new ≡ Some old)
+IsJournalFault old new (faults.BadJournal at) = IsBadAt old at × (new ≡ Some old)
 IsJournalFault old new faults.Memory = Unit {0}
 
 -- the octets are as before, or have the same whole records

@@ -1,5 +1,7 @@
 -- What a store keeps, as the fold of a journal's records. Things are named by their numbers in order of their records.
-use Rattle.std.specs.Prelude.{ℕ, zero, suc, ◌+◌, List, [], ◌∷◌, ◌++◌, length, map, count_by, codes, Bool, true, false, Option, Some, None, ◌==◌, if◌then◌else◌, slice_get, slice_index_or}
+use Rattle.std.specs.Prelude.{ℕ, zero, suc, ◌+◌, List, [], ◌∷◌, ◌++◌, length, map, count_by, codes, Bool, true, false, Option, Some, None, option_and_then, ◌==◌, if◌then◌else◌, slice_get, slice_index_or}
+use Rattle.std.specs.List.{list_any}
+use Rattle.std.specs.Option.{option_map_or}
 use Rattle.std.specs.Str.{bytes_eq}
 use Rattle.mail_store.specs.declared.records.Record.{Record}
 use Rattle.mail_store.specs.declared.records.Record.TheVariants as records
@@ -9,7 +11,8 @@ use Rattle.mail_store.specs.declared.kept.Message.{Message}
 use Rattle.mail_store.specs.declared.kept.Recipient.{Recipient}
 use Rattle.mail_store.specs.declared.kept.Entry.{Entry}
 use Rattle.mail_store.specs.declared.kept.Listed.{Listed}
-use Rattle.mail_store.specs.Addresses.{is_same_address}
+use Rattle.address_lists.specs.declared.Address.{Address}
+use Rattle.mail_store.specs.Addresses.{is_same_mailbox, is_same_domain, address_of}
 
 pub record Kept : Type 0 where
   pub accounts : List Account
@@ -105,10 +108,22 @@ listed_from folder at uid (message ∷ messages) =
 abbrev pub listed : Kept → ℕ → List Listed
 listed kept folder = listed_from folder 0 1 kept.messages
 
--- the first account of this name, the first of the list having this number
-abbrev pub first_account : List ℕ → ℕ → List Account → Option ℕ
-first_account name at [] = None
-first_account name at (account ∷ accounts) = if is_same_address name account.address then Some at else first_account name (at + 1) accounts
+-- the account's address names the same mailbox; `path_of` reads paths
+abbrev pub is_account_of : (List ℕ → Option (Option Address)) → Address → Account → Bool
+is_account_of path_of address account = option_map_or (λ (own : Address). is_same_mailbox own address) (address_of path_of account.address) false
+
+-- the first account of this address, the first of the list having this number
+abbrev pub first_account : (List ℕ → Option (Option Address)) → Address → ℕ → List Account → Option ℕ
+first_account path_of address at [] = None
+first_account path_of address at (account ∷ accounts) =
+    if is_account_of path_of address account then Some at else first_account path_of address (at + 1) accounts
+
+abbrev pub find_account : (List ℕ → Option (Option Address)) → Kept → Address → Option ℕ
+find_account path_of kept address = first_account path_of address 0 kept.accounts
+
+-- the domain is one of the store's
+abbrev pub is_local : Kept → List ℕ → Bool
+is_local kept domain = list_any (λ name. is_same_domain name domain) kept.domains
 
 abbrev pub has_password : Option Account → List ℕ → Bool
 has_password None password = false
@@ -119,9 +134,9 @@ abbrev pub admitted : Kept → Option ℕ → List ℕ → Option ℕ
 admitted kept None password = None
 admitted kept (Some account) password = if has_password (slice_get kept.accounts account) password then Some account else None
 
--- the first account of this name, where the password is its own
-abbrev pub logged_in : Kept → List ℕ → List ℕ → Option ℕ
-logged_in kept name password = admitted kept (first_account name 0 kept.accounts) password
+-- the first account whose address the name is, where the password is its own
+abbrev pub logged_in : (List ℕ → Option (Option Address)) → Kept → List ℕ → List ℕ → Option ℕ
+logged_in path_of kept name password = admitted kept (option_and_then (find_account path_of kept) (address_of path_of name)) password
 
 -- the first domain, or else `localhost`
 abbrev pub name_of : Kept → List ℕ

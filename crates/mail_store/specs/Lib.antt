@@ -6,7 +6,6 @@ pub mod Reading
 pub mod Kept
 pub mod Records
 pub mod Opening
-pub mod Unbuilt
 pub mod Answers
 pub mod StoreState
 pub mod Adding
@@ -14,3 +13,6 @@ pub mod Names
 pub mod Store
 pub mod Replaying
 pub mod Writing
+pub mod Chains
+pub mod Changing
+pub mod Delivering

@@ -1,6 +1,5 @@
 -- Words of the private calls that go over a journal.
 use Rattle.std.specs.Prelude.{◌≡◌, ◌≢◌, ◌⊎◌, ℕ, ◌+◌, ◌<◌, ◌≤◌, List, [], ◌++◌, length, take, drop, Option, Some, None, IfSome, IsTrue, ◌==◌, if◌then◌else◌}
-use Rattle.std.specs.List.{AllByRecursion}
 use Rattle.mail_wire.specs.KeeperTelling.{KeeperTelling}
 use Rattle.mail_store.specs.declared.limits.TheConstants.{RECORD_MAX}
 use Rattle.mail_store.specs.declared.frames.Frame.{Frame}
@@ -16,7 +15,6 @@ use Rattle.mail_store.specs.Opening.{IsCutShort, IsBeginning, HasRecords, IsBadA
 use Rattle.mail_store.specs.Spelling.{octet_list, journal, first_octets}
 use Rattle.mail_store.specs.StoreState.{StoreState}
 use Rattle.mail_store.specs.Adding.{NotAdded}
-use Rattle.mail_store.specs.Unbuilt.{IsReadKind, AreUnbuilt, IsUnbuiltAt}
 
 -- a length within the limit and so many octets come first
 pub record IsWhole (n : ℕ) (octets : List ℕ) : Type 0 where
@@ -62,7 +60,6 @@ pub record Stays (before now : KeeperTelling) : Type 0 where
 abbrev pub IsOutside : OpenFault → Type 0
 IsOutside faults.Keeper = Unit {0}
 IsOutside (faults.BadJournal at) = ⊥
-IsOutside (faults.NotBuilt at) = ⊥
 IsOutside faults.Memory = Unit {0}
 
 -- the fields of a length that stands at a place
@@ -73,14 +70,12 @@ fields_at octets at n = take n (drop (at + 4) octets)
 abbrev pub IsFieldsFault : Option (List ℕ) → ℕ → ℕ → StoreState → OpenFault → Type 0
 IsFieldsFault told at n old faults.Keeper = Unit {0}
 IsFieldsFault told at n old (faults.BadJournal place) = (place ≡ at) × IfSome told (λ octets. NotAdded old (fields_at octets at n))
-IsFieldsFault told at n old (faults.NotBuilt place) = (place ≡ at) × IfSome told (λ octets. AreUnbuilt (fields_at octets at n))
 IsFieldsFault told at n old faults.Memory = Unit {0}
 
 -- the records so far, and the octets that are left, where they are told
 pub record IsSoFar (told : Option (List ℕ)) (at : ℕ) (first store : StoreState) : Type 0 where
   pub all : List Record
   pub records : AreRecords nothing all
-  pub are_read : AllByRecursion IsReadKind all
   pub kept_is : store.kept ≡ store_of all
   pub at_is : at ≡ length (journal all)
   pub text : IfSome told (λ octets. octets ≡ journal all ++ drop at octets)
@@ -103,17 +98,15 @@ pub record EndsAt (octets : List ℕ) (end : ℕ) (kept : Kept) : Type 0 where
   pub all : List Record
   pub had : HasRecords octets all
   pub records : AreRecords nothing all
-  pub are_read : AllByRecursion IsReadKind all
   pub kept_is : kept ≡ store_of all
   pub text : repaired end octets ≡ journal all
   pub left : HasRecords (take end octets) all
   pub begun : end ≡ 0 → all ≡ []
 
--- a bad journal is bad at that place, and what isn't built stands at that place first
+-- a bad journal is bad at that place
 abbrev pub IsReadingFault : List ℕ → OpenFault → Type 0
 IsReadingFault octets faults.Keeper = Unit {0}
-IsReadingFault octets (faults.BadJournal at) = IsBadAt octets at × ((place : ℕ) → ¬ IsUnbuiltAt octets place)
-IsReadingFault octets (faults.NotBuilt at) = IsUnbuiltAt octets at
+IsReadingFault octets (faults.BadJournal at) = IsBadAt octets at
 IsReadingFault octets faults.Memory = Unit {0}
 
 -- nothing was changed, or what is behind the records was cut, or a prefix of an empty journal was put there

@@ -1,69 +1,80 @@
-//! The texts of addresses and domains: so far the simple ones alone.
-ghost use Rattle.std.specs.Prelude.{◌≡◌, ◌↔◌, ◌∷◌, ◌++◌, true, not, ◌==◌, IsTrue, IfSome, IfNone};
-ghost use Rattle.std.specs.List.{list_all};
-ghost use Rattle.mail_store.specs.Addresses.{is_run_octet, IsRun, AreRuns, IsDomainText, IsAddressText};
+//! The texts of addresses and domains, and what mailboxes and domains are known by.
+ghost use Rattle.std.specs.Prelude.{◌≡◌, ◌≢◌, ◌↔◌, IfOk, IfSome, IfNone, IsTrue, IsUtf8, Some, encode_utf8_all, chars};
+ghost use Rattle.caseless.specs.Caseless.{canonical_key};
+ghost use Rattle.ace_domains.specs.Domains.{compared_form};
+ghost use Rattle.address_lists.specs.Paths.{ComesInPath};
+ghost use Rattle.address_lists.specs.declared.Address.{Address as AddressValue};
+ghost use Rattle.mail_store.specs.Addresses.{IsTextOf, IsDomainText};
+ghost use Rattle.mail_store.specs.Names.{mailbox_key};
 
-#[tactic(auto, unfolding(crate::specs::Addresses::is_run_octet))]
-fn is_run_octet(octet: u8) -> bool
-    ensures { result ≡ is_run_octet octet }
-{
-    octet.is_ascii_lowercase() || octet.is_ascii_digit()
-}
+use ace_domains::normal;
+use address_lists::{Address, AddressFault, read_path};
+use caseless::default_case_fold_str;
+use mail_wire::values::{Memory, Octets};
+use std::alloc::Global;
+use unicode_normalization::to_nfd;
 
-fn are_run_octets(text: &[u8]) -> bool
-    ensures { result ≡ list_all is_run_octet text.now }
+/// The address of a text, or none where it is the text of no address.
+pub fn read_text(alloc: Global, text: &[u8]) -> Result<Option<Address>, Memory>
+    ensures some { IfOk result (λ found. IfSome found (IsTextOf text.now)) }
+    ensures none { IfOk result (λ found. IfNone found ((address : AddressValue) → ¬ IsTextOf text.now address)) }
 {
-    text.iter().all(|octet| is_run_octet(*octet))
-}
-
-fn is_run(text: &[u8]) -> bool
-    ensures { IsTrue result ↔ IsRun text.now }
-{
-    !text.is_empty() && text.len() <= 63 && are_run_octets(text)
-}
-
-// What stands before and behind the first octet of this kind.
-fn split_at_first(text: &[u8], octet: u8) -> Option<(&[u8], &[u8])>
-    ensures parts { IfSome result (λ parts. text.now ≡ parts.0.now ++ octet ∷ parts.1.now) }
-    ensures first { IfSome result (λ parts. list_all (λ x. not (x == octet)) parts.0.now ≡ true) }
-    ensures none { IfNone result (list_all (λ x. not (x == octet)) text.now ≡ true) }
-{
-    let mut at = 0;
-    while at < text.len() {
-        if text[at] == octet {
-            return Some((&text[..at], &text[at + 1..]));
-        }
-        at += 1;
+    let mut path = Octets::from_slice(alloc, b"<")?;
+    path.push_slice(text)?;
+    path.push(b'>')?;
+    match read_path(alloc, path.as_slice()) {
+        Ok(found) => Ok(found),
+        Err(AddressFault::Malformed) => Ok(None),
+        Err(AddressFault::Memory) => Err(Memory),
     }
-    None
 }
 
-fn are_runs(text: &[u8]) -> bool
-    ensures { IsTrue result ↔ AreRuns text.now }
+/// Whether the text is a domain's normal form.
+pub fn is_domain_text(alloc: Global, text: &[u8]) -> Result<bool, Memory>
+    ensures { IfOk result (λ is. IsTrue is ↔ IsDomainText text.now) }
 {
-    let mut rest = text;
-    while let Some((front, behind)) = split_at_first(rest, b'.') {
-        if !is_run(front) {
-            return false;
-        }
-        rest = behind;
+    let Ok(domain) = std::str::from_utf8(text) else {
+        return Ok(false);
+    };
+    match normal(alloc, domain)? {
+        Some(form) => Ok(form.as_slice() == text),
+        None => Ok(false),
     }
-    is_run(rest)
 }
 
-/// Whether the text is that of a domain.
-pub fn is_domain_text(text: &[u8]) -> bool
-    ensures { IsTrue result ↔ IsDomainText text.now }
+/// What a domain is known by: its normal form, or itself where it has none.
+pub fn domain_key(alloc: Global, domain: &str) -> Result<Octets, Memory>
+    ensures { IfOk result (λ key. key ≡ compared_form domain.now) }
 {
-    text.len() <= 253 && are_runs(text)
-}
-
-/// Whether the text is that of an address.
-pub fn is_address_text(text: &[u8]) -> bool
-    ensures { IsTrue result ↔ IsAddressText text.now }
-{
-    match split_at_first(text, b'@') {
-        Some((local, domain)) => is_domain_text(local) && is_domain_text(domain),
-        None => false,
+    match normal(alloc, domain)? {
+        Some(form) => Ok(form),
+        None => Octets::from_slice(alloc, domain.as_bytes()),
     }
+}
+
+// What a local part is known by.
+fn local_key(alloc: Global, local: &str) -> Result<Octets, Memory>
+    ensures { IfOk result (λ key. key ≡ encode_utf8_all (canonical_key (chars local.now))) }
+{
+    let decomposed = to_nfd(alloc, local)?;
+    let folded = default_case_fold_str(alloc, decomposed.as_str())?;
+    let key = to_nfd(alloc, folded.as_str())?;
+    Ok(Octets::from_vec(key.into_bytes()))
+}
+
+/// What a mailbox is known by.
+pub fn key_of(alloc: Global, address: &Address) -> Result<Octets, Memory>
+    requires { ComesInPath address.now }
+    ensures { IfOk result (λ key. key ≡ mailbox_key address.now) }
+{
+    let Ok(local) = std::str::from_utf8(address.local.as_slice()) else {
+        unreachable!();
+    };
+    let Ok(domain) = std::str::from_utf8(address.domain.as_slice()) else {
+        unreachable!();
+    };
+    let mut key = local_key(alloc, local)?;
+    key.push(255)?;
+    key.push_slice(domain_key(alloc, domain)?.as_slice())?;
+    Ok(key)
 }

@@ -1,9 +1,11 @@
 //! Whether a record is in order, but for its addresses, its domain and its message's octets.
-ghost use Rattle.std.specs.Prelude.{◌≡◌, ◌↔◌, ◌≤◌, ◌<◌, IsTrue, length};
+ghost use Rattle.std.specs.Prelude.{◌≡◌, ◌↔◌, ◌≤◌, ◌<◌, ◌+◌, IsTrue, length, slice_get};
+ghost use Rattle.mail_store.specs.Changing.{are_too_many};
 ghost use Rattle.mail_store.specs.Grammar.{IsDate};
-ghost use Rattle.mail_store.specs.Records.{HasRoom};
+ghost use Rattle.mail_store.specs.Records.{HasRoom, IsLive, IsUnsettled};
 
 use crate::grammar::is_date;
+use crate::kept::{Entry, Message};
 use crate::limits::{TEXT_MAX, THINGS_MAX};
 
 /// Whether one more thing of a kind passes no limit.
@@ -11,6 +13,14 @@ pub fn has_room(count: usize) -> bool
     ensures { IsTrue result ↔ HasRoom count }
 {
     count < THINGS_MAX
+}
+
+/// Whether so many more things of a kind pass its limit.
+pub fn are_too_many(count: usize, more: usize) -> bool
+    requires { count ≤ THINGS_MAX }
+    ensures { result ≡ are_too_many count more }
+{
+    more > THINGS_MAX - count
 }
 
 /// Whether an account's texts are within their limits, and there is room for it and its folder.
@@ -28,4 +38,26 @@ pub fn message_fits(folder: u32, flags: u8, date: &[u8], folders: usize, message
     ensures { IsTrue result ↔ ((folder < folders) × (flags < 32) × IsDate date.now × HasRoom messages) }
 {
     (folder as usize) < folders && flags < 32 && is_date(date) && has_room(messages)
+}
+
+/// Whether the message is there and isn't expunged.
+pub fn is_live(messages: &[Message], message: u32) -> bool
+    ensures value { IsTrue result ↔ IsLive (slice_get messages.now message) }
+    ensures there { IsTrue result → message < length messages.now }
+{
+    match messages.get(message as usize) {
+        Some(message) => message.live,
+        None => false,
+    }
+}
+
+/// Whether the entry has this recipient, who isn't settled.
+pub fn is_unsettled(entries: &[Entry], entry: u32, index: u32) -> bool
+    ensures value { IsTrue result ↔ IsUnsettled (slice_get entries.now entry) index }
+    ensures there { IsTrue result → entry < length entries.now }
+{
+    match entries.get(entry as usize) {
+        Some(entry) => entry.recipients.is_waiting(index),
+        None => false,
+    }
 }

@@ -1,10 +1,14 @@
-//! The date of a message record.
-ghost use Rattle.std.specs.Prelude.{◌≡◌, ◌↔◌, IsTrue};
-ghost use Rattle.std.specs.List.{list_any};
+//! The date of a message record, and the name of a folder.
+ghost use Rattle.std.specs.Prelude.{◌≡◌, ◌↔◌, IfOk, IsTrue, chars};
+ghost use Rattle.std.specs.List.{All, list_any};
 ghost use Rattle.mail_wire.specs.Octets.{same_name};
-ghost use Rattle.mail_store.specs.Grammar.{fits_letter, IsDate, months};
+ghost use Rattle.mail_store.specs.Grammar.{fits_letter, IsDate, IsFolderName, IsNameChar, months};
 
+use crate::limits::NAME_MAX;
 use mail_wire::text::is_same_name;
+use mail_wire::values::Memory;
+use std::alloc::Global;
+use unicode_normalization::is_nfc;
 
 // A digit stands for any digit, `d` for a digit or a space, `+` for a sign, `a` for any octet.
 const SHAPE: [u8; 26] = *b"d9-aaa-9999 99:99:99 +9999";
@@ -46,4 +50,30 @@ pub fn is_date(date: &[u8]) -> bool
         }
     }
     true
+}
+
+fn is_name_char(c: char) -> bool
+    ensures { IsTrue result ↔ IsNameChar c }
+{
+    !c.is_control() && c != '*' && c != '%'
+}
+
+// A folder's name has no control, no `*` and no `%`.
+fn are_name_chars(name: &str) -> bool
+    ensures { IsTrue result ↔ All IsNameChar (chars name.now) }
+{
+    name.chars().all(|c| is_name_char(c))
+}
+
+/// Whether the text is the name of a folder.
+pub fn is_folder_name(alloc: Global, text: &[u8]) -> Result<bool, Memory>
+    ensures { IfOk result (λ is. IsTrue is ↔ IsFolderName text.now) }
+{
+    if text.is_empty() || text.len() > NAME_MAX {
+        return Ok(false);
+    }
+    let Ok(name) = std::str::from_utf8(text) else {
+        return Ok(false);
+    };
+    Ok(are_name_chars(name) && is_nfc(alloc, name)?)
 }

@@ -1,6 +1,9 @@
 //! What the store keeps.
-ghost use Rattle.std.specs.Prelude.{◌≡◌, [], ◌∷◌, ◌++◌, OnOk, OnErr, length};
+ghost use Rattle.std.specs.Prelude.{◌≡◌, ◌<◌, ◌↔◌, [], ◌∷◌, ◌++◌, IfOk, OnOk, OnErr, IsTrue, length, map, slice_get};
+ghost use Rattle.mail_store.specs.Kept.{waiting, change_at, settled};
+ghost use Rattle.mail_store.specs.Records.{IsWaiting};
 
+use crate::records::Texts;
 use mail_wire::values::{Memory, Octets};
 use std::alloc::Global;
 use std::marker::Model;
@@ -50,24 +53,44 @@ impl Model for Recipients {
 }
 
 impl Recipients {
-    /// The recipients of a `Vec`, which is taken over as it is.
-    pub fn from_vec(recipients: Vec<Recipient>) -> Self
-        ensures { result ≡ recipients.items }
+    /// Recipients at these addresses, each of whom waits.
+    pub fn waiting(alloc: Global, addresses: Texts) -> Result<Self, Memory>
+        ensures { IfOk result (λ made. made ≡ map waiting addresses) }
     {
-        Recipients { recipients }
-    }
-
-    /// Gives the `Vec` back.
-    pub fn into_vec(self) -> Vec<Recipient>
-        ensures { result.items ≡ self }
-    {
-        self.recipients
+        let mut recipients = Vec::new(alloc);
+        for address in addresses.into_vec() {
+            recipients.push(Recipient {
+                address,
+                waits: true,
+            })?;
+        }
+        Ok(Recipients { recipients })
     }
 
     pub fn as_slice(&self) -> &[Recipient]
         ensures { result.now ≡ self.now }
     {
         &self.recipients
+    }
+
+    /// Whether there is such a recipient, who waits.
+    pub fn is_waiting(&self, index: u32) -> bool
+        ensures value { IsTrue result ↔ IsWaiting (slice_get self.now index) }
+        ensures there { IsTrue result → index < length self.now }
+    {
+        match self.recipients.get(index as usize) {
+            Some(recipient) => recipient.waits,
+            None => false,
+        }
+    }
+
+    /// The recipient waits no longer.
+    pub fn settle(&mut self, index: u32)
+        requires { index < length self.old }
+        ensures { self.new ≡ change_at settled self.old index }
+    {
+        let recipient = &mut self.recipients[index as usize];
+        recipient.waits = false;
     }
 }
 

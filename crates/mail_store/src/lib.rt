@@ -2,7 +2,12 @@
 #![tactic(auto)]
 
 mod addresses;
+#[cfg(test)]
+mod change_tests;
+pub mod changing;
 mod checks;
+pub mod contents;
+pub mod delivery;
 mod frames;
 mod grammar;
 pub mod kept;

@@ -1,5 +1,5 @@
 //! The first number of each name.
-ghost use Rattle.std.specs.Prelude.{◌≡◌, ℕ, List, OnOk, OnErr};
+ghost use Rattle.std.specs.Prelude.{◌≡◌, ℕ, List, OnOk, OnErr, None};
 ghost use Rattle.mail_store.specs.Names.{number_of, PutsName};
 
 use mail_wire::values::Memory;
@@ -22,6 +22,14 @@ pub fn put_first(
     let key = Vec::from_slice(alloc, name)?;
     numbers.insert(key, number)?;
     Ok(())
+}
+
+/// Takes the number at a name away.
+pub fn take_back(numbers: &mut BTreeMap<Vec<u8>, u32>, name: &[u8])
+    ensures gone { number_of numbers.new name.now ≡ None }
+    ensures others { (q : List ℕ) → ¬ (q ≡ name.now) → number_of numbers.new q ≡ number_of numbers.old q }
+{
+    let _number = numbers.remove(name);
 }
 
 /// The number at a name.

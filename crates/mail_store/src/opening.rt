@@ -22,8 +22,6 @@ pub enum OpenFault {
     Keeper,
     /// The octets from here on are no record and no prefix of one.
     BadJournal { at: u64 },
-    /// The record that stands here can't be read yet.
-    NotBuilt { at: u64 },
     /// Want of memory.
     Memory,
 }
@@ -87,7 +85,6 @@ fn add_at<J: Keeper>(
         Err(fault) => match fault {
             ReadFault::Memory => Err(OpenFault::Memory),
             ReadFault::NoRecord => Err(OpenFault::BadJournal { at }),
-            ReadFault::NotBuilt => Err(OpenFault::NotBuilt { at }),
         },
     }
 }
@@ -183,7 +180,7 @@ impl Store {
         ensures message_max { IfOk result (λ store. store.message_max ≡ message_max) }
         ensures failed { IfOk result (λ store. store.failed ≡ false) }
 
-        // A bad journal is bad there, what isn't built stands there, and a fault of the keeper has its cause.
+        // A bad journal is bad there, and a fault of the keeper has its cause.
         ensures fault { IfErr result (λ fault. IfSome (J.tells keeper.old).octets (λ old. IsJournalFault old (J.tells keeper.new).octets fault)) }
         ensures cause { HasKeeperCause (J.tells keeper.old) (J.tells keeper.new) result OpenFault.Keeper }
 

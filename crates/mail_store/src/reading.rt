@@ -1,11 +1,9 @@
 //! Records read from octets.
 ghost use Rattle.std.specs.Prelude.{◌≡◌};
 ghost use Rattle.mail_store.specs.declared.reading.ReadFault.TheVariants.{Memory};
-ghost use Rattle.mail_store.specs.Reading.{Gives, number_at, octet_at, list_at, ended, account_at, domain_at, message_at};
-ghost use Rattle.mail_store.specs.Adding.{Reads, ReadsKind};
-ghost use Rattle.mail_store.specs.Unbuilt.{is_later_kind};
+ghost use Rattle.mail_store.specs.Reading.{Gives, number_at, octet_at, list_at, lists_at, ended, account_at, domain_at, folder_at, message_at, flags_at, expunge_at, queue_at, settle_at, kind_at, record_at};
 
-use crate::records::Record;
+use crate::records::{Record, Texts};
 use mail_wire::values::{Memory as OutOfMemory, Octets};
 use std::alloc::{AllocError, AllocFailed, Global};
 
@@ -15,8 +13,6 @@ pub enum ReadFault {
     Memory,
     /// The octets are no record.
     NoRecord,
-    /// They are a record that isn't read yet.
-    NotBuilt,
 }
 
 impl From<AllocError> for ReadFault {
@@ -76,6 +72,20 @@ fn list_of(alloc: Global, octets: &[u8]) -> Result<(Octets, &[u8]), ReadFault>
     Ok((Octets::from_slice(alloc, list)?, rest))
 }
 
+// So many texts, one after the other.
+fn lists_of(alloc: Global, count: u32, octets: &[u8]) -> Result<(Texts, &[u8]), ReadFault>
+    ensures { Gives (λ x. (x.0, x.1.now)) result (lists_at count octets.now) }
+{
+    let mut texts = Vec::new(alloc);
+    let mut rest = octets;
+    for _ in 0..count {
+        let (text, others) = list_of(alloc, rest)?;
+        texts.push(text)?;
+        rest = others;
+    }
+    Ok((Texts::from_vec(texts), rest))
+}
+
 fn ended(whole: Record, rest: &[u8]) -> Result<Record, ReadFault>
     ensures { Gives (λ x. x) result (ended whole rest.now) }
 {
@@ -103,6 +113,15 @@ fn domain_of(alloc: Global, octets: &[u8]) -> Result<Record, ReadFault>
     ended(Record::Domain { name }, rest)
 }
 
+#[tactic(auto, unfolding(crate::specs::Reading::folder_at))]
+fn folder_of(alloc: Global, octets: &[u8]) -> Result<Record, ReadFault>
+    ensures { Gives (λ x. x) result (folder_at octets.now) }
+{
+    let (account, rest) = number_of(octets)?;
+    let (name, rest) = list_of(alloc, rest)?;
+    ended(Record::Folder { account, name }, rest)
+}
+
 #[tactic(auto, unfolding(crate::specs::Reading::message_at))]
 fn message_of(alloc: Global, octets: &[u8]) -> Result<Record, ReadFault>
     ensures { Gives (λ x. x) result (message_at octets.now) }
@@ -122,32 +141,71 @@ fn message_of(alloc: Global, octets: &[u8]) -> Result<Record, ReadFault>
     )
 }
 
-// Whether records of this kind aren't read yet.
-#[tactic(auto, unfolding(crate::specs::Unbuilt::is_later_kind))]
-fn is_later_kind(kind: u8) -> bool
-    ensures { result ≡ is_later_kind kind }
+#[tactic(auto, unfolding(crate::specs::Reading::flags_at))]
+fn flags_of(octets: &[u8]) -> Result<Record, ReadFault>
+    ensures { Gives (λ x. x) result (flags_at octets.now) }
 {
-    kind == 3 || (kind >= 5 && kind <= 8)
+    let (message, rest) = number_of(octets)?;
+    let (flags, rest) = octet_of(rest)?;
+    ended(Record::Flags { message, flags }, rest)
 }
 
-#[tactic(auto, using(crate::proofs::ReadingLemmas::no_kind))]
-fn kind_of(alloc: Global, kind: u8, octets: &[u8]) -> Result<Record, ReadFault>
-    ensures { ReadsKind result kind octets.now }
+#[tactic(auto, unfolding(crate::specs::Reading::expunge_at))]
+fn expunge_of(octets: &[u8]) -> Result<Record, ReadFault>
+    ensures { Gives (λ x. x) result (expunge_at octets.now) }
 {
-    if is_later_kind(kind) {
-        return Err(ReadFault::NotBuilt);
-    }
+    let (message, rest) = number_of(octets)?;
+    ended(Record::Expunge { message }, rest)
+}
+
+#[tactic(auto, unfolding(crate::specs::Reading::queue_at))]
+fn queue_of(alloc: Global, octets: &[u8]) -> Result<Record, ReadFault>
+    ensures { Gives (λ x. x) result (queue_at octets.now) }
+{
+    let (path, rest) = list_of(alloc, octets)?;
+    let (count, rest) = number_of(rest)?;
+    let (addresses, rest) = lists_of(alloc, count, rest)?;
+    let (octets, rest) = list_of(alloc, rest)?;
+    ended(
+        Record::Queue {
+            path,
+            addresses,
+            octets,
+        },
+        rest,
+    )
+}
+
+#[tactic(auto, unfolding(crate::specs::Reading::settle_at))]
+fn settle_of(octets: &[u8]) -> Result<Record, ReadFault>
+    ensures { Gives (λ x. x) result (settle_at octets.now) }
+{
+    let (entry, rest) = number_of(octets)?;
+    let (index, rest) = number_of(rest)?;
+    ended(Record::Settle { entry, index }, rest)
+}
+
+#[tactic(auto, unfolding(crate::specs::Reading::kind_at))]
+fn kind_of(alloc: Global, kind: u8, octets: &[u8]) -> Result<Record, ReadFault>
+    ensures { Gives (λ x. x) result (kind_at kind octets.now) }
+{
     match kind {
         1 => account_of(alloc, octets),
         2 => domain_of(alloc, octets),
+        3 => folder_of(alloc, octets),
         4 => message_of(alloc, octets),
+        5 => flags_of(octets),
+        6 => expunge_of(octets),
+        7 => queue_of(alloc, octets),
+        8 => settle_of(octets),
         _ => Err(ReadFault::NoRecord),
     }
 }
 
 /// The record that has these fields.
+#[tactic(auto, unfolding(crate::specs::Reading::record_at))]
 pub fn read(alloc: Global, fields: &[u8]) -> Result<Record, ReadFault>
-    ensures { Reads result fields.now }
+    ensures { Gives (λ x. x) result (record_at fields.now) }
 {
     let (kind, rest) = octet_of(fields)?;
     kind_of(alloc, kind, rest)

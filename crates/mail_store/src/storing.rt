@@ -1,19 +1,27 @@
 //! The store: what is kept, and the indexes beside it.
-ghost use Rattle.std.specs.Prelude.{◌≡◌, ◌+◌, ◌<◌, ◌∷◌, ◌++◌, [], length, IfOk, OnOk, OnErr, IfSome, false, set, slice_index_or, slice_get, Some, vec_len, vec_capacity, option_map, Bool, option_copied, IsUtf8};
+ghost use Rattle.std.specs.Prelude.{◌≡◌, ℕ, reverse, ◌⊎◌, ◌↔◌, ◌<◌, ◌≤◌, [], length, IfOk, IfSome, false, slice_get, Some, IsTrue, option_map, IsUtf8};
 ghost use Rattle.std.specs.List.{All};
-ghost use Rattle.std.specs.Str.{bytes_eq};
+ghost use Rattle.address_lists.specs.Paths.{ComesInPath};
+ghost use Rattle.mail_store.specs.declared.limits.TheConstants.{MESSAGE_MAX};
 ghost use Rattle.mail_store.specs.declared.records.Record.TheVariants as records;
 ghost use Rattle.mail_store.specs.Adding.{AddsRecord};
+ghost use Rattle.mail_store.specs.Addresses.{WithPaths};
+ghost use Rattle.mail_store.specs.Chains.{chain};
+ghost use Rattle.mail_store.specs.Kept.{nothing, change_at, with_flags, gone, without, inbox_of, uid_next, listed, listed_one, listed_from, numbers_in, logged_in, find_account, is_local, name_of, has_password};
+ghost use Rattle.mail_store.specs.Records.{IsAddress, IsUnsettled};
 ghost use Rattle.mail_store.specs.Stored.{IsStored};
-ghost use Rattle.mail_store.specs.Kept.{nothing, inbox_of, uid_next, listed, listed_one, logged_in, name_of, has_password};
 
-use crate::addresses::{is_address_text, is_domain_text};
-use crate::checks::{account_fits, has_room, message_fits};
-use crate::kept::{Account, Folder, Listed, Message, Numbers};
+use crate::addresses::{domain_key, is_domain_text, key_of, read_text};
+use crate::checks::{self, account_fits, are_too_many, has_room, message_fits};
+use crate::contents::{Content, EMPTY, push_reserved, put_message};
+use crate::grammar::is_folder_name;
+use crate::kept::{Account, Entry, Folder, Listed, Message, Recipients};
+use crate::limits::TEXT_MAX;
 use crate::names::{number_of, put_first};
 use crate::reading::ReadFault;
-use crate::records::Record;
+use crate::records::{Record, Texts};
 use crate::stored::judge;
+use address_lists::Address;
 use mail_wire::values::{Memory, Octets};
 use std::alloc::Global;
 use std::collections::BTreeMap;
@@ -22,19 +30,26 @@ use std::marker::Model;
 /// The store of a mail system.
 #[derive(Debug, Drop)]
 pub struct Store {
-    alloc: Global,
-    message_max: u32,
-    failed: bool,
-    accounts: Vec<Account>,
-    domains: Vec<Octets>,
-    folders: Vec<Folder>,
-    messages: Vec<Message>,
-    // each folder's messages, gone ones too
-    contents: Vec<Numbers>,
+    pub(crate) alloc: Global,
+    pub(crate) message_max: u32,
+    pub(crate) failed: bool,
+    pub(crate) accounts: Vec<Account>,
+    pub(crate) domains: Vec<Octets>,
+    pub(crate) folders: Vec<Folder>,
+    pub(crate) messages: Vec<Message>,
+    pub(crate) entries: Vec<Entry>,
+    // how many messages each folder ever had, and the last of them
+    pub(crate) contents: Vec<Content>,
+    // the message before each message in its folder
+    pub(crate) previous: Vec<Option<u32>>,
     // each account's first folder
-    inboxes: Vec<u32>,
-    // the first account of each name
-    names: BTreeMap<Vec<u8>, u32>,
+    pub(crate) inboxes: Vec<u32>,
+    // the first account of each mailbox
+    pub(crate) mailboxes: BTreeMap<Vec<u8>, u32>,
+    // the first number of each domain
+    pub(crate) locals: BTreeMap<Vec<u8>, u32>,
+    // how many recipients the queue ever had
+    pub(crate) recipients: usize,
 }
 
 impl Model for Store {
@@ -47,17 +62,6 @@ impl Model for Store {
     ghost view = { state_of };
 
     ghost invariant = { IsIndexed };
-}
-
-// Puts a number last in the list at a place.
-fn push_number(lists: &mut Vec<Numbers>, at: usize, number: u32) -> Result<(), Memory>
-    requires { at < length lists.old.items }
-    ensures ok { IfOk result (λ _. lists.new.items ≡ set lists.old.items at (slice_index_or lists.old.items at [] ++ number ∷ [])) }
-    ensures err { OnErr result (lists.new.items ≡ lists.old.items) }
-{
-    let list = &mut lists[at];
-    list.push(number)?;
-    Ok(())
 }
 
 // What is listed of a message.
@@ -81,14 +85,32 @@ fn listed_one(messages: &[Message], id: u32, uid: u32) -> Option<Listed>
     }
 }
 
-// Puts an item last, for which there is room.
-fn push_reserved<T: Drop>(items: &mut Vec<T>, item: T)
-    requires { vec_len items.old < vec_capacity items.old }
-    ensures { items.new.items ≡ items.old.items ++ item ∷ [] }
+// What is listed of a folder's messages, the last of them first.
+fn list_back(
+    alloc: Global,
+    messages: &[Message],
+    previous: &[Option<u32>],
+    content: Content,
+) -> Result<Vec<Listed>, Memory>
+    requires len { length previous.now ≡ length messages.now }
+    requires count { length (chain content.count previous.now content.last) ≡ content.count }
+    requires known { All (λ id. id < length messages.now) (chain content.count previous.now content.last) }
+    ensures listing { IfOk result (λ listing. (folder : ℕ) → chain content.count previous.now content.last ≡ reverse (numbers_in folder 0 messages.now)
+        → reverse listing.items ≡ listed_from folder 0 1 messages.now) }
+    ensures known { IfOk result (λ listing. All (λ one. one.id < length messages.now) listing.items) }
 {
-    if items.push(item).is_err() {
-        unreachable!();
+    let mut listing = Vec::new(alloc);
+    let mut place = content.last;
+    for back in 0..content.count {
+        let Some(id) = place else {
+            break;
+        };
+        if let Some(one) = listed_one(messages, id, content.count - back) {
+            listing.push(one)?;
+        }
+        place = previous[id as usize];
     }
+    Ok(listing)
 }
 
 // Whether there is such an account, and the password is its own.
@@ -112,9 +134,70 @@ fn domain_text(domain: &[u8]) -> &str
     std::str::from_utf8(domain).unwrap_or(LOCALHOST)
 }
 
+fn put_flags(messages: &mut Vec<Message>, at: usize, flags: u8)
+    requires { at < length messages.old.items }
+    ensures { messages.new.items ≡ change_at (with_flags flags) messages.old.items at }
+{
+    let message = &mut messages[at];
+    message.flags = flags;
+}
+
+/// The message is expunged.
+pub(crate) fn take_away(messages: &mut Vec<Message>, at: usize)
+    requires { at < length messages.old.items }
+    ensures { messages.new.items ≡ change_at gone messages.old.items at }
+{
+    let message = &mut messages[at];
+    message.live = false;
+}
+
+fn settle_at(entries: &mut Vec<Entry>, at: u32, index: u32)
+    requires { IsUnsettled (slice_get entries.old.items at) index }
+    ensures { entries.new.items ≡ change_at (without index) entries.old.items at }
+{
+    let entry = &mut entries[at as usize];
+    entry.recipients.settle(index);
+}
+
+// Whether the text is that of an address, and within its limit.
+fn is_address(alloc: Global, text: &[u8]) -> Result<bool, Memory>
+    ensures { IfOk result (λ is. IsTrue is ↔ IsAddress text.now) }
+{
+    if text.len() > TEXT_MAX {
+        return Ok(false);
+    }
+    match read_text(alloc, text)? {
+        Some(_) => Ok(true),
+        None => Ok(false),
+    }
+}
+
+// Whether each of the texts is that of an address, and within its limit.
+fn are_addresses(alloc: Global, texts: &[Octets]) -> Result<bool, Memory>
+    ensures { IfOk result (λ are. IsTrue are ↔ All IsAddress texts.now) }
+{
+    for text in texts {
+        if !is_address(alloc, text.as_slice())? {
+            return Ok(false);
+        }
+    }
+    Ok(true)
+}
+
+// Whether the text is that of a path: none, or that of an address.
+fn is_path_text(alloc: Global, text: &[u8]) -> Result<bool, Memory>
+    ensures { IfOk result (λ is. IsTrue is ↔ ((text.now ≡ []) ⊎ IsAddress text.now)) }
+{
+    if text.is_empty() {
+        return Ok(true);
+    }
+    is_address(alloc, text)
+}
+
 impl Store {
     /// A store of nothing.
     pub(crate) fn new(alloc: Global, message_max: u32) -> Self
+        requires { message_max ≤ MESSAGE_MAX }
         ensures kept { result.kept ≡ nothing }
         ensures message_max { result.message_max ≡ message_max }
         ensures failed { result.failed ≡ false }
@@ -127,9 +210,13 @@ impl Store {
             domains: Vec::new(alloc),
             folders: Vec::new(alloc),
             messages: Vec::new(alloc),
+            entries: Vec::new(alloc),
             contents: Vec::new(alloc),
+            previous: Vec::new(alloc),
             inboxes: Vec::new(alloc),
-            names: BTreeMap::new(alloc),
+            mailboxes: BTreeMap::new(alloc),
+            locals: BTreeMap::new(alloc),
+            recipients: 0,
         }
     }
 
@@ -137,14 +224,15 @@ impl Store {
     fn add_account_record(&mut self, address: Octets, password: Octets) -> Result<(), ReadFault>
         ensures { AddsRecord self.old self.new result (records.Account address password) }
     {
-        if !is_address_text(address.as_slice()) {
-            return Err(ReadFault::NotBuilt);
-        }
         let account = self.accounts.len();
         let folder = self.folders.len();
         if !account_fits(address.as_slice(), password.as_slice(), account, folder) {
             return Err(ReadFault::NoRecord);
         }
+        let Some(own) = read_text(self.alloc, address.as_slice())? else {
+            return Err(ReadFault::NoRecord);
+        };
+        let key = key_of(self.alloc, &own)?;
         let name = Octets::from_slice(self.alloc, b"INBOX")?;
         self.accounts.reserve(1)?;
         self.folders.reserve(1)?;
@@ -152,8 +240,8 @@ impl Store {
         self.inboxes.reserve(1)?;
         put_first(
             self.alloc,
-            &mut self.names,
-            address.as_slice(),
+            &mut self.mailboxes,
+            key.as_slice(),
             account as u32,
         )?;
         push_reserved(&mut self.accounts, Account { address, password });
@@ -164,7 +252,7 @@ impl Store {
                 name,
             },
         );
-        push_reserved(&mut self.contents, Numbers::new(self.alloc));
+        push_reserved(&mut self.contents, EMPTY);
         push_reserved(&mut self.inboxes, folder as u32);
         Ok(())
     }
@@ -173,13 +261,29 @@ impl Store {
     fn add_domain_record(&mut self, name: Octets) -> Result<(), ReadFault>
         ensures { AddsRecord self.old self.new result (records.Domain name) }
     {
-        if !is_domain_text(name.as_slice()) {
-            return Err(ReadFault::NotBuilt);
-        }
-        if !has_room(self.domains.len()) {
+        let number = self.domains.len();
+        if !has_room(number) || !is_domain_text(self.alloc, name.as_slice())? {
             return Err(ReadFault::NoRecord);
         }
-        self.domains.push(name)?;
+        self.domains.reserve(1)?;
+        put_first(self.alloc, &mut self.locals, name.as_slice(), number as u32)?;
+        push_reserved(&mut self.domains, name);
+        Ok(())
+    }
+
+    // The record of a folder is put last.
+    fn add_folder_record(&mut self, account: u32, name: Octets) -> Result<(), ReadFault>
+        ensures { AddsRecord self.old self.new result (records.Folder account name) }
+    {
+        if account as usize >= self.accounts.len()
+            || !has_room(self.folders.len())
+            || !is_folder_name(self.alloc, name.as_slice())?
+        {
+            return Err(ReadFault::NoRecord);
+        }
+        self.folders.reserve(1)?;
+        self.contents.push(EMPTY)?;
+        push_reserved(&mut self.folders, Folder { account, name });
         Ok(())
     }
 
@@ -199,17 +303,81 @@ impl Store {
             return Err(ReadFault::NoRecord);
         }
         self.messages.reserve(1)?;
-        push_number(&mut self.contents, folder as usize, count as u32)?;
-        push_reserved(
+        self.previous.reserve(1)?;
+        let message = Message {
+            folder,
+            flags,
+            live: true,
+            date,
+            octets,
+        };
+        put_message(
+            &mut self.contents,
+            &mut self.previous,
             &mut self.messages,
-            Message {
-                folder,
-                flags,
-                live: true,
-                date,
-                octets,
-            },
+            message,
         );
+        Ok(())
+    }
+
+    // The record of a message's flags is put last.
+    fn add_flags_record(&mut self, message: u32, flags: u8) -> Result<(), ReadFault>
+        ensures { AddsRecord self.old self.new result (records.Flags message flags) }
+    {
+        if flags >= 32 || !checks::is_live(&self.messages, message) {
+            return Err(ReadFault::NoRecord);
+        }
+        put_flags(&mut self.messages, message as usize, flags);
+        Ok(())
+    }
+
+    // The record that a message goes is put last.
+    fn add_expunge_record(&mut self, message: u32) -> Result<(), ReadFault>
+        ensures { AddsRecord self.old self.new result (records.Expunge message) }
+    {
+        if !checks::is_live(&self.messages, message) {
+            return Err(ReadFault::NoRecord);
+        }
+        take_away(&mut self.messages, message as usize);
+        Ok(())
+    }
+
+    // The record of a message that waits is put last.
+    fn add_queue_record(
+        &mut self,
+        path: Octets,
+        addresses: Texts,
+        octets: Octets,
+    ) -> Result<(), ReadFault>
+        ensures { AddsRecord self.old self.new result (records.Queue path addresses octets) }
+    {
+        judge(self.alloc, octets.as_slice())?;
+        let count = addresses.as_slice().len();
+        if !has_room(self.entries.len())
+            || are_too_many(self.recipients, count)
+            || !is_path_text(self.alloc, path.as_slice())?
+            || !are_addresses(self.alloc, addresses.as_slice())?
+        {
+            return Err(ReadFault::NoRecord);
+        }
+        let recipients = Recipients::waiting(self.alloc, addresses)?;
+        self.entries.push(Entry {
+            path,
+            recipients,
+            octets,
+        })?;
+        self.recipients += count;
+        Ok(())
+    }
+
+    // The record that a recipient is done with is put last.
+    fn add_settle_record(&mut self, entry: u32, index: u32) -> Result<(), ReadFault>
+        ensures { AddsRecord self.old self.new result (records.Settle entry index) }
+    {
+        if !checks::is_unsettled(&self.entries, entry, index) {
+            return Err(ReadFault::NoRecord);
+        }
+        settle_at(&mut self.entries, entry, index);
         Ok(())
     }
 
@@ -220,17 +388,21 @@ impl Store {
         match one {
             Record::Account { address, password } => self.add_account_record(address, password),
             Record::Domain { name } => self.add_domain_record(name),
+            Record::Folder { account, name } => self.add_folder_record(account, name),
             Record::Message {
                 folder,
                 flags,
                 date,
                 octets,
             } => self.add_message_record(folder, flags, date, octets),
-            Record::Folder { .. } => Err(ReadFault::NotBuilt),
-            Record::Flags { .. } => Err(ReadFault::NotBuilt),
-            Record::Expunge { .. } => Err(ReadFault::NotBuilt),
-            Record::Queue { .. } => Err(ReadFault::NotBuilt),
-            Record::Settle { .. } => Err(ReadFault::NotBuilt),
+            Record::Flags { message, flags } => self.add_flags_record(message, flags),
+            Record::Expunge { message } => self.add_expunge_record(message),
+            Record::Queue {
+                path,
+                addresses,
+                octets,
+            } => self.add_queue_record(path, addresses, octets),
+            Record::Settle { entry, index } => self.add_settle_record(entry, index),
         }
     }
 
@@ -243,26 +415,42 @@ impl Store {
 
     /// The most octets that a message may have that is taken.
     pub fn message_max(&self) -> u32
-        ensures { result ≡ self.now.message_max }
+        ensures value { result ≡ self.now.message_max }
+        ensures bound { result ≤ MESSAGE_MAX }
     {
         self.message_max
     }
 
-    /// The account whose name and password these are.
-    pub fn login(&self, name: &[u8], password: &[u8]) -> Result<Option<u32>, Memory>
-        ensures found { IfOk result (λ found. found ≡ logged_in self.now.kept name.now password.now) }
+    /// The first account whose mailbox the address names.
+    pub fn find_account(&self, address: &Address) -> Result<Option<u32>, Memory>
+        requires { ComesInPath address.now }
+        ensures found { IfOk result (λ found. WithPaths (λ path_of. found ≡ find_account path_of self.now.kept address.now)) }
         ensures known { IfOk result (λ found. IfSome found (λ account. account < length self.now.kept.accounts)) }
     {
-        match number_of(&self.names, name) {
-            Some(account) => {
-                if has_password(&self.accounts, account, password) {
-                    Ok(Some(account))
-                } else {
-                    Ok(None)
-                }
-            }
-            None => Ok(None),
+        let key = key_of(self.alloc, address)?;
+        Ok(number_of(&self.mailboxes, key.as_slice()))
+    }
+
+    /// The account whose address the name is, and whose password this is. The first account of the mailbox counts alone.
+    pub fn login(&self, name: &[u8], password: &[u8]) -> Result<Option<u32>, Memory>
+        ensures found { IfOk result (λ found. WithPaths (λ path_of. found ≡ logged_in path_of self.now.kept name.now password.now)) }
+        ensures known { IfOk result (λ found. IfSome found (λ account. account < length self.now.kept.accounts)) }
+    {
+        let Some(address) = read_text(self.alloc, name)? else {
+            return Ok(None);
+        };
+        match self.find_account(&address)? {
+            Some(account) if has_password(&self.accounts, account, password) => Ok(Some(account)),
+            _ => Ok(None),
         }
+    }
+
+    /// Whether the domain is the same as one of the store's.
+    pub fn is_local(&self, domain: &str) -> Result<bool, Memory>
+        ensures { IfOk result (λ is. is ≡ is_local self.now.kept domain.now) }
+    {
+        let key = domain_key(self.alloc, domain)?;
+        Ok(number_of(&self.locals, key.as_slice()).is_some())
     }
 
     /// The first folder of an account, its INBOX.
@@ -280,13 +468,9 @@ impl Store {
         ensures listing { IfOk result (λ listing. listing.items ≡ listed self.now.kept folder) }
         ensures known { IfOk result (λ listing. All (λ one. one.id < length self.now.kept.messages) listing.items) }
     {
-        let mut listing = Vec::new(self.alloc);
-        let list = self.contents[folder as usize].as_slice();
-        for (index, id) in list.iter().enumerate() {
-            if let Some(one) = listed_one(&self.messages, *id, index as u32 + 1) {
-                listing.push(one)?;
-            }
-        }
+        let content = self.contents[folder as usize];
+        let mut listing = list_back(self.alloc, &self.messages, &self.previous, content)?;
+        listing.reverse();
         Ok(listing)
     }
 
@@ -314,7 +498,7 @@ impl Store {
         requires { folder < length self.now.kept.folders }
         ensures { result ≡ uid_next self.now.kept folder }
     {
-        self.contents[folder as usize].len() as u32 + 1
+        self.contents[folder as usize].count + 1
     }
 
     /// The first domain, or else `localhost`.

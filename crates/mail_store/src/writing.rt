@@ -1,8 +1,9 @@
 //! Records written as octets.
-ghost use Rattle.std.specs.Prelude.{◌≡◌, ◌∷◌, ◌++◌, ◌<◌, ◌≤◌, ◌^◌, length};
+ghost use Rattle.std.specs.Prelude.{◌≡◌, ◌+◌, ◌∷◌, ◌++◌, ◌<◌, ◌≤◌, ◌^◌, length};
 ghost use Rattle.std.specs.List.{flat_map, AllByRecursion};
 ghost use Rattle.mail_store.specs.declared.limits.TheConstants.{RECORD_MAX};
 ghost use Rattle.mail_store.specs.declared.records.Record.TheVariants as records;
+ghost use Rattle.mail_store.specs.Changing.{copy_for};
 ghost use Rattle.mail_store.specs.Spelling.{number as number_octets, octet_list, fields_of, record_text, HasLength, Fits};
 ghost use Rattle.mail_store.specs.Writing.{PutsText};
 
@@ -212,4 +213,26 @@ pub fn push_record(journal: &mut Octets, one: &Record) -> Result<(), Memory>
 {
     push_number(journal, fields_len(one))?;
     push_fields(journal, one)
+}
+
+/// Puts the record of a message without flags last.
+pub fn push_copy(
+    journal: &mut Octets,
+    folder: u32,
+    date: &[u8],
+    octets: &[u8],
+) -> Result<(), Memory>
+    requires { length date.now + length octets.now + 14 ≤ RECORD_MAX }
+    ensures { PutsText journal.old journal.new result (record_text (copy_for date.now octets.now folder)) }
+{
+    push_number(journal, 14 + date.len() + octets.len())?;
+    push_message(journal, folder, 0, date, octets)
+}
+
+/// Puts the record last that a message goes.
+pub fn push_expunge(journal: &mut Octets, message: u32) -> Result<(), Memory>
+    ensures { PutsText journal.old journal.new result (record_text (records.Expunge message)) }
+{
+    push_number(journal, 5)?;
+    push_parts(journal, &[&[6], &message.to_be_bytes()])
 }

@@ -10,7 +10,7 @@ use Rattle.mail_wire.proofs.Feeding.{all-append}
 use Rattle.mail_store.specs.declared.kept.Listed.{Listed}
 use Rattle.mail_store.specs.Kept.{logged_in}
 use Rattle.mail_store.specs.StoreState.{StoreState}
-use Rattle.surrogate_cache.specs.Served.{Mode}
+use Rattle.surrogate_cache.specs.Served.{Mode, Meanings}
 use Rattle.pop_session.specs.declared.command.Keyword.{Keyword}
 use Rattle.pop_session.specs.declared.command.Keyword.TheVariants as keyword
 use Rattle.pop_session.specs.Machine.{line, authorization_step, pass_step, two_numbers, scan_listing, size_of, list_one_reply, list_reply, stat_reply}
@@ -50,39 +50,39 @@ pub ascii-two : (word : List ℕ) (n m : ℕ) → list_all is_ascii word ≡ tru
 ascii-two word n m ascii =
     ascii-append (word ++ decimal n ++ codes " ") (decimal m) (ascii-append (word ++ decimal n) (codes " ") (ascii-append word (decimal n) ascii (ascii-decimal n)) refl) (ascii-decimal m)
 
-scan_fit : (surrogate : List ℕ → List ℕ) (mode : Mode) (store : StoreState) (number : ℕ) (inbox : List Listed) → AreFit surrogate (scan_listing surrogate mode store number inbox)
-scan_fit surrogate mode store number [] = tt
-scan_fit surrogate mode store number (one ∷ inbox) = (ascii-two [] number (size_of surrogate mode store one) refl, scan_fit surrogate mode store (number + 1) inbox)
+scan_fit : (meanings : Meanings) (mode : Mode) (store : StoreState) (number : ℕ) (inbox : List Listed) → AreFit meanings (scan_listing meanings mode store number inbox)
+scan_fit meanings mode store number [] = tt
+scan_fit meanings mode store number (one ∷ inbox) = (ascii-two [] number (size_of meanings mode store one) refl, scan_fit meanings mode store (number + 1) inbox)
 
-pub list_fit : (surrogate : List ℕ → List ℕ) (mode : Mode) (store : StoreState) (inbox : List Listed) → AreFit surrogate (list_reply surrogate mode store inbox)
-list_fit surrogate mode store inbox = (refl, all-append (IsFit surrogate) (scan_listing surrogate mode store 1 inbox) (line (codes ".") ∷ []) (scan_fit surrogate mode store 1 inbox) (refl, tt))
+pub list_fit : (meanings : Meanings) (mode : Mode) (store : StoreState) (inbox : List Listed) → AreFit meanings (list_reply meanings mode store inbox)
+list_fit meanings mode store inbox = (refl, all-append (IsFit meanings) (scan_listing meanings mode store 1 inbox) (line (codes ".") ∷ []) (scan_fit meanings mode store 1 inbox) (refl, tt))
 
-pub stat_fit : (surrogate : List ℕ → List ℕ) (mode : Mode) (store : StoreState) (inbox : List Listed) → AreFit surrogate (stat_reply surrogate mode store inbox)
-stat_fit surrogate mode store inbox = (ascii-two (codes "+OK ") (length inbox) (sum_by (size_of surrogate mode store) inbox) refl, tt)
+pub stat_fit : (meanings : Meanings) (mode : Mode) (store : StoreState) (inbox : List Listed) → AreFit meanings (stat_reply meanings mode store inbox)
+stat_fit meanings mode store inbox = (ascii-two (codes "+OK ") (length inbox) (sum_by (size_of meanings mode store) inbox) refl, tt)
 
-pub list_one_fit : (surrogate : List ℕ → List ℕ) (mode : Mode) (store : StoreState) (number : ℕ) (one : Listed) → AreFit surrogate (list_one_reply surrogate mode store number one)
-list_one_fit surrogate mode store number one = (ascii-two (codes "+OK ") number (size_of surrogate mode store one) refl, tt)
+pub list_one_fit : (meanings : Meanings) (mode : Mode) (store : StoreState) (number : ℕ) (one : Listed) → AreFit meanings (list_one_reply meanings mode store number one)
+list_one_fit meanings mode store number one = (ascii-two (codes "+OK ") number (size_of meanings mode store one) refl, tt)
 
-pass_fit : (surrogate : List ℕ → List ℕ) (mode : Mode) (store : StoreState) (found : Option ℕ) → AreFit surrogate (pass_step mode store found).reply
-pass_fit surrogate mode store None = (refl, tt)
-pass_fit surrogate mode store (Some account) = (refl, tt)
+pass_fit : (meanings : Meanings) (mode : Mode) (store : StoreState) (found : Option ℕ) → AreFit meanings (pass_step mode store found).reply
+pass_fit meanings mode store None = (refl, tt)
+pass_fit meanings mode store (Some account) = (refl, tt)
 
-pub authorization_fit : (surrogate : List ℕ → List ℕ) (mode : Mode) (user : Option (List ℕ)) (store : StoreState) (word : Keyword) (argument : Option (List ℕ))
-    → AreFit surrogate (authorization_step mode user store word argument).reply
-authorization_fit surrogate mode user store keyword.Stat argument = (refl, tt)
-authorization_fit surrogate mode user store keyword.List argument = (refl, tt)
-authorization_fit surrogate mode user store keyword.Retr argument = (refl, tt)
-authorization_fit surrogate mode user store keyword.Utf8 None = (refl, tt)
-authorization_fit surrogate mode user store keyword.Utf8 (Some text) = (refl, tt)
-authorization_fit surrogate mode user store keyword.User None = (refl, tt)
-authorization_fit surrogate mode user store keyword.User (Some []) = (refl, tt)
-authorization_fit surrogate mode user store keyword.User (Some (x ∷ name)) = (refl, tt)
-authorization_fit surrogate mode None store keyword.Pass None = (refl, tt)
-authorization_fit surrogate mode (Some name) store keyword.Pass None = (refl, tt)
-authorization_fit surrogate mode None store keyword.Pass (Some password) = (refl, tt)
-authorization_fit surrogate mode (Some name) store keyword.Pass (Some password) = pass_fit surrogate mode store (logged_in store.kept name password)
-authorization_fit surrogate mode user store keyword.Quit None = (refl, tt)
-authorization_fit surrogate mode user store keyword.Quit (Some text) = (refl, tt)
-authorization_fit surrogate mode user store keyword.Other argument = (refl, tt)
+pub authorization_fit : (meanings : Meanings) (mode : Mode) (user : Option (List ℕ)) (store : StoreState) (word : Keyword) (argument : Option (List ℕ))
+    → AreFit meanings (authorization_step meanings mode user store word argument).reply
+authorization_fit meanings mode user store keyword.Stat argument = (refl, tt)
+authorization_fit meanings mode user store keyword.List argument = (refl, tt)
+authorization_fit meanings mode user store keyword.Retr argument = (refl, tt)
+authorization_fit meanings mode user store keyword.Utf8 None = (refl, tt)
+authorization_fit meanings mode user store keyword.Utf8 (Some text) = (refl, tt)
+authorization_fit meanings mode user store keyword.User None = (refl, tt)
+authorization_fit meanings mode user store keyword.User (Some []) = (refl, tt)
+authorization_fit meanings mode user store keyword.User (Some (x ∷ name)) = (refl, tt)
+authorization_fit meanings mode None store keyword.Pass None = (refl, tt)
+authorization_fit meanings mode (Some name) store keyword.Pass None = (refl, tt)
+authorization_fit meanings mode None store keyword.Pass (Some password) = (refl, tt)
+authorization_fit meanings mode (Some name) store keyword.Pass (Some password) = pass_fit meanings mode store (logged_in meanings.path_of store.kept name password)
+authorization_fit meanings mode user store keyword.Quit None = (refl, tt)
+authorization_fit meanings mode user store keyword.Quit (Some text) = (refl, tt)
+authorization_fit meanings mode user store keyword.Other argument = (refl, tt)
 
 pub ruleset fit_steps = (authorization_fit, list_fit, stat_fit, list_one_fit)

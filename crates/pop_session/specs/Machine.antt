@@ -6,7 +6,7 @@ use Rattle.mail_store.specs.declared.kept.Listed.{Listed}
 use Rattle.mail_store.specs.declared.kept.Message.{Message}
 use Rattle.mail_store.specs.Kept.{Kept, logged_in, inbox_of, listed}
 use Rattle.mail_store.specs.StoreState.{StoreState}
-use Rattle.surrogate_cache.specs.Served.{Mode, enabled, served_by}
+use Rattle.surrogate_cache.specs.Served.{Mode, enabled, served_by, Meanings}
 use Rattle.pop_session.specs.declared.command.Keyword.{Keyword}
 use Rattle.pop_session.specs.declared.command.Keyword.TheVariants as keyword
 use Rattle.pop_session.specs.Commands.{Command, number_of}
@@ -58,33 +58,33 @@ no_such_message = says (codes "-ERR no such message")
 abbrev pub octets_of : StoreState → Listed → List ℕ
 octets_of store one = option_map_or (λ (message : Message). message.octets) (slice_get store.kept.messages one.id) []
 
--- how many octets a session is served of a message; `surrogate` gives surrogates
-abbrev pub size_of : (List ℕ → List ℕ) → Mode → StoreState → Listed → ℕ
-size_of surrogate mode store one = length (served_by surrogate mode (octets_of store one))
+-- how many octets a session is served of a message
+abbrev pub size_of : Meanings → Mode → StoreState → Listed → ℕ
+size_of meanings mode store one = length (served_by meanings.surrogate mode (octets_of store one))
 
 -- two numbers behind a word
 abbrev pub two_numbers : List ℕ → ℕ → ℕ → List ℕ
 two_numbers word n m = word ++ decimal n ++ codes " " ++ decimal m
 
 -- how many messages, and the sum of their sizes
-abbrev pub stat_reply : (List ℕ → List ℕ) → Mode → StoreState → List Listed → List Part
-stat_reply surrogate mode store inbox = says (two_numbers (codes "+OK ") (length inbox) (sum_by (size_of surrogate mode store) inbox))
+abbrev pub stat_reply : Meanings → Mode → StoreState → List Listed → List Part
+stat_reply meanings mode store inbox = says (two_numbers (codes "+OK ") (length inbox) (sum_by (size_of meanings mode store) inbox))
 
 -- a line for each message, numbered from this number on
-abbrev pub scan_listing : (List ℕ → List ℕ) → Mode → StoreState → ℕ → List Listed → List Part
-scan_listing surrogate mode store number [] = []
-scan_listing surrogate mode store number (one ∷ inbox) =
-    line (two_numbers [] number (size_of surrogate mode store one)) ∷ scan_listing surrogate mode store (number + 1) inbox
+abbrev pub scan_listing : Meanings → Mode → StoreState → ℕ → List Listed → List Part
+scan_listing meanings mode store number [] = []
+scan_listing meanings mode store number (one ∷ inbox) =
+    line (two_numbers [] number (size_of meanings mode store one)) ∷ scan_listing meanings mode store (number + 1) inbox
 
-abbrev pub list_reply : (List ℕ → List ℕ) → Mode → StoreState → List Listed → List Part
-list_reply surrogate mode store inbox = line (codes "+OK") ∷ scan_listing surrogate mode store 1 inbox ++ line (codes ".") ∷ []
+abbrev pub list_reply : Meanings → Mode → StoreState → List Listed → List Part
+list_reply meanings mode store inbox = line (codes "+OK") ∷ scan_listing meanings mode store 1 inbox ++ line (codes ".") ∷ []
 
-abbrev pub list_one_reply : (List ℕ → List ℕ) → Mode → StoreState → ℕ → Listed → List Part
-list_one_reply surrogate mode store number one = says (two_numbers (codes "+OK ") number (size_of surrogate mode store one))
+abbrev pub list_one_reply : Meanings → Mode → StoreState → ℕ → Listed → List Part
+list_one_reply meanings mode store number one = says (two_numbers (codes "+OK ") number (size_of meanings mode store one))
 
-abbrev pub retr_reply : (List ℕ → List ℕ) → Mode → StoreState → ℕ → Listed → List Part
-retr_reply surrogate mode store number one =
-    line (codes "+OK") ∷ shown (octets_of store one) mode 0 (size_of surrogate mode store one) ∷ line (codes ".") ∷ []
+abbrev pub retr_reply : Meanings → Mode → StoreState → ℕ → Listed → List Part
+retr_reply meanings mode store number one =
+    line (codes "+OK") ∷ shown (octets_of store one) mode 0 (size_of meanings mode store one) ∷ line (codes ".") ∷ []
 
 -- ---- numbers of messages
 
@@ -115,33 +115,33 @@ pass_step mode store None = record { reply = not_admitted; state = authorization
 pass_step mode store (Some account) = record { reply = done; state = transaction mode (inbox_messages store.kept account) }
 
 -- the rows of AUTHORIZATION
-abbrev pub authorization_step : Mode → Option (List ℕ) → StoreState → Keyword → Option (List ℕ) → Step
-authorization_step mode user store keyword.Stat argument = record { reply = out_of_order; state = authorization mode user }
-authorization_step mode user store keyword.List argument = record { reply = out_of_order; state = authorization mode user }
-authorization_step mode user store keyword.Retr argument = record { reply = out_of_order; state = authorization mode user }
-authorization_step mode user store keyword.Utf8 None = record { reply = done; state = authorization enabled user }
-authorization_step mode user store keyword.User (Some (x ∷ name)) = record { reply = done; state = authorization mode (Some (x ∷ name)) }
-authorization_step mode None store keyword.Pass (Some password) = record { reply = out_of_order; state = authorization mode None }
-authorization_step mode (Some name) store keyword.Pass (Some password) = pass_step mode store (logged_in store.kept name password)
-authorization_step mode user store keyword.Quit None = record { reply = bye; state = ended }
-authorization_step mode user store keyword argument = record { reply = syntax_error; state = authorization mode user }
+abbrev pub authorization_step : Meanings → Mode → Option (List ℕ) → StoreState → Keyword → Option (List ℕ) → Step
+authorization_step meanings mode user store keyword.Stat argument = record { reply = out_of_order; state = authorization mode user }
+authorization_step meanings mode user store keyword.List argument = record { reply = out_of_order; state = authorization mode user }
+authorization_step meanings mode user store keyword.Retr argument = record { reply = out_of_order; state = authorization mode user }
+authorization_step meanings mode user store keyword.Utf8 None = record { reply = done; state = authorization enabled user }
+authorization_step meanings mode user store keyword.User (Some (x ∷ name)) = record { reply = done; state = authorization mode (Some (x ∷ name)) }
+authorization_step meanings mode None store keyword.Pass (Some password) = record { reply = out_of_order; state = authorization mode None }
+authorization_step meanings mode (Some name) store keyword.Pass (Some password) = pass_step mode store (logged_in meanings.path_of store.kept name password)
+authorization_step meanings mode user store keyword.Quit None = record { reply = bye; state = ended }
+authorization_step meanings mode user store keyword argument = record { reply = syntax_error; state = authorization mode user }
 
 -- the replies of the rows of TRANSACTION that leave the state
-abbrev pub transaction_reply : (List ℕ → List ℕ) → Mode → List Listed → StoreState → Keyword → Option (List ℕ) → List Part
-transaction_reply surrogate mode inbox store keyword.User argument = out_of_order
-transaction_reply surrogate mode inbox store keyword.Pass argument = out_of_order
-transaction_reply surrogate mode inbox store keyword.Utf8 argument = out_of_order
-transaction_reply surrogate mode inbox store keyword.Stat None = stat_reply surrogate mode store inbox
-transaction_reply surrogate mode inbox store keyword.List None = list_reply surrogate mode store inbox
-transaction_reply surrogate mode inbox store keyword.List (Some number) = of_number (list_one_reply surrogate mode store) inbox (number_of number)
-transaction_reply surrogate mode inbox store keyword.Retr (Some number) = of_number (retr_reply surrogate mode store) inbox (number_of number)
-transaction_reply surrogate mode inbox store keyword argument = syntax_error
+abbrev pub transaction_reply : Meanings → Mode → List Listed → StoreState → Keyword → Option (List ℕ) → List Part
+transaction_reply meanings mode inbox store keyword.User argument = out_of_order
+transaction_reply meanings mode inbox store keyword.Pass argument = out_of_order
+transaction_reply meanings mode inbox store keyword.Utf8 argument = out_of_order
+transaction_reply meanings mode inbox store keyword.Stat None = stat_reply meanings mode store inbox
+transaction_reply meanings mode inbox store keyword.List None = list_reply meanings mode store inbox
+transaction_reply meanings mode inbox store keyword.List (Some number) = of_number (list_one_reply meanings mode store) inbox (number_of number)
+transaction_reply meanings mode inbox store keyword.Retr (Some number) = of_number (retr_reply meanings mode store) inbox (number_of number)
+transaction_reply meanings mode inbox store keyword argument = syntax_error
 
 -- the rows of TRANSACTION
-abbrev pub transaction_step : (List ℕ → List ℕ) → Mode → List Listed → StoreState → Keyword → Option (List ℕ) → Step
-transaction_step surrogate mode inbox store keyword.Quit None = record { reply = bye; state = ended }
-transaction_step surrogate mode inbox store keyword argument =
-    record { reply = transaction_reply surrogate mode inbox store keyword argument; state = transaction mode inbox }
+abbrev pub transaction_step : Meanings → Mode → List Listed → StoreState → Keyword → Option (List ℕ) → Step
+transaction_step meanings mode inbox store keyword.Quit None = record { reply = bye; state = ended }
+transaction_step meanings mode inbox store keyword argument =
+    record { reply = transaction_reply meanings mode inbox store keyword argument; state = transaction mode inbox }
 
 -- QUIT without an argument, a word of the private calls
 abbrev pub is_quit : Keyword → Option (List ℕ) → Bool
@@ -149,7 +149,7 @@ is_quit keyword.Quit None = true
 is_quit keyword argument = false
 
 -- one command
-unfoldable pub step : (List ℕ → List ℕ) → State → StoreState → Command → Step
-step surrogate (authorization mode user) store command = authorization_step mode user store command.keyword command.argument
-step surrogate (transaction mode inbox) store command = transaction_step surrogate mode inbox store command.keyword command.argument
-step surrogate ended store command = record { reply = []; state = ended }
+unfoldable pub step : Meanings → State → StoreState → Command → Step
+step meanings (authorization mode user) store command = authorization_step meanings mode user store command.keyword command.argument
+step meanings (transaction mode inbox) store command = transaction_step meanings mode inbox store command.keyword command.argument
+step meanings ended store command = record { reply = []; state = ended }

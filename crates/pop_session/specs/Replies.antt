@@ -4,7 +4,7 @@ use Rattle.std.specs.List.{flat_map, list_all, AllByRecursion}
 use Rattle.mail_wire.specs.Lines.{crlf, lines_of, is_crlf}
 use Rattle.mail_wire.specs.Octets.{is_ascii}
 use Rattle.surrogate_rope.specs.Layout.{HasSurrogate, HasAsciiBlocks}
-use Rattle.surrogate_cache.specs.Served.{legacy, enabled, served_by}
+use Rattle.surrogate_cache.specs.Served.{legacy, enabled, served_by, Meanings}
 use Rattle.pop_session.specs.Machine.{Part, line, shown}
 
 -- a dot before a line that begins with one
@@ -31,20 +31,20 @@ missing_end octets = if are_complete octets then [] else crlf
 abbrev pub multi_line : List ℕ → List ℕ
 multi_line octets = stuffed octets ++ missing_end octets
 
--- the octets of a part; `surrogate` gives surrogates
-abbrev pub part_octets : (List ℕ → List ℕ) → Part → List ℕ
-part_octets surrogate (line octets) = octets ++ crlf
-part_octets surrogate (shown msg mode at len) = multi_line (take len (drop at (served_by surrogate mode msg)))
+-- the octets of a part
+abbrev pub part_octets : Meanings → Part → List ℕ
+part_octets meanings (line octets) = octets ++ crlf
+part_octets meanings (shown msg mode at len) = multi_line (take len (drop at (served_by meanings.surrogate mode msg)))
 
 -- the octets of a reply
-abbrev pub reply_octets : (List ℕ → List ℕ) → List Part → List ℕ
-reply_octets surrogate parts = flat_map (part_octets surrogate) parts
+abbrev pub reply_octets : Meanings → List Part → List ℕ
+reply_octets meanings parts = flat_map (part_octets meanings) parts
 
 -- A line is ASCII. What a legacy session is shown is a range of the message's surrogate, all of whose header blocks are ASCII.
-abbrev pub IsFit : (List ℕ → List ℕ) → Part → Type 0
-IsFit surrogate (line octets) = list_all is_ascii octets ≡ true
-IsFit surrogate (shown msg legacy at len) = HasSurrogate msg (surrogate msg) × HasAsciiBlocks (surrogate msg)
-IsFit surrogate (shown msg enabled at len) = Unit {0}
+abbrev pub IsFit : Meanings → Part → Type 0
+IsFit meanings (line octets) = list_all is_ascii octets ≡ true
+IsFit meanings (shown msg legacy at len) = HasSurrogate msg (meanings.surrogate msg) × HasAsciiBlocks (meanings.surrogate msg)
+IsFit meanings (shown msg enabled at len) = Unit {0}
 
-abbrev pub AreFit : (List ℕ → List ℕ) → List Part → Type 0
-AreFit surrogate parts = AllByRecursion (IsFit surrogate) parts
+abbrev pub AreFit : Meanings → List Part → Type 0
+AreFit meanings parts = AllByRecursion (IsFit meanings) parts

@@ -2,7 +2,7 @@
 use Rattle.std.specs.Prelude.{◌≡◌, ℕ, List, ◌∷◌, codes, Option, None, Some}
 use Rattle.mail_wire.specs.Turns.{Turn, all_turns}
 use Rattle.mail_store.specs.StoreState.{StoreState}
-use Rattle.surrogate_cache.specs.Served.{legacy}
+use Rattle.surrogate_cache.specs.Served.{legacy, Meanings}
 use Rattle.pop_session.specs.Framing.{Framed, waiting, whole, too_long, next_command}
 use Rattle.pop_session.specs.Commands.{command_of}
 use Rattle.pop_session.specs.Machine.{Part, line, State, authorization, transaction, ended, says, step}
@@ -19,26 +19,26 @@ abbrev pub line_too_long : List Part
 line_too_long = says (codes "-ERR line too long")
 
 -- what a whole command brings
-abbrev pub turn_by : (List ℕ → List ℕ) → Machine → Framed → Option (Turn Machine Part)
-turn_by surrogate machine waiting = None
-turn_by surrogate machine (whole text rest) =
-    let taken = step surrogate machine.state machine.store (command_of text) in
+abbrev pub turn_by : Meanings → Machine → Framed → Option (Turn Machine Part)
+turn_by meanings machine waiting = None
+turn_by meanings machine (whole text rest) =
+    let taken = step meanings machine.state machine.store (command_of text) in
     Some (record { parts = taken.reply; after = record { state = taken.state; store = machine.store }; rest = rest })
-turn_by surrogate machine (too_long rest) =
+turn_by meanings machine (too_long rest) =
     Some (record { parts = line_too_long; after = record { state = ended; store = machine.store }; rest = rest })
 
 -- after the end no command is read
-abbrev pub turn_in : (List ℕ → List ℕ) → State → Machine → List ℕ → Option (Turn Machine Part)
-turn_in surrogate (authorization mode user) machine octets = turn_by surrogate machine (next_command octets)
-turn_in surrogate (transaction mode inbox) machine octets = turn_by surrogate machine (next_command octets)
-turn_in surrogate ended machine octets = None
+abbrev pub turn_in : Meanings → State → Machine → List ℕ → Option (Turn Machine Part)
+turn_in meanings (authorization mode user) machine octets = turn_by meanings machine (next_command octets)
+turn_in meanings (transaction mode inbox) machine octets = turn_by meanings machine (next_command octets)
+turn_in meanings ended machine octets = None
 
-unfoldable pub next_turn : (List ℕ → List ℕ) → Machine → List ℕ → Option (Turn Machine Part)
-next_turn surrogate machine octets = turn_in surrogate machine.state machine octets
+unfoldable pub next_turn : Meanings → Machine → List ℕ → Option (Turn Machine Part)
+next_turn meanings machine octets = turn_in meanings machine.state machine octets
 
--- what these octets bring; `surrogate` gives surrogates
-abbrev pub turns_of : (List ℕ → List ℕ) → Machine → List ℕ → Turn Machine Part
-turns_of surrogate machine octets = all_turns (next_turn surrogate) machine octets
+-- what these octets bring
+abbrev pub turns_of : Meanings → Machine → List ℕ → Turn Machine Part
+turns_of meanings machine octets = all_turns (next_turn meanings) machine octets
 
 abbrev pub greeting : List Part
 greeting = says (codes "+OK ready")
@@ -48,12 +48,12 @@ abbrev pub start_of : StoreState → Machine
 start_of store = record { state = authorization legacy None; store = store }
 
 -- the parts that a session is sent of a stream: the greeting, and the replies to its whole commands, up to the end
-abbrev pub parts_to : (List ℕ → List ℕ) → StoreState → List ℕ → List Part
-parts_to surrogate store octets = line (codes "+OK ready") ∷ (turns_of surrogate (start_of store) octets).parts
+abbrev pub parts_to : Meanings → StoreState → List ℕ → List Part
+parts_to meanings store octets = line (codes "+OK ready") ∷ (turns_of meanings (start_of store) octets).parts
 
 -- the store that these commands leave
-abbrev pub store_after : (List ℕ → List ℕ) → StoreState → List ℕ → StoreState
-store_after surrogate store octets = (turns_of surrogate (start_of store) octets).after.store
+abbrev pub store_after : Meanings → StoreState → List ℕ → StoreState
+store_after meanings store octets = (turns_of meanings (start_of store) octets).after.store
 
 -- the machine's state of a session
 abbrev pub session_state : PopSession → State

@@ -4,7 +4,7 @@ use Rattle.std.specs.List.{All}
 use Rattle.mail_store.specs.declared.kept.Listed.{Listed}
 use Rattle.mail_store.specs.Kept.{logged_in}
 use Rattle.mail_store.specs.StoreState.{StoreState}
-use Rattle.surrogate_cache.specs.Served.{legacy, enabled}
+use Rattle.surrogate_cache.specs.Served.{legacy, enabled, Meanings}
 use Rattle.pop_session.specs.declared.states.PopState.{PopState}
 use Rattle.pop_session.specs.declared.states.PopState.TheVariants as pop
 use Rattle.pop_session.specs.declared.states.Login.{Login}
@@ -34,16 +34,21 @@ KnowsState store (transaction mode inbox) = Knows store inbox
 KnowsState store ended = Unit {0}
 
 -- the login found this account
-pub record IsAdmitted (store : StoreState) (user : Option (List ℕ)) (password : List ℕ) (inbox : List Listed) : Type 0 where
+pub record IsAdmitted (meanings : Meanings) (store : StoreState) (user : Option (List ℕ)) (password : List ℕ) (inbox : List Listed) : Type 0 where
   pub name : List ℕ
   pub account : ℕ
   pub user_is : user ≡ Some name
-  pub found : logged_in store.kept name password ≡ Some account
+  pub found : logged_in meanings.path_of store.kept name password ≡ Some account
   pub inbox_is : inbox ≡ inbox_messages store.kept account
-  pub known : Knows store inbox
 
 -- what PASS leads to, by the name that USER gave
-abbrev pub IsLogin : {V : Type 0} → Login V → Option (List ℕ) → List ℕ → StoreState → Type 0
-IsLogin (OutOfOrder session) user password store = (user ≡ None) × (session.state.user ≡ None)
-IsLogin (Refused session) user password store = (name : List ℕ) × (user ≡ Some name) × (logged_in store.kept name password ≡ None) × (session.state.user ≡ None)
-IsLogin (Open session) user password store = IsAdmitted store user password session.state.inbox.items
+abbrev pub IsLogin : {V : Type 0} → Meanings → Login V → Option (List ℕ) → List ℕ → StoreState → Type 0
+IsLogin meanings (OutOfOrder session) user password store = (user ≡ None) × (session.state.user ≡ None)
+IsLogin meanings (Refused session) user password store = (name : List ℕ) × (user ≡ Some name) × (logged_in meanings.path_of store.kept name password ≡ None) × (session.state.user ≡ None)
+IsLogin meanings (Open session) user password store = IsAdmitted meanings store user password session.state.inbox.items
+
+-- the store has the messages of the session that PASS leads to
+abbrev pub KnowsLogin : {V : Type 0} → StoreState → Login V → Type 0
+KnowsLogin store (OutOfOrder session) = Unit {0}
+KnowsLogin store (Refused session) = Unit {0}
+KnowsLogin store (Open session) = Knows store session.state.inbox.items

@@ -4,7 +4,7 @@ ghost use Rattle.mail_wire.specs.Lines.{crlf};
 ghost use Rattle.mail_wire.specs.Moves.{GivesOrFails, HasWireCause};
 ghost use Rattle.mail_store.specs.Stored.{IsStored};
 ghost use Rattle.surrogate_rope.specs.Served.{IsShownOf, shown_octets};
-ghost use Rattle.surrogate_cache.specs.Served.{IsServed, HasServedHeaders, WithSurrogates};
+ghost use Rattle.surrogate_cache.specs.Served.{IsServed, HasServedHeaders, WithMeanings};
 ghost use Rattle.pop_session.specs.Asked.{IsAsked, IsKnown};
 ghost use Rattle.pop_session.specs.Commands.{number_of};
 ghost use Rattle.pop_session.specs.Machine.{size_of, stat_reply, list_reply, list_one_reply, retr_reply, two_numbers};
@@ -44,7 +44,7 @@ fn size<V: View>(
     one: &Listed,
 ) -> Result<usize, Memory>
     requires { one.now.id < length store.now.kept.messages }
-    ensures { IfOk result (λ n. WithSurrogates (λ surrogate. n ≡ size_of surrogate V.mode store.now one.now)) }
+    ensures { IfOk result (λ n. WithMeanings (λ meanings. n ≡ size_of meanings V.mode store.now one.now)) }
 {
     let octets = store.octets(one.id);
     let shown = show::<V>(alloc, cache, one.id, octets)?;
@@ -59,8 +59,8 @@ pub fn stat<V: View>(
     inbox: &[Listed],
 ) -> Result<String, Memory>
     requires { Knows store.now inbox.now }
-    ensures { IfOk result (λ text. WithSurrogates (λ surrogate.
-        string_bytes text ≡ reply_octets surrogate (stat_reply surrogate V.mode store.now inbox.now))) }
+    ensures { IfOk result (λ text. WithMeanings (λ meanings.
+        string_bytes text ≡ reply_octets meanings (stat_reply meanings V.mode store.now inbox.now))) }
 {
     let mut total: u128 = 0;
     for one in inbox {
@@ -84,8 +84,8 @@ pub fn list<V: View>(
     inbox: &[Listed],
 ) -> Result<String, Memory>
     requires { Knows store.now inbox.now }
-    ensures { IfOk result (λ text. WithSurrogates (λ surrogate.
-        string_bytes text ≡ reply_octets surrogate (list_reply surrogate V.mode store.now inbox.now))) }
+    ensures { IfOk result (λ text. WithMeanings (λ meanings.
+        string_bytes text ≡ reply_octets meanings (list_reply meanings V.mode store.now inbox.now))) }
 {
     let mut text = String::from_str(alloc, "+OK\r\n")?;
     for (place, one) in inbox.iter().enumerate() {
@@ -106,8 +106,8 @@ pub fn list_one<V: View>(
     one: &Listed,
 ) -> Result<String, Memory>
     requires { one.now.id < length store.now.kept.messages }
-    ensures { IfOk result (λ text. WithSurrogates (λ surrogate.
-        string_bytes text ≡ reply_octets surrogate (list_one_reply surrogate V.mode store.now number one.now))) }
+    ensures { IfOk result (λ text. WithMeanings (λ meanings.
+        string_bytes text ≡ reply_octets meanings (list_one_reply meanings V.mode store.now number one.now))) }
 {
     let size = size::<V>(alloc, cache, store, one)?;
     Ok(format!(in alloc; "+OK {number} {size}\r\n")?)
@@ -122,9 +122,9 @@ pub fn retr<V: View, W: Wire>(
     wire: &mut W,
 ) -> Result<(), Fault>
     requires { one.now.id < length store.now.kept.messages }
-    ensures gives { WithSurrogates (λ surrogate.
-        GivesOrFails (W.tells wire.old) (W.tells wire.new) result (reply_octets surrogate (retr_reply surrogate V.mode store.now 0 one.now))) }
-    ensures fit { IfOk result (λ _. WithSurrogates (λ surrogate. AreFit surrogate (retr_reply surrogate V.mode store.now 0 one.now))) }
+    ensures gives { WithMeanings (λ meanings.
+        GivesOrFails (W.tells wire.old) (W.tells wire.new) result (reply_octets meanings (retr_reply meanings V.mode store.now 0 one.now))) }
+    ensures fit { IfOk result (λ _. WithMeanings (λ meanings. AreFit meanings (retr_reply meanings V.mode store.now 0 one.now))) }
     ensures cause { HasWireCause (W.tells wire.old) (W.tells wire.new) result Fault.Wire }
     ensures keeper { ¬ (result ≡ Err Fault.Keeper) }
 {

@@ -5,7 +5,7 @@ ghost use Rattle.pop_session.specs.declared.session.TheConstants.{LINE_MAX};
 ghost use Rattle.std.specs.Option.{option_copied};
 ghost use Rattle.mail_wire.specs.Moves.{GivesOrFails, HasWireCause};
 ghost use Rattle.mail_store.specs.StoreState.{StoreState};
-ghost use Rattle.surrogate_cache.specs.Served.{WithSurrogates};
+ghost use Rattle.surrogate_cache.specs.Served.{Meanings, WithMeanings};
 ghost use Rattle.pop_session.specs.Commands.{command_of};
 ghost use Rattle.pop_session.specs.Machine.{ended, authorization_step, transaction_step, transaction_reply, step, is_quit as is_quit_command};
 ghost use Rattle.pop_session.specs.Replies.{reply_octets, AreFit};
@@ -52,10 +52,10 @@ fn answer_authorization<V: Kind>(
     command: Command,
     store: &Store,
 ) -> Result<OneLine, Memory>
-    ensures reply { IfOk result (λ answer. (surrogate : List ℕ → List ℕ) →
-        answer.reply.now ≡ reply_octets surrogate (authorization_step V.mode pop.state.user store.now command.entry.keyword (option_copied command.entry.argument)).reply) }
-    ensures next { IfOk result (λ answer.
-        state_or_ended answer.next ≡ (authorization_step V.mode pop.state.user store.now command.entry.keyword (option_copied command.entry.argument)).state) }
+    ensures reply { IfOk result (λ answer. WithMeanings (λ meanings.
+        answer.reply.now ≡ reply_octets meanings (authorization_step meanings V.mode pop.state.user store.now command.entry.keyword (option_copied command.entry.argument)).reply)) }
+    ensures next { IfOk result (λ answer. WithMeanings (λ meanings.
+        state_or_ended answer.next ≡ (authorization_step meanings V.mode pop.state.user store.now command.entry.keyword (option_copied command.entry.argument)).state)) }
     ensures known { IfOk result (λ answer. KnowsState store.now (state_or_ended answer.next)) }
 {
     let (reply, next) = match (command.keyword, command.argument) {
@@ -86,10 +86,10 @@ fn give_authorization<V: Kind, W: Wire>(
     store: &Store,
     wire: &mut W,
 ) -> Result<Option<PopState>, Fault>
-    ensures gives { WithSurrogates (λ surrogate. GivesOrFails (W.tells wire.old) (W.tells wire.new) result
-        (reply_octets surrogate (authorization_step V.mode pop.state.user store.now command.entry.keyword (option_copied command.entry.argument)).reply)) }
-    ensures fit { IfOk result (λ _. WithSurrogates (λ surrogate. AreFit surrogate (authorization_step V.mode pop.state.user store.now command.entry.keyword (option_copied command.entry.argument)).reply)) }
-    ensures next { IfOk result (λ next. WithSurrogates (λ surrogate. state_or_ended next ≡ (authorization_step V.mode pop.state.user store.now command.entry.keyword (option_copied command.entry.argument)).state)) }
+    ensures gives { WithMeanings (λ meanings. GivesOrFails (W.tells wire.old) (W.tells wire.new) result
+        (reply_octets meanings (authorization_step meanings V.mode pop.state.user store.now command.entry.keyword (option_copied command.entry.argument)).reply)) }
+    ensures fit { IfOk result (λ _. WithMeanings (λ meanings. AreFit meanings (authorization_step meanings V.mode pop.state.user store.now command.entry.keyword (option_copied command.entry.argument)).reply)) }
+    ensures next { IfOk result (λ next. WithMeanings (λ meanings. state_or_ended next ≡ (authorization_step meanings V.mode pop.state.user store.now command.entry.keyword (option_copied command.entry.argument)).state)) }
     ensures known { IfOk result (λ next. KnowsState store.now (state_or_ended next)) }
     ensures cause { HasWireCause (W.tells wire.old) (W.tells wire.new) result Fault.Wire }
     ensures keeper { ¬ (result ≡ Err Fault.Keeper) }
@@ -112,9 +112,9 @@ fn give_of_message<V: Kind, W: Wire>(
 ) -> Result<(), Fault>
     requires keyword { (keyword ≡ Keyword.List) ⊎ (keyword ≡ Keyword.Retr) }
     requires known { Knows store.now inbox.now }
-    ensures gives { WithSurrogates (λ surrogate. GivesOrFails (W.tells wire.old) (W.tells wire.new) result
-        (reply_octets surrogate (transaction_reply surrogate V.mode inbox.now store.now keyword (Some text.now)))) }
-    ensures fit { IfOk result (λ _. WithSurrogates (λ surrogate. AreFit surrogate (transaction_reply surrogate V.mode inbox.now store.now keyword (Some text.now)))) }
+    ensures gives { WithMeanings (λ meanings. GivesOrFails (W.tells wire.old) (W.tells wire.new) result
+        (reply_octets meanings (transaction_reply meanings V.mode inbox.now store.now keyword (Some text.now)))) }
+    ensures fit { IfOk result (λ _. WithMeanings (λ meanings. AreFit meanings (transaction_reply meanings V.mode inbox.now store.now keyword (Some text.now)))) }
     ensures cause { HasWireCause (W.tells wire.old) (W.tells wire.new) result Fault.Wire }
     ensures keeper { ¬ (result ≡ Err Fault.Keeper) }
 {
@@ -143,9 +143,9 @@ fn give_reply<V: Kind, W: Wire>(
     wire: &mut W,
 ) -> Result<(), Fault>
     requires { Knows store.now inbox.now }
-    ensures gives { WithSurrogates (λ surrogate. GivesOrFails (W.tells wire.old) (W.tells wire.new) result
-        (reply_octets surrogate (transaction_reply surrogate V.mode inbox.now store.now command.entry.keyword (option_copied command.entry.argument)))) }
-    ensures fit { IfOk result (λ _. WithSurrogates (λ surrogate. AreFit surrogate (transaction_reply surrogate V.mode inbox.now store.now command.entry.keyword (option_copied command.entry.argument)))) }
+    ensures gives { WithMeanings (λ meanings. GivesOrFails (W.tells wire.old) (W.tells wire.new) result
+        (reply_octets meanings (transaction_reply meanings V.mode inbox.now store.now command.entry.keyword (option_copied command.entry.argument)))) }
+    ensures fit { IfOk result (λ _. WithMeanings (λ meanings. AreFit meanings (transaction_reply meanings V.mode inbox.now store.now command.entry.keyword (option_copied command.entry.argument)))) }
     ensures cause { HasWireCause (W.tells wire.old) (W.tells wire.new) result Fault.Wire }
     ensures keeper { ¬ (result ≡ Err Fault.Keeper) }
 {
@@ -183,10 +183,10 @@ fn answer_transaction<V: Kind, W: Wire>(
     wire: &mut W,
 ) -> Result<Option<PopState>, Fault>
     requires { Knows store.now pop.state.inbox.items }
-    ensures gives { WithSurrogates (λ surrogate. GivesOrFails (W.tells wire.old) (W.tells wire.new) result
-        (reply_octets surrogate (transaction_step surrogate V.mode pop.state.inbox.items store.now command.entry.keyword (option_copied command.entry.argument)).reply)) }
-    ensures fit { IfOk result (λ _. WithSurrogates (λ surrogate. AreFit surrogate (transaction_step surrogate V.mode pop.state.inbox.items store.now command.entry.keyword (option_copied command.entry.argument)).reply)) }
-    ensures next { IfOk result (λ next. WithSurrogates (λ surrogate. state_or_ended next ≡ (transaction_step surrogate V.mode pop.state.inbox.items store.now command.entry.keyword (option_copied command.entry.argument)).state)) }
+    ensures gives { WithMeanings (λ meanings. GivesOrFails (W.tells wire.old) (W.tells wire.new) result
+        (reply_octets meanings (transaction_step meanings V.mode pop.state.inbox.items store.now command.entry.keyword (option_copied command.entry.argument)).reply)) }
+    ensures fit { IfOk result (λ _. WithMeanings (λ meanings. AreFit meanings (transaction_step meanings V.mode pop.state.inbox.items store.now command.entry.keyword (option_copied command.entry.argument)).reply)) }
+    ensures next { IfOk result (λ next. WithMeanings (λ meanings. state_or_ended next ≡ (transaction_step meanings V.mode pop.state.inbox.items store.now command.entry.keyword (option_copied command.entry.argument)).state)) }
     ensures known { IfOk result (λ next. KnowsState store.now (state_or_ended next)) }
     ensures cause { HasWireCause (W.tells wire.old) (W.tells wire.new) result Fault.Wire }
     ensures keeper { ¬ (result ≡ Err Fault.Keeper) }
@@ -212,10 +212,10 @@ fn answer<W: Wire>(
 ) -> Result<Option<PopState>, Fault>
     requires line { 2 ≤ length line.now }
     requires known { KnowsState store.now (state_of state) }
-    ensures gives { WithSurrogates (λ surrogate. GivesOrFails (W.tells wire.old) (W.tells wire.new) result
-        (reply_octets surrogate (step surrogate (state_of state) store.now (command_of line.now)).reply)) }
-    ensures fit { IfOk result (λ _. WithSurrogates (λ surrogate. AreFit surrogate (step surrogate (state_of state) store.now (command_of line.now)).reply)) }
-    ensures next { IfOk result (λ next. WithSurrogates (λ surrogate. state_or_ended next ≡ (step surrogate (state_of state) store.now (command_of line.now)).state)) }
+    ensures gives { WithMeanings (λ meanings. GivesOrFails (W.tells wire.old) (W.tells wire.new) result
+        (reply_octets meanings (step meanings (state_of state) store.now (command_of line.now)).reply)) }
+    ensures fit { IfOk result (λ _. WithMeanings (λ meanings. AreFit meanings (step meanings (state_of state) store.now (command_of line.now)).reply)) }
+    ensures next { IfOk result (λ next. WithMeanings (λ meanings. state_or_ended next ≡ (step meanings (state_of state) store.now (command_of line.now)).state)) }
     ensures known { IfOk result (λ next. KnowsState store.now (state_or_ended next)) }
     ensures cause { HasWireCause (W.tells wire.old) (W.tells wire.new) result Fault.Wire }
     ensures keeper { ¬ (result ≡ Err Fault.Keeper) }
@@ -274,12 +274,12 @@ fn feed_open<W: Wire>(
     wire: &mut W,
 ) -> Result<PopSession, Fault>
     requires { IsReady (PopSession.Open reading) store.now }
-    ensures gives { WithSurrogates (λ surrogate. GivesOrFails (W.tells wire.old) (W.tells wire.new) result
-        (reply_octets surrogate (turns_of surrogate (machine_of (PopSession.Open reading) store.now) (reading.kept ++ piece.now)).parts)) }
-    ensures fit { IfOk result (λ _. WithSurrogates (λ surrogate.
-        AreFit surrogate (turns_of surrogate (machine_of (PopSession.Open reading) store.now) (reading.kept ++ piece.now)).parts)) }
-    ensures stands { IfOk result (λ session. WithSurrogates (λ surrogate.
-        StandsFor session store.now (turns_of surrogate (machine_of (PopSession.Open reading) store.now) (reading.kept ++ piece.now)))) }
+    ensures gives { WithMeanings (λ meanings. GivesOrFails (W.tells wire.old) (W.tells wire.new) result
+        (reply_octets meanings (turns_of meanings (machine_of (PopSession.Open reading) store.now) (reading.kept ++ piece.now)).parts)) }
+    ensures fit { IfOk result (λ _. WithMeanings (λ meanings.
+        AreFit meanings (turns_of meanings (machine_of (PopSession.Open reading) store.now) (reading.kept ++ piece.now)).parts)) }
+    ensures stands { IfOk result (λ session. WithMeanings (λ meanings.
+        StandsFor session store.now (turns_of meanings (machine_of (PopSession.Open reading) store.now) (reading.kept ++ piece.now)))) }
     ensures ready { IfOk result (λ session. IsReady session store.now) }
     ensures cause { HasWireCause (W.tells wire.old) (W.tells wire.new) result Fault.Wire }
     ensures keeper { ¬ (result ≡ Err Fault.Keeper) }
@@ -315,7 +315,7 @@ fn feed_open<W: Wire>(
 impl PopSession {
     /// Begins a session, which is a legacy one until it asks for UTF-8 (RFC 6856, 2), and gives the greeting.
     pub fn start<W: Wire>(alloc: Global, wire: &mut W) -> Result<PopSession, Fault>
-        ensures gives { (surrogate : List ℕ → List ℕ) → GivesOrFails (W.tells wire.old) (W.tells wire.new) result (reply_octets surrogate greeting) }
+        ensures gives { (meanings : Meanings) → GivesOrFails (W.tells wire.old) (W.tells wire.new) result (reply_octets meanings greeting) }
         ensures stands { IfOk result (λ session. (store : StoreState) → machine_of session store ≡ start_of store) }
         ensures rest { IfOk result (λ session. HasRest session []) }
         ensures ready { IfOk result (λ session. (store : StoreState) → IsReady session store) }
@@ -349,16 +349,16 @@ impl PopSession {
 
         // Whatever the rest is that the session stands for: the machine's turns over it and the piece are what is given,
         // and after a fault a prefix of that. The session that is left stands for what follows.
-        ensures gives { WithSurrogates (λ surrogate. (rest : List ℕ) → HasRest self rest →
+        ensures gives { WithMeanings (λ meanings. (rest : List ℕ) → HasRest self rest →
             GivesOrFails (W.tells wire.old) (W.tells wire.new) result
-            (reply_octets surrogate (turns_of surrogate (machine_of self store.old) (rest ++ piece.now)).parts)) }
-        ensures stands { IfOk result (λ session. WithSurrogates (λ surrogate. (rest : List ℕ) → HasRest self rest →
-            StandsFor session store.new (turns_of surrogate (machine_of self store.old) (rest ++ piece.now)))) }
+            (reply_octets meanings (turns_of meanings (machine_of self store.old) (rest ++ piece.now)).parts)) }
+        ensures stands { IfOk result (λ session. WithMeanings (λ meanings. (rest : List ℕ) → HasRest self rest →
+            StandsFor session store.new (turns_of meanings (machine_of self store.old) (rest ++ piece.now)))) }
         ensures ready { IfOk result (λ session. IsReady session store.new) }
 
         // Each line is ASCII, and to a legacy session each header is.
-        ensures fit { IfOk result (λ _. WithSurrogates (λ surrogate. (rest : List ℕ) → HasRest self rest →
-            AreFit surrogate (turns_of surrogate (machine_of self store.old) (rest ++ piece.now)).parts)) }
+        ensures fit { IfOk result (λ _. WithMeanings (λ meanings. (rest : List ℕ) → HasRest self rest →
+            AreFit meanings (turns_of meanings (machine_of self store.old) (rest ++ piece.now)).parts)) }
 
         ensures cause { HasWireCause (W.tells wire.old) (W.tells wire.new) result Fault.Wire }
         ensures keeper { ¬ (result ≡ Err Fault.Keeper) }

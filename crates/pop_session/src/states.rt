@@ -1,9 +1,8 @@
 //! The states of a session (RFC 1939, 4 to 6), each a type of its own.
 ghost use Rattle.std.specs.Prelude.{◌≡◌, None, Some, IfOk, ◌++◌, string_bytes, MatchResult, List, ℕ, Option};
-ghost use Rattle.surrogate_cache.specs.Served.{legacy, enabled};
-ghost use Rattle.pop_session.specs.States.{Knows};
+ghost use Rattle.surrogate_cache.specs.Served.{legacy, enabled, WithMeanings};
 ghost use Rattle.pop_session.specs.Machine.{State, authorization, transaction};
-ghost use Rattle.pop_session.specs.States.{state_of, IsLogin};
+ghost use Rattle.pop_session.specs.States.{state_of, IsLogin, KnowsLogin};
 
 use mail_store::kept::Listed;
 use mail_store::storing::Store;
@@ -129,7 +128,8 @@ impl<V: Kind> Pop<Authorization, V> {
 
     /// One try with the name that USER gave; after it there is no name.
     pub fn pass(self, password: &[u8], store: &Store) -> Result<Login<V>, Memory>
-        ensures { IfOk result (λ login. IsLogin login self.state.user password.now store.now) }
+        ensures login { IfOk result (λ login. WithMeanings (λ meanings. IsLogin meanings login self.state.user password.now store.now)) }
+        ensures known { IfOk result (KnowsLogin store.now) }
     {
         let Some(name) = self.state.user else {
             return Ok(Login::OutOfOrder(Pop {

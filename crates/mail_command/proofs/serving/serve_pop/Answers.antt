@@ -10,13 +10,13 @@ not_both : (b : Bool) → IsTrue b → b ≡ false → ⊥
 not_both b is apart = cc
 
 pub returns-in_err-session-clause-lawful : goal.returns-in_err-session-clause-lawful
-returns-in_err-session-clause-lawful g c surrogate is =
-    greeting_fails surrogate c.args.desk.now.store c.args.desk.now.limits.session_max (g.W.Wire.tells c.args.wire.now) (g.W.Wire.tells c.start.new.wire) (c.in_err-session.ensures.gives surrogate)
+returns-in_err-session-clause-lawful g c meanings is =
+    greeting_fails meanings c.args.desk.now.store c.args.desk.now.limits.session_max (g.W.Wire.tells c.args.wire.now) (g.W.Wire.tells c.start.new.wire) (c.in_err-session.ensures.gives meanings)
 
 pub loop-taken-init : goal.loop-taken-init
 loop-taken-init g c = record {
-  goes = λ surrogate is. goes_first surrogate c.args.desk.now.store (g.W.Wire.tells c.args.wire.now) (g.W.Wire.tells c.start.new.wire) c.in_ok-session.session
-      (c.in_ok-session.ensures.gives surrogate) (c.in_ok-session.ensures.stands c.args.desk.now.store) c.in_ok-session.ensures.rest;
+  goes = λ meanings is. goes_first meanings c.args.desk.now.store (g.W.Wire.tells c.args.wire.now) (g.W.Wire.tells c.start.new.wire) c.in_ok-session.session
+      (c.in_ok-session.ensures.gives meanings) (c.in_ok-session.ensures.stands c.args.desk.now.store) c.in_ok-session.ensures.rest;
   ready = c.in_ok-session.ensures.ready c.args.desk.now.store;
   open_still = starts_open c.in_ok-session.session c.args.desk.now.store (c.in_ok-session.ensures.stands c.args.desk.now.store);
   on = GoesOn-of (g.W.Wire.tells c.args.wire.now) (g.W.Wire.tells c.start.new.wire) c.start.result fault.Wire c.start.ensures.cause;
@@ -27,57 +27,57 @@ loop-taken-init g c = record {
 }
 
 pub returns-in_err-count-clause-lawful : goal.returns-in_err-count-clause-lawful
-returns-in_err-count-clause-lawful g c surrogate is =
-    take_fails surrogate c.args.desk.now.store c.args.desk.now.limits.session_max (g.W.Wire.tells c.args.wire.now) (g.W.Wire.tells c.loop-taken.wire) (g.W.Wire.tells c.take_piece.new.wire) c.loop-taken.session
-    c.loop-taken.desk.store c.loop-taken.taken c.loop-taken.invariant.low (c.loop-taken.invariant.goes surrogate is) c.in_err-count.ensures.fails
+returns-in_err-count-clause-lawful g c meanings is =
+    take_fails meanings c.args.desk.now.store c.args.desk.now.limits.session_max (g.W.Wire.tells c.args.wire.now) (g.W.Wire.tells c.loop-taken.wire) (g.W.Wire.tells c.take_piece.new.wire) c.loop-taken.session
+    c.loop-taken.desk.store c.loop-taken.taken c.loop-taken.invariant.low (c.loop-taken.invariant.goes meanings is) c.in_err-count.ensures.fails
 
 pub returns-then-count-eq0-clause-lawful : goal.returns-then-count-eq0-clause-lawful
-returns-then-count-eq0-clause-lawful g c surrogate is =
-    input_lawfully surrogate c.args.desk.now.store c.args.desk.now.limits.session_max (g.W.Wire.tells c.args.wire.now) (g.W.Wire.tells c.loop-taken.wire) (g.W.Wire.tells c.take_piece.new.wire) c.loop-taken.session
+returns-then-count-eq0-clause-lawful g c meanings is =
+    input_lawfully meanings c.args.desk.now.store c.args.desk.now.limits.session_max (g.W.Wire.tells c.args.wire.now) (g.W.Wire.tells c.loop-taken.wire) (g.W.Wire.tells c.take_piece.new.wire) c.loop-taken.session
     c.loop-taken.desk.store c.loop-taken.taken c.in_ok-count.count c.take_piece.new.into
-    (omega (arith, c.loop-taken.invariant.low, c.in_ok-count.ensures.bound, c.min-room.ensures, c.take_piece.auto.into, length-take {A = ℕ})) c.in_ok-count.ensures.bound (c.loop-taken.invariant.goes surrogate is) c.in_ok-count.ensures.takes
+    (omega (arith, c.loop-taken.invariant.low, c.in_ok-count.ensures.bound, c.min-room.ensures, c.take_piece.auto.into, length-take {A = ℕ})) c.in_ok-count.ensures.bound (c.loop-taken.invariant.goes meanings is) c.in_ok-count.ensures.takes
 
 pub returns-then-count-eq0-clause-ended : goal.returns-then-count-eq0-clause-ended
-returns-then-count-eq0-clause-ended g c ok surrogate is =
-    input_ends surrogate c.args.desk.now.store (g.W.Wire.tells c.args.wire.now) (g.W.Wire.tells c.loop-taken.wire) (g.W.Wire.tells c.take_piece.new.wire) c.loop-taken.session
-    c.loop-taken.desk.store c.loop-taken.taken c.args.desk.now.limits.session_max c.in_ok-count.count c.take_piece.new.into (c.loop-taken.invariant.goes surrogate is)
+returns-then-count-eq0-clause-ended g c ok meanings is =
+    input_ends meanings c.args.desk.now.store (g.W.Wire.tells c.args.wire.now) (g.W.Wire.tells c.loop-taken.wire) (g.W.Wire.tells c.take_piece.new.wire) c.loop-taken.session
+    c.loop-taken.desk.store c.loop-taken.taken c.args.desk.now.limits.session_max c.in_ok-count.count c.take_piece.new.into (c.loop-taken.invariant.goes meanings is)
     c.in_ok-count.ensures.takes c.if-count-eq0.true c.loop-taken-test.true
 
 pub returns-in_err-session-2-clause-lawful : goal.returns-in_err-session-2-clause-lawful
-returns-in_err-session-2-clause-lawful g c surrogate is =
-    not_fed surrogate c.args.desk.now.store c.args.desk.now.limits.session_max (g.W.Wire.tells c.args.wire.now) (g.W.Wire.tells c.loop-taken.wire) (g.W.Wire.tells c.take_piece.new.wire) (g.W.Wire.tells c.feed.new.wire)
+returns-in_err-session-2-clause-lawful g c meanings is =
+    not_fed meanings c.args.desk.now.store c.args.desk.now.limits.session_max (g.W.Wire.tells c.args.wire.now) (g.W.Wire.tells c.loop-taken.wire) (g.W.Wire.tells c.take_piece.new.wire) (g.W.Wire.tells c.feed.new.wire)
     c.loop-taken.session c.loop-taken.desk.store c.loop-taken.taken c.in_ok-count.count c.take_piece.new.into _
-    (omega (arith, c.loop-taken.invariant.low, c.in_ok-count.ensures.bound, c.min-room.ensures, c.take_piece.auto.into, length-take {A = ℕ})) (c.loop-taken.invariant.goes surrogate is) c.in_ok-count.ensures.takes c.in_ok-count.ensures.bound
-    (take-append-le c.in_ok-count.count c.take_piece.new.into (drop c.min-room.result c.loop-taken.piece) c.in_ok-count.ensures.bound) (c.in_err-session-2.ensures.gives surrogate is)
+    (omega (arith, c.loop-taken.invariant.low, c.in_ok-count.ensures.bound, c.min-room.ensures, c.take_piece.auto.into, length-take {A = ℕ})) (c.loop-taken.invariant.goes meanings is) c.in_ok-count.ensures.takes c.in_ok-count.ensures.bound
+    (take-append-le c.in_ok-count.count c.take_piece.new.into (drop c.min-room.result c.loop-taken.piece) c.in_ok-count.ensures.bound) (c.in_err-session-2.ensures.gives meanings is)
 
 pub returns-then-ended-clause-lawful : goal.returns-then-ended-clause-lawful
-returns-then-ended-clause-lawful g c surrogate is =
-    goes_lawfully surrogate c.args.desk.now.store c.args.desk.now.limits.session_max (g.W.Wire.tells c.args.wire.now) (g.W.Wire.tells c.feed.new.wire) c.in_ok-session-2.session c.feed.new.store _
+returns-then-ended-clause-lawful g c meanings is =
+    goes_lawfully meanings c.args.desk.now.store c.args.desk.now.limits.session_max (g.W.Wire.tells c.args.wire.now) (g.W.Wire.tells c.feed.new.wire) c.in_ok-session-2.session c.feed.new.store _
     (omega (arith, c.loop-taken.invariant.low, c.in_ok-count.ensures.bound, c.min-room.ensures, c.take_piece.auto.into, length-take {A = ℕ}))
-    (fed surrogate c.args.desk.now.store (g.W.Wire.tells c.args.wire.now) (g.W.Wire.tells c.loop-taken.wire) (g.W.Wire.tells c.take_piece.new.wire) (g.W.Wire.tells c.feed.new.wire)
+    (fed meanings c.args.desk.now.store (g.W.Wire.tells c.args.wire.now) (g.W.Wire.tells c.loop-taken.wire) (g.W.Wire.tells c.take_piece.new.wire) (g.W.Wire.tells c.feed.new.wire)
     c.loop-taken.session c.in_ok-session-2.session c.loop-taken.desk.store c.feed.new.store c.loop-taken.taken c.in_ok-count.count c.take_piece.new.into _
-    (c.loop-taken.invariant.goes surrogate is) c.in_ok-count.ensures.takes c.in_ok-count.ensures.bound
+    (c.loop-taken.invariant.goes meanings is) c.in_ok-count.ensures.takes c.in_ok-count.ensures.bound
     (take-append-le c.in_ok-count.count c.take_piece.new.into (drop c.min-room.result c.loop-taken.piece) c.in_ok-count.ensures.bound)
-    (c.in_ok-session-2.ensures.gives surrogate is) (c.in_ok-session-2.ensures.fit surrogate is) (c.in_ok-session-2.ensures.stands surrogate is))
+    (c.in_ok-session-2.ensures.gives meanings is) (c.in_ok-session-2.ensures.fit meanings is) (c.in_ok-session-2.ensures.stands meanings is))
 
 pub returns-then-ended-clause-ended : goal.returns-then-ended-clause-ended
-returns-then-ended-clause-ended g c ok surrogate is =
-    session_ends surrogate c.args.desk.now.store (g.W.Wire.tells c.args.wire.now) (g.W.Wire.tells c.feed.new.wire) c.in_ok-session-2.session c.feed.new.store _ c.args.desk.now.limits.session_max
+returns-then-ended-clause-ended g c ok meanings is =
+    session_ends meanings c.args.desk.now.store (g.W.Wire.tells c.args.wire.now) (g.W.Wire.tells c.feed.new.wire) c.in_ok-session-2.session c.feed.new.store _ c.args.desk.now.limits.session_max
     (omega (arith, c.loop-taken.invariant.low, c.in_ok-count.ensures.bound, c.min-room.ensures, c.take_piece.auto.into, length-take {A = ℕ}))
-    (fed surrogate c.args.desk.now.store (g.W.Wire.tells c.args.wire.now) (g.W.Wire.tells c.loop-taken.wire) (g.W.Wire.tells c.take_piece.new.wire) (g.W.Wire.tells c.feed.new.wire)
+    (fed meanings c.args.desk.now.store (g.W.Wire.tells c.args.wire.now) (g.W.Wire.tells c.loop-taken.wire) (g.W.Wire.tells c.take_piece.new.wire) (g.W.Wire.tells c.feed.new.wire)
     c.loop-taken.session c.in_ok-session-2.session c.loop-taken.desk.store c.feed.new.store c.loop-taken.taken c.in_ok-count.count c.take_piece.new.into _
-    (c.loop-taken.invariant.goes surrogate is) c.in_ok-count.ensures.takes c.in_ok-count.ensures.bound
+    (c.loop-taken.invariant.goes meanings is) c.in_ok-count.ensures.takes c.in_ok-count.ensures.bound
     (take-append-le c.in_ok-count.count c.take_piece.new.into (drop c.min-room.result c.loop-taken.piece) c.in_ok-count.ensures.bound)
-    (c.in_ok-session-2.ensures.gives surrogate is) (c.in_ok-session-2.ensures.fit surrogate is) (c.in_ok-session-2.ensures.stands surrogate is))
+    (c.in_ok-session-2.ensures.gives meanings is) (c.in_ok-session-2.ensures.fit meanings is) (c.in_ok-session-2.ensures.stands meanings is))
     (c.ended.ensures.0 c.if-ended.true)
 
 pub loop-taken-preserved : goal.loop-taken-preserved
 loop-taken-preserved g c = record {
-  goes = λ surrogate is. fed surrogate c.args.desk.now.store (g.W.Wire.tells c.args.wire.now) (g.W.Wire.tells c.loop-taken.wire) (g.W.Wire.tells c.take_piece.new.wire) (g.W.Wire.tells c.feed.new.wire)
+  goes = λ meanings is. fed meanings c.args.desk.now.store (g.W.Wire.tells c.args.wire.now) (g.W.Wire.tells c.loop-taken.wire) (g.W.Wire.tells c.take_piece.new.wire) (g.W.Wire.tells c.feed.new.wire)
       c.loop-taken.session c.in_ok-session-2.session c.loop-taken.desk.store c.feed.new.store c.loop-taken.taken c.in_ok-count.count c.take_piece.new.into _
-      (c.loop-taken.invariant.goes surrogate is) c.in_ok-count.ensures.takes c.in_ok-count.ensures.bound
+      (c.loop-taken.invariant.goes meanings is) c.in_ok-count.ensures.takes c.in_ok-count.ensures.bound
       (take-append-le c.in_ok-count.count c.take_piece.new.into (drop c.min-room.result c.loop-taken.piece) c.in_ok-count.ensures.bound)
-      (c.in_ok-session-2.ensures.gives surrogate is) (c.in_ok-session-2.ensures.fit surrogate is) (c.in_ok-session-2.ensures.stands surrogate is);
+      (c.in_ok-session-2.ensures.gives meanings is) (c.in_ok-session-2.ensures.fit meanings is) (c.in_ok-session-2.ensures.stands meanings is);
   ready = c.in_ok-session-2.ensures.ready;
   open_still = λ is. let at_end = c.ended.ensures.1 is in let apart = c.if-ended.false in not_both c.ended.result at_end apart;
   on = GoesOn-trans (g.W.Wire.tells c.args.wire.now) (g.W.Wire.tells c.take_piece.new.wire) (g.W.Wire.tells c.feed.new.wire)
@@ -91,12 +91,12 @@ loop-taken-preserved g c = record {
 }
 
 pub returns-clause-lawful : goal.returns-clause-lawful
-returns-clause-lawful g c surrogate is =
-    goes_lawfully surrogate c.args.desk.now.store c.args.desk.now.limits.session_max (g.W.Wire.tells c.args.wire.now) (g.W.Wire.tells c.loop-taken.wire) c.loop-taken.session c.loop-taken.desk.store c.loop-taken.taken
-    c.loop-taken.invariant.low (c.loop-taken.invariant.goes surrogate is)
+returns-clause-lawful g c meanings is =
+    goes_lawfully meanings c.args.desk.now.store c.args.desk.now.limits.session_max (g.W.Wire.tells c.args.wire.now) (g.W.Wire.tells c.loop-taken.wire) c.loop-taken.session c.loop-taken.desk.store c.loop-taken.taken
+    c.loop-taken.invariant.low (c.loop-taken.invariant.goes meanings is)
 
 pub returns-clause-limit : goal.returns-clause-limit
-returns-clause-limit g c ok surrogate is =
-    limit_reached surrogate c.args.desk.now.store (g.W.Wire.tells c.args.wire.now) (g.W.Wire.tells c.loop-taken.wire) c.loop-taken.session c.loop-taken.desk.store c.loop-taken.taken
-    c.args.desk.now.limits.session_max (c.loop-taken.invariant.goes surrogate is) c.loop-taken.invariant.open_still
+returns-clause-limit g c ok meanings is =
+    limit_reached meanings c.args.desk.now.store (g.W.Wire.tells c.args.wire.now) (g.W.Wire.tells c.loop-taken.wire) c.loop-taken.session c.loop-taken.desk.store c.loop-taken.taken
+    c.args.desk.now.limits.session_max (c.loop-taken.invariant.goes meanings is) c.loop-taken.invariant.open_still
     (omega (arith, c.loop-taken.invariant.low, c.loop-taken-test.false))

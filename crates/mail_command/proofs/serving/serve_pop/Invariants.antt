@@ -1,6 +1,6 @@
 use Rattle.std.proofs.Common.{◌≡◌, ◌≤◌, ◌-◌}
 use Rattle.mail_wire.specs.Moves.{GoesOn}
-use Rattle.surrogate_cache.specs.Served.{WithSurrogates}
+use Rattle.surrogate_cache.specs.Served.{WithMeanings}
 use Rattle.pop_session.specs.Session.{IsReady, session_state}
 use Rattle.pop_session.specs.Machine.{ended}
 use Rattle.mail_command.proofs.PopServing.{Goes}
@@ -8,7 +8,7 @@ use Rattle.mail_command.proofs.serving.serve_pop.Given as goal
 
 abbrev pub invariant-loop-taken : goal.invariant-loop-taken
 invariant-loop-taken g l = record {
-  goes : WithSurrogates (λ surrogate. Goes surrogate l.initial.desk.store (g.W.Wire.tells l.fn.wire) (g.W.Wire.tells l.wire) l.session l.desk.store l.taken);
+  goes : WithMeanings (λ meanings. Goes meanings l.initial.desk.store (g.W.Wire.tells l.fn.wire) (g.W.Wire.tells l.wire) l.session l.desk.store l.taken);
   ready : IsReady l.session l.desk.store;
   open_still : session_state l.session ≡ ended → ⊥;
   on : GoesOn (g.W.Wire.tells l.fn.wire) (g.W.Wire.tells l.wire);

@@ -1,4 +1,4 @@
-use Rattle.mail_store.proofs.Readings.{same_records, records_not_bad, records_not_unbuilt, one_bad, one_unbuilt}
+use Rattle.mail_store.proofs.Readings.{same_records, records_not_bad, one_bad}
 use Rattle.mail_store.proofs.laws.one_reading.Goals as goal
 
 pub returns-clause-same : goal.returns-clause-same
@@ -7,11 +7,5 @@ returns-clause-same c = same_records
 pub returns-clause-not_bad : goal.returns-clause-not_bad
 returns-clause-not_bad c = records_not_bad
 
-pub returns-clause-not_unbuilt : goal.returns-clause-not_unbuilt
-returns-clause-not_unbuilt c = records_not_unbuilt
-
 pub returns-clause-one_bad : goal.returns-clause-one_bad
 returns-clause-one_bad c = one_bad
-
-pub returns-clause-one_unbuilt : goal.returns-clause-one_unbuilt
-returns-clause-one_unbuilt c = one_unbuilt

@@ -1,25 +1,43 @@
-use Rattle.std.proofs.Common.{arith, ◌<◌, length, subst, List, ℕ}
+use Rattle.std.proofs.Common.{◌≡◌, ◌<◌, ℕ, List, Option, length, refl, subst, sym, ◌∙◌, arith}
+use Rattle.std.specs.Prelude.{IfSome}
+use Rattle.address_lists.specs.declared.Address.{Address}
 use Rattle.mail_store.specs.declared.limits.TheConstants.{THINGS_MAX}
-use Rattle.mail_store.specs.Names.{number_of, PutsName}
-use Rattle.mail_store.specs.Store.{kept_of}
-use Rattle.mail_store.proofs.IndexLemmas.{AreIndexes-account_at}
+use Rattle.mail_store.specs.Addresses.{IsTextOf}
+use Rattle.mail_store.specs.Names.{number_of, PutsName, mailbox_key}
+use Rattle.mail_store.specs.Records.{IsAddress}
+use Rattle.mail_store.specs.Store.{kept_of, indexes_of}
+use Rattle.mail_store.proofs.AddressTexts.{false_true, address_missing}
+use Rattle.mail_store.proofs.IndexLemmas.{AreIndexes-account}
 use Rattle.mail_store.proofs.storing.Store.add_account_record.Goals as goal
 
 pub invariant_of-self-2 : goal.invariant_of-self-2
 invariant_of-self-2 c =
-    let checked = c.account_fits.ensures.0 c.if-not-account_fits.false in
-    let more : length c.self.inside.accounts.items < THINGS_MAX = omega (arith, c.len-account.ensures, checked.2) in
-    let room : length c.self.inside.folders.items < THINGS_MAX = omega (arith, c.len-folder.ensures, checked.3) in
-    let puts : PutsName (number_of c.self.inside.names) (number_of c.put_first.new.numbers) c.as_slice-4.result.now c.len-account.result = c.in_ok-put_first.ensures.ok in
-    let named = subst (λ (k : List ℕ). PutsName (number_of c.self.inside.names) (number_of c.put_first.new.numbers) k c.len-account.result) c.as_slice-4.ensures puts in
-    rw (
-      c.push_reserved.ensures,
-      c.push_reserved-2.ensures,
-      c.push_reserved-3.ensures,
-      c.push_reserved-4.ensures,
-      c.in_ok-reserve.ensures.items,
-      c.in_ok-reserve-2.ensures.items,
-      c.in_ok-reserve-3.ensures.items,
-      c.in_ok-reserve-4.ensures.items,
-      c.new.ensures,
-    ) (AreIndexes-account_at (kept_of c.self.inside) c.self.inside.contents.items c.self.inside.inboxes.items (number_of c.self.inside.names) (number_of c.put_first.new.numbers) (record { address = c.args.address; password = c.args.password }) c.in_ok-name.name c.len-account.result c.len-folder.result c.self.invariant more room named (omega (arith, c.len-account.ensures)) (omega (arith, c.len-folder.ensures)))
+    let fits = c.account_fits.ensures.0 c.if-not-account_fits.false in
+    let account : c.len-account.result ≡ length c.self.inside.accounts.items = omega (arith, c.len-account.ensures) in
+    let folder : c.len-folder.result ≡ length c.self.inside.folders.items = omega (arith, c.len-folder.ensures) in
+    let more : length c.self.inside.accounts.items < THINGS_MAX = omega (arith, account, fits.2) in
+    let room : length c.self.inside.folders.items < THINGS_MAX = omega (arith, folder, fits.3) in
+    let own = c.in-Some.own in
+    let text : IsTextOf c.args.address own = subst (λ (t : List ℕ). IsTextOf t own) c.as_slice-3.ensures (subst (λ (o : Option Address). IfSome o (IsTextOf c.as_slice-3.result.now)) c.in-Some.is c.in_ok-own.ensures.some) in
+    let after = number_of c.put_first.new.numbers in
+    let puts : PutsName (number_of c.self.inside.mailboxes) after (mailbox_key own) (length c.self.inside.accounts.items) =
+    subst (λ (key : List ℕ). PutsName (number_of c.self.inside.mailboxes) after key (length c.self.inside.accounts.items)) (c.as_slice-4.ensures ∙ c.in_ok-key.ensures) (subst (PutsName (number_of c.self.inside.mailboxes) after c.as_slice-4.result.now) account c.in_ok-put_first.ensures.ok) in
+    record {
+      indexes = rw (
+        c.push_reserved.ensures.items,
+        c.push_reserved-2.ensures.items,
+        c.push_reserved-3.ensures.items,
+        c.push_reserved-4.ensures.items,
+        c.in_ok-reserve.ensures.items,
+        c.in_ok-reserve-2.ensures.items,
+        c.in_ok-reserve-3.ensures.items,
+        c.in_ok-reserve-4.ensures.items,
+        account,
+        folder,
+      ) (AreIndexes-account (kept_of c.self.inside) (indexes_of c.self.inside) after (record { address = c.args.address; password = c.args.password }) own c.in_ok-name.name c.self.invariant.indexes text more room puts);
+      message_bound = c.self.invariant.message_bound;
+    }
+
+pub returns-in_default : goal.returns-in_default
+returns-in_default c =
+    (λ h. false_true ((address_missing c.as_slice-3.result.now c.in_ok-own.field-0 c.in_default.is c.in_ok-own.ensures.none).1 (subst IsAddress (sym c.as_slice-3.ensures) h.0)), refl)

@@ -1,0 +1,153 @@
+-- What is kept after a delivery.
+use Rattle.std.proofs.Common.{◌≡◌, ◌⊎◌, ℕ, ◌+◌, ◌<◌, ◌≤◌, false, ◌||◌, eqb, List, [], ◌∷◌, ◌++◌, length, map, Option, Some, None, refl, sym, ap, subst, ◌∙◌, arith, inl, inr, append-nil}
+use Rattle.std.specs.List.{flat_map, All}
+use Rattle.std.specs.Prelude.{IfSome}
+use Rattle.std.specs.Option.{option_to_list, option_and_then}
+use Rattle.std.proofs.lemmas.List.{length-map}
+use Rattle.std.proofs.lemmas.List.Elements.{All-map}
+use Rattle.std.proofs.lemmas.Bool.{cases_Bool}
+use Rattle.address_lists.specs.Addresses.{address_text}
+use Rattle.mail_wire.specs.Keeping.{with_last}
+use Rattle.mail_store.specs.declared.contents.Content.{Content}
+use Rattle.mail_store.specs.declared.delivery.Delivery.{Delivery}
+use Rattle.mail_store.specs.declared.kept.Entry.{Entry}
+use Rattle.mail_store.specs.declared.kept.Message.{Message}
+use Rattle.mail_store.specs.declared.limits.TheConstants.{THINGS_MAX}
+use Rattle.mail_store.specs.declared.records.Record.{Record}
+use Rattle.mail_store.specs.declared.records.Record.TheVariants as records
+use Rattle.mail_store.specs.Chains.{AreChained}
+use Rattle.mail_store.specs.Changing.{delivered, path_text, queued, copy_for, inboxes_of, has_large_octets, has_many_things}
+use Rattle.mail_store.specs.Delivering.{copied, entry_of}
+use Rattle.mail_store.specs.Kept.{Kept, after_all, waiting}
+use Rattle.mail_store.specs.Records.{AreRecords, recipient_count}
+use Rattle.mail_store.specs.Spelling.{record_text}
+use Rattle.mail_store.specs.Stored.{IsStored}
+use Rattle.mail_store.specs.StoreState.{StoreState, with_records, Indexes, AreIndexes}
+use Rattle.mail_store.proofs.AccountLemmas.{or_parts}
+use Rattle.mail_store.proofs.ChangeLemmas.{after_all-append, with_nothing}
+use Rattle.mail_store.proofs.DeliveryLemmas.{after-copies, copies_few, queue-room}
+use Rattle.mail_store.proofs.IndexLemmas.{AreIndexes-messages, AreIndexes-entry}
+
+-- ---- where nothing is written
+
+-- a record has a text
+text-none : (all : List Record) → flat_map record_text all ≡ [] → all ≡ []
+text-none [] e = refl
+text-none (one ∷ all) e = absurd (cc e)
+
+-- a delivery without a text leaves all as it is
+pub changes-nothing : (now : StoreState) (had : Option (List ℕ)) (all : List Record) (text : List ℕ) → text ≡ flat_map record_text all → text ≡ []
+    → AreRecords now.kept all × (now ≡ with_records now all) × (had ≡ with_last had (flat_map record_text all))
+changes-nothing now had all text is none =
+    let nobody : all ≡ [] = text-none all (sym is ∙ none) in
+    rw nobody (tt, refl, with_nothing had)
+
+-- ---- the entry
+
+to_none : (one : Option Record) → option_to_list one ≡ [] → one ≡ None
+to_none None e = refl
+to_none (Some one) e = absurd (cc e)
+
+to_some : (one : Option Record) (x : Record) → option_to_list one ≡ x ∷ [] → one ≡ Some x
+to_some None x e = absurd (cc e)
+to_some (Some one) x e = cc
+
+-- the record of a message that waits, and its entry
+abbrev record_made : Delivery → Record
+record_made delivery = records.Queue (path_text delivery.path) (map address_text delivery.remote) delivery.remote_octets
+
+abbrev entry_made : Delivery → Entry
+entry_made delivery = record { path = path_text delivery.path; recipients = map waiting (map address_text delivery.remote); octets = delivery.remote_octets }
+
+-- there is an entry exactly where there are remote recipients
+entry-cases : (delivery : Delivery) (one : Option Record) (entry : Option Entry) → option_to_list one ≡ queued delivery → entry ≡ option_and_then entry_of one
+    → ((queued delivery ≡ []) × (entry ≡ None))
+    ⊎ ((eqb (length delivery.remote) 0 ≡ false) × (queued delivery ≡ record_made delivery ∷ []) × (entry ≡ Some (entry_made delivery)))
+entry-cases delivery one entry is e =
+    elim (cases_Bool (eqb (length delivery.remote) 0)) [
+      | inl none ↦
+          let nobody : queued delivery ≡ [] = rw none refl in
+          inl (nobody, e ∙ ap (option_and_then entry_of) (to_none one (is ∙ nobody)))
+      | inr some ↦
+          let made : queued delivery ≡ record_made delivery ∷ [] = rw some refl in
+          inr (some, made, e ∙ ap (option_and_then entry_of) (to_some one (record_made delivery) (is ∙ made)))
+    ]
+
+-- an entry has room, and its recipients have
+abbrev HasEntryRoom : Kept → Entry → Type 0
+HasEntryRoom kept entry = (length kept.entries < THINGS_MAX) × (recipient_count kept.entries + length entry.recipients ≤ THINGS_MAX)
+
+entry-room : (kept : Kept) (max : ℕ) (delivery : Delivery) (one : Option Record) (entry : Option Entry) → (has_large_octets max delivery || has_many_things kept delivery) ≡ false
+    → option_to_list one ≡ queued delivery → entry ≡ option_and_then entry_of one → IfSome entry (HasEntryRoom kept)
+entry-room kept max delivery one entry small is e =
+    elim (entry-cases delivery one entry is e) [
+      | inl none ↦ rw none.1 tt
+      | inr some ↦
+          let many = (or_parts (has_large_octets max delivery) (has_many_things kept delivery) small).1 in
+          let rooms = queue-room kept delivery many some.0 in
+          let texts = length-map delivery.remote address_text in
+          let count = length-map (map address_text delivery.remote) waiting in
+          let room : HasEntryRoom kept (entry_made delivery) = (rooms.0, omega (arith, rooms.1, texts, count)) in
+          rw some.2 room
+    ]
+
+few-recipients : (kept : Kept) (i : Indexes) (entry : Option Entry) → AreIndexes kept i → IfSome entry (HasEntryRoom kept)
+    → i.recipients + recipient_count (option_to_list entry) ≤ THINGS_MAX
+few-recipients kept i None x room = omega (arith, x.few.recipients, x.recipients_is)
+few-recipients kept i (Some entry) x room = omega (arith, room.1, x.recipients_is)
+
+-- the recipients aren't too many
+pub entry-few : (kept : Kept) (i : Indexes) (max : ℕ) (delivery : Delivery) (one : Option Record) (entry : Option Entry) → AreIndexes kept i
+    → (has_large_octets max delivery || has_many_things kept delivery) ≡ false → option_to_list one ≡ queued delivery → entry ≡ option_and_then entry_of one
+    → i.recipients + recipient_count (option_to_list entry) ≤ THINGS_MAX
+entry-few kept i max delivery one entry x small is e = few-recipients kept i entry x (entry-room kept max delivery one entry small is e)
+
+-- ---- the indexes
+
+-- those of a store that has an entry more, where there is one
+indexes-entry : (kept : Kept) (i : Indexes) (entry : Option Entry) → AreIndexes kept i → IfSome entry (HasEntryRoom kept)
+    → AreIndexes (record kept { entries = kept.entries ++ option_to_list entry }) (record i { recipients = i.recipients + recipient_count (option_to_list entry) })
+indexes-entry kept i None x room =
+    let none : i.recipients + recipient_count [] ≡ i.recipients = omega arith in
+    rw (append-nil kept.entries, none) x
+indexes-entry kept i (Some entry) x room =
+    let count : recipient_count (entry ∷ []) ≡ length entry.recipients = omega arith in
+    rw count (AreIndexes-entry kept i entry x room.0 room.1)
+
+pub AreIndexes-delivered : (kept : Kept) (i : Indexes) (max : ℕ) (delivery : Delivery) (copies : List Message) (one : Option Record) (entry : Option Entry)
+    (messages : List Message) (entries : List Entry) (contents : List Content) (previous : List (Option ℕ)) (recipients : ℕ) → AreIndexes kept i → IsStored delivery.local_octets
+    → (has_large_octets max delivery || has_many_things kept delivery) ≡ false → copies ≡ map (copied delivery.date delivery.local_octets) (inboxes_of kept delivery.local)
+    → option_to_list one ≡ queued delivery → entry ≡ option_and_then entry_of one → messages ≡ kept.messages ++ copies → entries ≡ kept.entries ++ option_to_list entry
+    → AreChained messages contents previous → length contents ≡ length i.contents → recipients ≡ i.recipients + recipient_count (option_to_list entry)
+    → AreIndexes (record kept { messages = messages; entries = entries }) (record i { contents = contents; previous = previous; recipients = recipients })
+AreIndexes-delivered kept i max delivery copies one entry messages entries contents previous recipients x tree small c is e m n chained count r =
+    let is_stored = λ (message : Message). IsStored message.octets in
+    let stored : All is_stored copies =
+    subst (All is_stored) (sym c) (All-map is_stored (copied delivery.date delivery.local_octets) (inboxes_of kept delivery.local) (λ k d l. tree)) in
+    let first = AreIndexes-messages kept i copies contents previous x stored (copies_few kept max delivery copies small c) (subst (λ l. AreChained l contents previous) m chained) count in
+    rw (m, n, r)
+    (indexes-entry (record kept { messages = kept.messages ++ copies }) (record i { contents = contents; previous = previous }) entry first (entry-room kept max delivery one entry small is e))
+
+-- ---- what is kept
+
+after-queued : (kept : Kept) (delivery : Delivery) (one : Option Record) (entry : Option Entry) → option_to_list one ≡ queued delivery → entry ≡ option_and_then entry_of one
+    → (let new : Kept = record kept { entries = kept.entries ++ option_to_list entry } in new) ≡ after_all kept (queued delivery)
+after-queued kept delivery one entry is e =
+    elim (entry-cases delivery one entry is e) [
+      | inl none ↦ rw (none.0, none.1) (ap (λ es. let new : Kept = record kept { entries = es } in new) (append-nil kept.entries))
+      | inr some ↦ rw (some.1, some.2) refl
+    ]
+
+pub after-delivered : (kept : Kept) (delivery : Delivery) (copies : List Message) (one : Option Record) (entry : Option Entry) (messages : List Message) (entries : List Entry)
+    → copies ≡ map (copied delivery.date delivery.local_octets) (inboxes_of kept delivery.local) → option_to_list one ≡ queued delivery → entry ≡ option_and_then entry_of one
+    → messages ≡ kept.messages ++ copies → entries ≡ kept.entries ++ option_to_list entry
+    → (let new : Kept = record kept { messages = messages; entries = entries } in new) ≡ after_all kept (delivered kept delivery)
+after-delivered kept delivery copies one entry messages entries c is e m n =
+    let folders = inboxes_of kept delivery.local in
+    let put = map (copied delivery.date delivery.local_octets) folders in
+    let first : Kept = record kept { messages = kept.messages ++ put } in
+    let made : (let new : Kept = record kept { messages = messages; entries = entries } in new) ≡ (let new : Kept = record first { entries = first.entries ++ option_to_list entry } in new) =
+    ap (λ l. let new : Kept = record kept { messages = l; entries = entries } in new) (m ∙ ap (λ l. kept.messages ++ l) c)
+    ∙ ap (λ l. let new : Kept = record first { entries = l } in new) n in
+    made ∙ after-queued first delivery one entry is e ∙ ap (λ k. after_all k (queued delivery)) (sym (after-copies kept delivery.date delivery.local_octets folders))
+    ∙ sym (after_all-append kept (map (copy_for delivery.date delivery.local_octets) folders) (queued delivery))

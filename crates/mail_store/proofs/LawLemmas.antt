@@ -1,0 +1,104 @@
+-- What a change leaves, and what a failed append leaves.
+use Rattle.std.proofs.Common.{◌≡◌, ℕ, suc, ◌+◌, ◌-◌, ◌<◌, ◌≤◌, List, [], ◌∷◌, ◌++◌, length, take, Option, Some, refl, sym, ap, subst, ◌∙◌, append_assoc, arith, inl, inr, length-append}
+use Rattle.std.specs.Prelude.{Ok}
+use Rattle.std.specs.List.{flat_map}
+use Rattle.std.proofs.lemmas.List.Concat.{flat_map-cons, flat_map-append}
+use Rattle.std.proofs.lemmas.List.{length-take}
+use Rattle.std.proofs.Math.Seq.{take-append-add, take-nil}
+use Rattle.std.proofs.lemmas.Bool.{cases_lt}
+use Rattle.mail_wire.specs.Keeping.{with_last}
+use Rattle.mail_store.specs.declared.records.Record.{Record}
+use Rattle.mail_store.specs.Changing.{IsStoreOf, Changes, HoldsFirst}
+use Rattle.mail_store.specs.Kept.{Kept, nothing, after, after_all, store_of}
+use Rattle.mail_store.specs.Opening.{IsCutShort}
+use Rattle.mail_store.specs.Records.{IsRecord, AreRecords}
+use Rattle.mail_store.specs.Spelling.{number, fields_of, record_text, journal, first_octets}
+use Rattle.mail_store.specs.StoreState.{StoreState}
+use Rattle.mail_store.proofs.Next.{some_fields}
+use Rattle.mail_store.proofs.Readings.{first_of}
+
+-- records, and more of them
+AreRecords-append : (kept : Kept) (a b : List Record) → AreRecords kept a → AreRecords (after_all kept a) b → AreRecords kept (a ++ b)
+AreRecords-append kept [] b p q = q
+AreRecords-append kept (x ∷ a) b p q = (p.0, AreRecords-append (after kept x) a b p.1 q)
+
+after_all-append : (kept : Kept) (a b : List Record) → after_all kept (a ++ b) ≡ after_all (after_all kept a) b
+after_all-append kept [] b = refl
+after_all-append kept (x ∷ a) b = after_all-append (after kept x) a b
+
+journal-append : (a b : List Record) → journal (a ++ b) ≡ journal a ++ flat_map record_text b
+journal-append a b = ap (λ (l : List ℕ). first_octets ++ l) (flat_map-append record_text a b) ∙ sym (append_assoc first_octets (flat_map record_text a) (flat_map record_text b))
+
+-- the first octets of some records are whole records and a prefix of one
+record FirstOctets (kept : Kept) (n : ℕ) (more : List Record) : Type 0 where
+  pub count : ℕ
+  pub rest : List ℕ
+  pub text : take n (flat_map record_text more) ≡ flat_map record_text (take count more) ++ rest
+  pub records : AreRecords kept (take count more)
+  pub cut_short : IsCutShort rest
+
+-- more of two lists than the first has
+take-append-ge : (xs ys : List ℕ) (n : ℕ) → length xs ≤ n → take n (xs ++ ys) ≡ xs ++ take (n - length xs) ys
+take-append-ge xs ys n le =
+    let split : n ≡ length xs + (n - length xs) = omega arith in
+    ap (λ (k : ℕ). take k (xs ++ ys)) split ∙ take-append-add xs ys (n - length xs)
+
+-- a proper prefix of a record is a prefix of a record
+cut_one : (kept : Kept) (x : Record) (behind : List ℕ) (n : ℕ) → IsRecord kept x → n < length (record_text x) → IsCutShort (take n (record_text x ++ behind))
+cut_one kept x behind n p less =
+    elim (cases_lt n 4) [
+      | inl few ↦ inl (omega (arith, length-take n (record_text x ++ behind)))
+      | inr enough ↦
+          let body = fields_of x in
+          let held = take (n - 4) (body ++ behind) in
+          let head : take n (number (length body) ++ (body ++ behind)) ≡ number (length body) ++ held = take-append-ge (number (length body)) (body ++ behind) n enough in
+          let fewer : length held < length body = omega (arith, length-take (n - 4) (body ++ behind), length-append (number (length body)) body) in
+          inr (length body, held, some_fields x, p.short, fewer, ap (take n) (append_assoc (number (length body)) body behind) ∙ head)
+    ]
+
+first_octets_of : (kept : Kept) (n : ℕ) (more : List Record) → AreRecords kept more → FirstOctets kept n more
+first_octets_of kept n [] p = record { count = 0; rest = []; text = take-nil n; records = tt; cut_short = inl (omega arith) }
+first_octets_of kept n (x ∷ more) p =
+    let whole = flat_map-cons record_text x more in
+    elim (cases_lt n (length (record_text x))) [
+      | inl less ↦ record {
+        count = 0;
+        rest = take n (flat_map record_text (x ∷ more));
+        text = refl;
+        records = tt;
+        cut_short = subst IsCutShort (ap (take n) (sym whole)) (cut_one kept x (flat_map record_text more) n p.0 less);
+      }
+      | inr enough ↦
+          let f = first_octets_of (after kept x) (n - length (record_text x)) more p.1 in
+          record {
+            count = suc f.count;
+            rest = f.rest;
+            text =
+                ap (take n) whole ∙ take-append-ge (record_text x) (flat_map record_text more) n enough ∙ ap (λ (l : List ℕ). record_text x ++ l) f.text ∙ sym (first_of x (take f.count more) f.rest);
+            records = (p.0, f.records);
+            cut_short = f.cut_short;
+          }
+    ]
+
+-- what a call changed is put last in the store and in the keeper
+pub grown : {T : Type 0} (old new : StoreState) (had has : Option (List ℕ)) (all more : List Record) (done : T) → IsStoreOf old had all → Changes old new had has (Ok done) more → IsStoreOf new has (all ++ more)
+grown old new had has all more done s c = record {
+  records = AreRecords-append nothing all more s.records (subst (λ (k : Kept). AreRecords k more) s.kept_is c.0);
+  kept_is = ap (λ (x : StoreState). x.kept) c.1 ∙ ap (λ (k : Kept). after_all k more) s.kept_is ∙ sym (after_all-append nothing all more);
+  holds = c.2 ∙ ap (λ (o : Option (List ℕ)). with_last o (flat_map record_text more)) s.holds ∙ ap (λ (l : List ℕ). Some l) (sym (journal-append all more));
+}
+
+-- a first part of the new octets opens with the first of the new records
+pub left_behind : (old new : StoreState) (had has : Option (List ℕ)) (all more : List Record) (n : ℕ) → IsStoreOf old had all → AreRecords old.kept more
+    → has ≡ with_last had (take n (flat_map record_text more)) → HoldsFirst has all more
+left_behind old new had has all more n s p e =
+    let f = first_octets_of (store_of all) n more (subst (λ (k : Kept). AreRecords k more) s.kept_is p) in
+    let octets = journal all ++ take n (flat_map record_text more) in
+    let text : octets ≡ journal (all ++ take f.count more) ++ f.rest =
+    ap (λ (l : List ℕ). journal all ++ l) f.text ∙ sym (append_assoc (journal all) (flat_map record_text (take f.count more)) f.rest) ∙ ap (λ (l : List ℕ). l ++ f.rest) (sym (journal-append all (take f.count more))) in
+    record {
+      kept = octets;
+      count = f.count;
+      holds = e ∙ ap (λ (o : Option (List ℕ)). with_last o (take n (flat_map record_text more))) s.holds;
+      records = inr (f.rest, record { text = text; records = AreRecords-append nothing all (take f.count more) s.records f.records }, f.cut_short);
+    }

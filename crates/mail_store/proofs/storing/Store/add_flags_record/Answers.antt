@@ -1,0 +1,11 @@
+use Rattle.mail_store.specs.Kept.{change_at, with_flags}
+use Rattle.mail_store.specs.Store.{kept_of, indexes_of}
+use Rattle.mail_store.proofs.SameMessages.{AreSameMessages-flags}
+use Rattle.mail_store.proofs.IndexLemmas.{AreIndexes-changed}
+use Rattle.mail_store.proofs.storing.Store.add_flags_record.Goals as goal
+
+pub invariant_of-self : goal.invariant_of-self
+invariant_of-self c = record {
+  indexes = rw c.put_flags.ensures (AreIndexes-changed (kept_of c.self.inside) (indexes_of c.self.inside) (change_at (with_flags c.args.flags) c.self.inside.messages.items c.args.message) c.self.invariant.indexes (AreSameMessages-flags c.args.flags c.self.inside.messages.items c.args.message));
+  message_bound = c.self.invariant.message_bound;
+}

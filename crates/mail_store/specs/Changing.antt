@@ -1,0 +1,159 @@
+-- What a call that changes a store does, by its answer.
+use Rattle.std.specs.Prelude.{◌≡◌, ℕ, ◌+◌, ◌<◌, ◌≤◌, List, [], ◌∷◌, ◌++◌, length, take, map, Bool, true, false, ◌||◌, ◌&&◌, ◌==◌, not, nat_lt, Option, Some, None, is_some, unwrap_or, Result, Ok, Err, slice_get, IfSome, if◌then◌else◌}
+use Rattle.std.specs.List.{All, flat_map, list_all}
+use Rattle.std.specs.Option.{option_map_or}
+use Rattle.mail_wire.specs.Keeping.{with_last}
+use Rattle.address_lists.specs.declared.Address.{Address}
+use Rattle.address_lists.specs.Addresses.{address_text}
+use Rattle.address_lists.specs.Paths.{ComesInPath}
+use Rattle.mail_store.specs.declared.changing.StoreFault.{StoreFault}
+use Rattle.mail_store.specs.declared.changing.StoreFault.TheVariants as faults
+use Rattle.mail_store.specs.declared.delivery.Delivery.{Delivery}
+use Rattle.mail_store.specs.declared.kept.Message.{Message}
+use Rattle.mail_store.specs.declared.limits.TheConstants.{THINGS_MAX, TEXT_MAX, RECORD_MAX, RECIPIENTS_MAX}
+use Rattle.mail_store.specs.declared.records.Record.{Record}
+use Rattle.mail_store.specs.declared.records.Record.TheVariants as records
+use Rattle.mail_store.specs.Grammar.{IsDate}
+use Rattle.mail_store.specs.Kept.{Kept, nothing, store_of, inbox_of, find_account, is_local}
+use Rattle.mail_store.specs.Opening.{HasRecords}
+use Rattle.mail_store.specs.Records.{AreRecords, recipient_count}
+use Rattle.mail_store.specs.Spelling.{record_text, journal, fields_of, Fits}
+use Rattle.mail_store.specs.Stored.{IsStored}
+use Rattle.mail_store.specs.StoreState.{StoreState, with_records}
+
+-- ---- every changing call
+
+-- At Ok these records, which are such, were put last in the store and, by one call, in the keeper. Where the keeper failed the
+-- store is as before, but that it has failed, and the keeper has a prefix of them, which are such. Else all is as before.
+abbrev pub Changes : {T : Type 0} → StoreState → StoreState → Option (List ℕ) → Option (List ℕ) → Result T StoreFault → List Record → Type 0
+Changes old new had has (Ok done) all =
+    AreRecords old.kept all × (new ≡ with_records old all) × (has ≡ with_last had (flat_map record_text all))
+Changes old new had has (Err faults.Keeper) all =
+    AreRecords old.kept all × (new ≡ record old { failed = true }) × (n : ℕ) × (has ≡ with_last had (take n (flat_map record_text all)))
+Changes old new had has (Err faults.TooLarge) all = (new ≡ old) × (has ≡ had)
+Changes old new had has (Err faults.Exists) all = (new ≡ old) × (has ≡ had)
+Changes old new had has (Err faults.NoSuch) all = (new ≡ old) × (has ≡ had)
+Changes old new had has (Err faults.Memory) all = (new ≡ old) × (has ≡ had)
+
+-- The call is refused exactly so, unless memory was wanted; and only a call that isn't refused comes to the keeper.
+abbrev pub IsRefusedAs : {T : Type 0} → Result T StoreFault → Option StoreFault → Type 0
+IsRefusedAs (Ok done) refusal = refusal ≡ None
+IsRefusedAs (Err faults.Keeper) refusal = refusal ≡ None
+IsRefusedAs (Err faults.Memory) refusal = Unit {0}
+IsRefusedAs (Err faults.Exists) refusal = refusal ≡ Some faults.Exists
+IsRefusedAs (Err faults.NoSuch) refusal = refusal ≡ Some faults.NoSuch
+IsRefusedAs (Err faults.TooLarge) refusal = refusal ≡ Some faults.TooLarge
+
+-- The text was put last in the keeper, or a prefix of it where the keeper failed, which is noted; a word of the private calls.
+abbrev pub Writes : {T : Type 0} → Bool → Bool → Option (List ℕ) → Option (List ℕ) → Result T StoreFault → List ℕ → Type 0
+Writes old new had has (Ok done) text = (new ≡ old) × (has ≡ with_last had text)
+Writes old new had has (Err faults.Keeper) text = (new ≡ true) × (n : ℕ) × (has ≡ with_last had (take n text))
+Writes old new had has (Err faults.Memory) text = (new ≡ old) × (has ≡ had)
+Writes old new had has (Err faults.Exists) text = ⊥
+Writes old new had has (Err faults.NoSuch) text = ⊥
+Writes old new had has (Err faults.TooLarge) text = ⊥
+
+-- it has a spelling within the limit of a record
+abbrev pub IsWritable : Record → Type 0
+IsWritable one = Fits one × (length (fields_of one) ≤ RECORD_MAX)
+
+-- the store is the fold of these records, and the keeper holds their journal
+pub record IsStoreOf (store : StoreState) (octets : Option (List ℕ)) (all : List Record) : Type 0 where
+  pub records : AreRecords nothing all
+  pub kept_is : store.kept ≡ store_of all
+  pub holds : octets ≡ Some (journal all)
+
+-- the keeper has octets that open with all the old records and the first of the new ones
+pub record HoldsFirst (octets : Option (List ℕ)) (all more : List Record) : Type 0 where
+  pub kept : List ℕ
+  pub count : ℕ
+  pub holds : octets ≡ Some kept
+  pub records : HasRecords kept (all ++ take count more)
+
+-- ---- refusals
+
+-- so many more things of a kind would pass its limit
+abbrev pub are_too_many : ℕ → ℕ → Bool
+are_too_many count more = nat_lt THINGS_MAX (count + more)
+
+-- the domain is there, or there would be too many
+abbrev pub domain_refusal : Kept → List ℕ → Option StoreFault
+domain_refusal kept domain =
+    if is_local kept domain then Some faults.Exists
+    else if are_too_many (length kept.domains) 1 then Some faults.TooLarge
+    else None
+
+-- An account of the mailbox is there, the domain isn't, or there would be too many. An account brings its INBOX.
+abbrev pub account_refusal : (List ℕ → Option (Option Address)) → Kept → Address → Option StoreFault
+account_refusal path_of kept address =
+    if is_some (find_account path_of kept address) then Some faults.Exists
+    else if not (is_local kept address.domain) then Some faults.NoSuch
+    else if are_too_many (length kept.accounts) 1 || are_too_many (length kept.folders) 1 then Some faults.TooLarge
+    else None
+
+-- ---- deliver
+
+-- an address that a path may have, within its limit
+abbrev pub IsSendable : Address → Type 0
+IsSendable address = ComesInPath address × (length (address_text address) ≤ TEXT_MAX)
+
+-- the accounts are there, the date is one, the octets have trees, and the addresses are such and not too many
+pub record IsDeliverable (store : StoreState) (delivery : Delivery) : Type 0 where
+  pub known : All (λ account. account < length store.kept.accounts) delivery.local
+  pub dated : IsDate delivery.date
+  pub local_tree : IsStored delivery.local_octets
+  pub remote_tree : IsStored delivery.remote_octets
+  pub path : IfSome delivery.path IsSendable
+  pub addresses : All IsSendable delivery.remote
+  pub few : length delivery.remote ≤ RECIPIENTS_MAX
+
+-- a message without flags for a folder
+abbrev pub copy_for : List ℕ → List ℕ → ℕ → Record
+copy_for date octets folder = records.Message folder 0 date octets
+
+abbrev pub inboxes_of : Kept → List ℕ → List ℕ
+inboxes_of kept accounts = map (λ account. unwrap_or (inbox_of kept account) 0) accounts
+
+-- the text of a path's address; the null path has none
+abbrev pub path_text : Option Address → List ℕ
+path_text None = []
+path_text (Some address) = address_text address
+
+-- a message waits for the remote recipients, where there are any
+abbrev pub queued : Delivery → List Record
+queued delivery =
+    if length delivery.remote == 0 then []
+    else records.Queue (path_text delivery.path) (map address_text delivery.remote) delivery.remote_octets ∷ []
+
+-- one message for the INBOX of each local account, in order, and then one for the queue
+abbrev pub delivered : Kept → Delivery → List Record
+delivered kept delivery = map (copy_for delivery.date delivery.local_octets) (inboxes_of kept delivery.local) ++ queued delivery
+
+-- octets that are to be kept are more than the limit
+abbrev pub has_large_octets : ℕ → Delivery → Bool
+has_large_octets message_max delivery =
+    (not (length delivery.local == 0) && nat_lt message_max (length delivery.local_octets))
+    || (not (length delivery.remote == 0) && nat_lt message_max (length delivery.remote_octets))
+
+-- messages, entries or recipients of the queue would be too many
+abbrev pub has_many_things : Kept → Delivery → Bool
+has_many_things kept delivery =
+    are_too_many (length kept.messages) (length delivery.local)
+    || (not (length delivery.remote == 0)
+    && (are_too_many (length kept.entries) 1 || are_too_many (recipient_count kept.entries) (length delivery.remote)))
+
+abbrev pub delivery_refusal : StoreState → Delivery → Option StoreFault
+delivery_refusal store delivery =
+    if has_large_octets store.message_max delivery || has_many_things store.kept delivery then Some faults.TooLarge else None
+
+-- ---- expunge
+
+-- the message is there and isn't expunged
+abbrev pub is_live : Kept → ℕ → Bool
+is_live kept id = option_map_or (λ (message : Message). message.live) (slice_get kept.messages id) false
+
+abbrev pub expunge_refusal : Kept → List ℕ → Option StoreFault
+expunge_refusal kept ids = if list_all (is_live kept) ids then None else Some faults.NoSuch
+
+abbrev pub expunged : List ℕ → List Record
+expunged ids = map records.Expunge ids

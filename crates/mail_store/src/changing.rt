@@ -1,0 +1,552 @@
+//! The calls that change a store, and write the change to its keeper.
+ghost use Rattle.std.specs.Prelude.{◌≡◌, ◌≢◌, ◌≤◌, ◌<◌, ◌+◌, ◌==◌, ◌||◌, ◌∷◌, ◌++◌, [], length, vec_len, vec_capacity, IfOk, OnOk, IfSome, IfNone, IsUtf8, Some, None, Err, false, map, ℕ, slice_get, option_and_then};
+ghost use Rattle.std.specs.List.{All, IsDistinct, flat_map, list_all};
+ghost use Rattle.mail_wire.specs.Keeping.{HasKeeperCause};
+ghost use Rattle.std.specs.Option.{option_map_or, option_to_list};
+ghost use Rattle.ace_domains.specs.Domains.{normal_form, compared_form};
+ghost use Rattle.mail_store.specs.Kept.{is_local};
+ghost use Rattle.mail_store.specs.Chains.{empty_content};
+ghost use Rattle.mail_store.specs.Delivering.{copied, entry_of as entry_for, HasShortCopies, room_refusal};
+ghost use Rattle.mail_store.specs.Records.{recipient_count};
+ghost use Rattle.mail_store.specs.StoreState.{with_record, with_records};
+ghost use Rattle.mail_store.specs.declared.kept.Message.{Message as MessageValue};
+ghost use Rattle.address_lists.specs.Addresses.{address_text};
+ghost use Rattle.address_lists.specs.Paths.{ComesInPath};
+ghost use Rattle.mail_store.specs.declared.limits.TheConstants.{TEXT_MAX, THINGS_MAX};
+ghost use Rattle.mail_store.specs.declared.records.Record.TheVariants as records;
+ghost use Rattle.mail_store.specs.Addresses.{WithPaths};
+ghost use Rattle.mail_store.specs.Changing.{Writes, Changes, IsRefusedAs, IsDeliverable, IsSendable, IsWritable, path_text as path_text_of, queued as queued_of, copy_for, inboxes_of, has_many_things, domain_refusal, account_refusal, delivery_refusal, delivered, expunge_refusal, expunged, has_large_octets as has_large_octets_of};
+ghost use Rattle.mail_store.specs.Spelling.{record_text};
+ghost use Rattle.mail_store.specs.declared.changing.StoreFault.TheVariants as faults;
+
+use crate::addresses::{domain_key, key_of};
+use crate::checks::{are_too_many, is_live};
+use crate::contents::{Content, EMPTY, push_reserved, put_messages};
+use crate::delivery::Delivery;
+use crate::kept::{Account, Entry, Folder, Message, Recipients};
+use crate::names::{number_of, put_first, take_back};
+use crate::records::{Record, Texts};
+use crate::storing::{Store, take_away};
+use crate::writing::{push_copy, push_expunge, push_record};
+use address_lists::{Address, write_address};
+use mail_wire::keeping::Keeper;
+use mail_wire::outside::Failed;
+use mail_wire::values::{Memory as OutOfMemory, Octets};
+use std::alloc::{AllocError, AllocFailed, Global};
+
+/// Why a store wasn't changed.
+#[derive(Clone, Copy, Debug, PartialEq, Eq)]
+pub enum StoreFault {
+    /// It is there already.
+    Exists,
+    /// It isn't there.
+    NoSuch,
+    /// Octets are more than the limit, or a kind of things would pass its limit.
+    TooLarge,
+    /// Want of memory.
+    Memory,
+    /// The keeper failed.
+    Keeper,
+}
+
+impl From<OutOfMemory> for StoreFault {
+    ghost from_gives = { λ _ fault. fault ≡ faults.Memory };
+
+    fn from(_error: OutOfMemory) -> StoreFault {
+        StoreFault::Memory
+    }
+}
+
+impl From<AllocError> for StoreFault {
+    ghost from_gives = { λ _ fault. fault ≡ faults.Memory };
+
+    fn from(_error: AllocError) -> StoreFault {
+        StoreFault::Memory
+    }
+}
+
+impl<T: Drop> From<AllocFailed<T>> for StoreFault {
+    ghost from_gives = { λ _ fault. fault ≡ faults.Memory };
+
+    fn from(_error: AllocFailed<T>) -> StoreFault {
+        StoreFault::Memory
+    }
+}
+
+// Puts the text of records last in the keeper, and notes it where the keeper failed.
+fn write<J: Keeper>(keeper: &mut J, text: &[u8], failed: &mut bool) -> Result<(), StoreFault>
+    ensures writes { Writes failed.old failed.new (J.tells keeper.old).octets (J.tells keeper.new).octets result text.now }
+    ensures cause { HasKeeperCause (J.tells keeper.old) (J.tells keeper.new) result StoreFault.Keeper }
+{
+    match keeper.append(text) {
+        Ok(()) => Ok(()),
+        Err(Failed::Outside) => {
+            *failed = true;
+            Err(StoreFault::Keeper)
+        }
+        Err(Failed::Memory) => Err(StoreFault::Memory),
+    }
+}
+
+// The text of one record.
+fn text_of(alloc: Global, one: &Record) -> Result<Octets, OutOfMemory>
+    requires { IsWritable one.now }
+    ensures { IfOk result (λ text. text ≡ record_text one.now) }
+{
+    let mut text = Octets::new(alloc);
+    push_record(&mut text, one)?;
+    Ok(text)
+}
+
+// The address text of each address.
+fn texts_of(alloc: Global, addresses: &[Address]) -> Result<Texts, OutOfMemory>
+    requires { All ComesInPath addresses.now }
+    ensures { IfOk result (λ texts. texts ≡ map address_text addresses.now) }
+{
+    let mut texts = Vec::new(alloc);
+    for address in addresses {
+        texts.push(write_address(alloc, address)?)?;
+    }
+    Ok(Texts::from_vec(texts))
+}
+
+// The text of a path's address; the null path has none.
+fn path_text(alloc: Global, path: &Option<Address>) -> Result<Octets, OutOfMemory>
+    requires { IfSome path.now ComesInPath }
+    ensures { IfOk result (λ text. text ≡ path_text_of path.now) }
+{
+    match path {
+        Some(address) => write_address(alloc, address),
+        None => Ok(Octets::new(alloc)),
+    }
+}
+
+// The text of an account's record.
+fn account_text(alloc: Global, address: &Address, password: &[u8]) -> Result<Octets, OutOfMemory>
+    requires address { IsSendable address.now }
+    requires password { length password.now ≤ TEXT_MAX }
+    ensures { IfOk result (λ text. text ≡ record_text (records.Account (address_text address.now) password.now)) }
+{
+    let made = Record::Account {
+        address: write_address(alloc, address)?,
+        password: Octets::from_slice(alloc, password)?,
+    };
+    text_of(alloc, &made)
+}
+
+fn account_made(alloc: Global, address: &Address, password: &[u8]) -> Result<Account, OutOfMemory>
+    requires { ComesInPath address.now }
+    ensures address { IfOk result (λ made. made.address ≡ address_text address.now) }
+    ensures password { IfOk result (λ made. made.password ≡ password.now) }
+{
+    Ok(Account {
+        address: write_address(alloc, address)?,
+        password: Octets::from_slice(alloc, password)?,
+    })
+}
+
+// Makes room for an account and its folder.
+fn reserve_account(
+    accounts: &mut Vec<Account>,
+    folders: &mut Vec<Folder>,
+    contents: &mut Vec<Content>,
+    inboxes: &mut Vec<u32>,
+) -> Result<(), OutOfMemory>
+    ensures accounts { accounts.new.items ≡ accounts.old.items }
+    ensures folders { folders.new.items ≡ folders.old.items }
+    ensures contents { contents.new.items ≡ contents.old.items }
+    ensures inboxes { inboxes.new.items ≡ inboxes.old.items }
+    ensures account_room { OnOk result (vec_len accounts.new < vec_capacity accounts.new) }
+    ensures folder_room { OnOk result (vec_len folders.new < vec_capacity folders.new) }
+    ensures content_room { OnOk result (vec_len contents.new < vec_capacity contents.new) }
+    ensures inbox_room { OnOk result (vec_len inboxes.new < vec_capacity inboxes.new) }
+{
+    accounts.reserve(1)?;
+    folders.reserve(1)?;
+    contents.reserve(1)?;
+    inboxes.reserve(1)?;
+    Ok(())
+}
+
+// Puts an account and its folder last, for which there is room.
+fn put_account(
+    accounts: &mut Vec<Account>,
+    folders: &mut Vec<Folder>,
+    contents: &mut Vec<Content>,
+    inboxes: &mut Vec<u32>,
+    own: Account,
+    name: Octets,
+)
+    requires account_room { vec_len accounts.old < vec_capacity accounts.old }
+    requires folder_room { vec_len folders.old < vec_capacity folders.old }
+    requires content_room { vec_len contents.old < vec_capacity contents.old }
+    requires inbox_room { vec_len inboxes.old < vec_capacity inboxes.old }
+    requires few { length accounts.old.items ≤ THINGS_MAX }
+    requires few_folders { length folders.old.items ≤ THINGS_MAX }
+    ensures accounts { accounts.new.items ≡ accounts.old.items ++ own ∷ [] }
+    ensures folders { folders.new.items ≡ folders.old.items ++ record { account = length accounts.old.items; name = name } ∷ [] }
+    ensures contents { contents.new.items ≡ contents.old.items ++ empty_content ∷ [] }
+    ensures inboxes { inboxes.new.items ≡ inboxes.old.items ++ length folders.old.items ∷ [] }
+{
+    let account = accounts.len() as u32;
+    let folder = folders.len() as u32;
+    push_reserved(accounts, own);
+    push_reserved(folders, Folder { account, name });
+    push_reserved(contents, EMPTY);
+    push_reserved(inboxes, folder);
+}
+
+// The record of a message that waits for the remote recipients, where there are any.
+fn queued(alloc: Global, delivery: &Delivery) -> Result<Option<Record>, OutOfMemory>
+    requires path { IfSome delivery.now.path ComesInPath }
+    requires addresses { All ComesInPath delivery.now.remote }
+    ensures { IfOk result (λ queued. option_to_list queued ≡ queued_of delivery.now) }
+{
+    if delivery.remote.len() == 0 {
+        return Ok(None);
+    }
+    Ok(Some(Record::Queue {
+        path: path_text(alloc, &delivery.path)?,
+        addresses: texts_of(alloc, delivery.remote.as_slice())?,
+        octets: Octets::from_slice(alloc, delivery.remote_octets.as_slice())?,
+    }))
+}
+
+// The entry of a record of the queue.
+fn entry_of(alloc: Global, queued: Option<Record>) -> Result<Option<Entry>, OutOfMemory>
+    ensures { IfOk result (λ entry. entry ≡ option_and_then entry_for queued) }
+{
+    match queued {
+        Some(
+            Record::Queue {
+                path,
+                addresses,
+                octets,
+            },
+        ) => Ok(Some(Entry {
+            path,
+            recipients: Recipients::waiting(alloc, addresses)?,
+            octets,
+        })),
+        _ => Ok(None),
+    }
+}
+
+// Makes room for so many messages and for an entry.
+fn reserve_delivery(
+    messages: &mut Vec<Message>,
+    previous: &mut Vec<Option<u32>>,
+    entries: &mut Vec<Entry>,
+    count: usize,
+) -> Result<(), OutOfMemory>
+    ensures messages { messages.new.items ≡ messages.old.items }
+    ensures previous { previous.new.items ≡ previous.old.items }
+    ensures entries { entries.new.items ≡ entries.old.items }
+    ensures message_room { OnOk result (vec_len messages.new + count ≤ vec_capacity messages.new) }
+    ensures previous_room { OnOk result (vec_len previous.new + count ≤ vec_capacity previous.new) }
+    ensures entry_room { OnOk result (vec_len entries.new < vec_capacity entries.new) }
+{
+    messages.reserve(count)?;
+    previous.reserve(count)?;
+    entries.reserve(1)?;
+    Ok(())
+}
+
+// Puts an entry last, for which there is room, and counts its recipients.
+fn put_entry(entries: &mut Vec<Entry>, recipients: &mut usize, entry: Option<Entry>)
+    requires room { vec_len entries.old < vec_capacity entries.old }
+    requires few { recipients.old + recipient_count (option_to_list entry) ≤ THINGS_MAX }
+    ensures entries { entries.new.items ≡ entries.old.items ++ option_to_list entry }
+    ensures recipients { recipients.new ≡ recipients.old + recipient_count (option_to_list entry) }
+{
+    if let Some(entry) = entry {
+        *recipients += entry.recipients.as_slice().len();
+        push_reserved(entries, entry);
+    }
+}
+
+// Whether the octets are more than the limit, where somebody is to have them.
+fn has_large_octets(delivery: &Delivery, message_max: u32) -> bool
+    ensures { result ≡ has_large_octets_of message_max delivery.now }
+{
+    (delivery.local.len() > 0 && delivery.local_octets.len() > message_max as usize)
+        || (delivery.remote.len() > 0 && delivery.remote_octets.len() > message_max as usize)
+}
+
+// The texts of the records that the messages go.
+fn expunge_text(alloc: Global, ids: &[u32]) -> Result<Octets, OutOfMemory>
+    ensures { IfOk result (λ text. text ≡ flat_map record_text (expunged ids.now)) }
+{
+    let mut text = Octets::new(alloc);
+    for id in ids {
+        push_expunge(&mut text, *id)?;
+    }
+    Ok(text)
+}
+
+// Whether each of the messages is there and isn't expunged.
+fn are_live(messages: &[Message], ids: &[u32]) -> bool
+    ensures { result ≡ list_all (λ id. option_map_or (λ (message : MessageValue). message.live) (slice_get messages.now id) false) ids.now }
+{
+    ids.iter().all(|id| is_live(messages, *id))
+}
+
+impl Store {
+    /// Makes a domain local.
+    pub fn add_domain<J: Keeper>(&mut self, keeper: &mut J, domain: &str) -> Result<(), StoreFault>
+        requires works { self.old.failed ≡ false }
+        requires form { normal_form domain.now ≢ None }
+        ensures changes { Changes self.old self.new (J.tells keeper.old).octets (J.tells keeper.new).octets result
+            (records.Domain (compared_form domain.now) ∷ []) }
+        ensures refusal { IsRefusedAs result (domain_refusal self.old.kept domain.now) }
+        ensures cause { HasKeeperCause (J.tells keeper.old) (J.tells keeper.new) result StoreFault.Keeper }
+    {
+        let name = domain_key(self.alloc, domain)?;
+        if number_of(&self.locals, name.as_slice()).is_some() {
+            return Err(StoreFault::Exists);
+        }
+        let number = self.domains.len();
+        if are_too_many(number, 1) {
+            return Err(StoreFault::TooLarge);
+        }
+        let copy = Octets::from_slice(self.alloc, name.as_slice())?;
+        let text = text_of(self.alloc, &Record::Domain { name: copy })?;
+        self.domains.reserve(1)?;
+        put_first(self.alloc, &mut self.locals, name.as_slice(), number as u32)?;
+        match write(keeper, text.as_slice(), &mut self.failed) {
+            Ok(()) => {
+                push_reserved(&mut self.domains, name);
+                Ok(())
+            }
+            Err(fault) => {
+                take_back(&mut self.locals, name.as_slice());
+                Err(fault)
+            }
+        }
+    }
+
+    /// Makes an account and its folder INBOX, and answers the account's number.
+    pub fn add_account<J: Keeper>(
+        &mut self,
+        keeper: &mut J,
+        address: &Address,
+        password: &[u8],
+    ) -> Result<u32, StoreFault>
+        requires works { self.old.failed ≡ false }
+        requires address { IsSendable address.now }
+        requires password { length password.now ≤ TEXT_MAX }
+        ensures changes { Changes self.old self.new (J.tells keeper.old).octets (J.tells keeper.new).octets result
+            (records.Account (address_text address.now) password.now ∷ []) }
+        ensures number { IfOk result (λ account. account ≡ length self.old.kept.accounts) }
+        ensures refusal { WithPaths (λ path_of. IsRefusedAs result (account_refusal path_of self.old.kept address.now)) }
+        ensures cause { HasKeeperCause (J.tells keeper.old) (J.tells keeper.new) result StoreFault.Keeper }
+    {
+        let key = key_of(self.alloc, address)?;
+        if number_of(&self.mailboxes, key.as_slice()).is_some() {
+            return Err(StoreFault::Exists);
+        }
+        self.room_for_account(address.domain.as_slice())?;
+        let text = account_text(self.alloc, address, password)?;
+        let own = account_made(self.alloc, address, password)?;
+        let name = Octets::from_slice(self.alloc, b"INBOX")?;
+        let account = self.accounts.len() as u32;
+        reserve_account(
+            &mut self.accounts,
+            &mut self.folders,
+            &mut self.contents,
+            &mut self.inboxes,
+        )?;
+        put_first(self.alloc, &mut self.mailboxes, key.as_slice(), account)?;
+        match write(keeper, text.as_slice(), &mut self.failed) {
+            Ok(()) => {
+                put_account(
+                    &mut self.accounts,
+                    &mut self.folders,
+                    &mut self.contents,
+                    &mut self.inboxes,
+                    own,
+                    name,
+                );
+                Ok(account)
+            }
+            Err(fault) => {
+                take_back(&mut self.mailboxes, key.as_slice());
+                Err(fault)
+            }
+        }
+    }
+
+    // An account in this domain isn't refused for its domain, nor because there would be too many.
+    fn room_for_account(&self, domain: &[u8]) -> Result<(), StoreFault>
+        requires { IsUtf8 domain.now }
+        ensures refusal { IsRefusedAs result (room_refusal self.now.kept domain.now) }
+        ensures no_keeper { result ≢ Err faults.Keeper }
+    {
+        if !self.has_domain(domain)? {
+            return Err(StoreFault::NoSuch);
+        }
+        if are_too_many(self.accounts.len(), 1) || are_too_many(self.folders.len(), 1) {
+            return Err(StoreFault::TooLarge);
+        }
+        Ok(())
+    }
+
+    // Whether the octets are a domain that is the same as one of the store's.
+    fn has_domain(&self, domain: &[u8]) -> Result<bool, OutOfMemory>
+        requires { IsUtf8 domain.now }
+        ensures { IfOk result (λ is. is ≡ is_local self.now.kept domain.now) }
+    {
+        match std::str::from_utf8(domain) {
+            Ok(domain) => self.is_local(domain),
+            Err(_) => unreachable!(),
+        }
+    }
+
+    // The messages that are kept for the local accounts.
+    fn copies(&self, delivery: &Delivery) -> Result<Vec<Message>, OutOfMemory>
+        requires { All (λ account. account < length self.now.kept.accounts) delivery.now.local }
+        ensures { IfOk result (λ copies. copies.items
+            ≡ map (copied delivery.now.date delivery.now.local_octets) (inboxes_of self.now.kept delivery.now.local)) }
+    {
+        let mut copies = Vec::new(self.alloc);
+        for account in delivery.local.as_slice() {
+            copies.push(Message {
+                folder: self.inbox(*account),
+                flags: 0,
+                live: true,
+                date: Octets::from_slice(self.alloc, delivery.date.as_slice())?,
+                octets: Octets::from_slice(self.alloc, delivery.local_octets.as_slice())?,
+            })?;
+        }
+        Ok(copies)
+    }
+
+    // The texts of the records of the messages that are kept for the local accounts.
+    fn copies_text(&self, delivery: &Delivery) -> Result<Octets, OutOfMemory>
+        requires known { All (λ account. account < length self.now.kept.accounts) delivery.now.local }
+        requires short { HasShortCopies delivery.now }
+        ensures { IfOk result (λ text. text
+            ≡ flat_map record_text (map (copy_for delivery.now.date delivery.now.local_octets) (inboxes_of self.now.kept delivery.now.local))) }
+    {
+        let mut text = Octets::new(self.alloc);
+        for account in delivery.local.as_slice() {
+            let folder = self.inbox(*account);
+            push_copy(
+                &mut text,
+                folder,
+                delivery.date.as_slice(),
+                delivery.local_octets.as_slice(),
+            )?;
+        }
+        Ok(text)
+    }
+
+    // The text of the records of a delivery.
+    fn delivery_text(
+        &self,
+        delivery: &Delivery,
+        queued: &Option<Record>,
+    ) -> Result<Octets, OutOfMemory>
+        requires known { All (λ account. account < length self.now.kept.accounts) delivery.now.local }
+        requires short { HasShortCopies delivery.now }
+        requires queued { IfSome queued.now IsWritable }
+        ensures { IfOk result (λ text. text
+            ≡ flat_map record_text (map (copy_for delivery.now.date delivery.now.local_octets) (inboxes_of self.now.kept delivery.now.local))
+            ++ flat_map record_text (option_to_list queued.now)) }
+    {
+        let mut text = self.copies_text(delivery)?;
+        if let Some(record) = queued {
+            push_record(&mut text, record)?;
+        }
+        Ok(text)
+    }
+
+    // Whether octets are more than the limit, or a kind of things would pass its limit.
+    fn is_too_large(&self, delivery: &Delivery) -> bool
+        ensures { result ≡ (has_large_octets_of self.now.message_max delivery.now || has_many_things self.now.kept delivery.now) }
+    {
+        has_large_octets(delivery, self.message_max)
+            || are_too_many(self.messages.len(), delivery.local.len())
+            || (delivery.remote.len() > 0
+                && (are_too_many(self.entries.len(), 1)
+                    || are_too_many(self.recipients, delivery.remote.len())))
+    }
+
+    /// Keeps a message for each local account, and puts one into the queue for the remote recipients, all by one call of the
+    /// keeper. Nothing is written where there is nobody.
+    pub fn deliver<J: Keeper>(
+        &mut self,
+        keeper: &mut J,
+        delivery: &Delivery,
+    ) -> Result<(), StoreFault>
+        requires works { self.old.failed ≡ false }
+        requires deliverable { IsDeliverable self.old delivery.now }
+        ensures changes { Changes self.old self.new (J.tells keeper.old).octets (J.tells keeper.new).octets result (delivered self.old.kept delivery.now) }
+        ensures refusal { IsRefusedAs result (delivery_refusal self.old delivery.now) }
+        ensures cause { HasKeeperCause (J.tells keeper.old) (J.tells keeper.new) result StoreFault.Keeper }
+    {
+        if self.is_too_large(delivery) {
+            return Err(StoreFault::TooLarge);
+        }
+        let queued = queued(self.alloc, delivery)?;
+        let text = self.delivery_text(delivery, &queued)?;
+        if text.is_empty() {
+            return Ok(());
+        }
+        let copies = self.copies(delivery)?;
+        let entry = entry_of(self.alloc, queued)?;
+        reserve_delivery(
+            &mut self.messages,
+            &mut self.previous,
+            &mut self.entries,
+            copies.len(),
+        )?;
+        write(keeper, text.as_slice(), &mut self.failed)?;
+        put_messages(
+            &mut self.contents,
+            &mut self.previous,
+            &mut self.messages,
+            copies,
+        );
+        put_entry(&mut self.entries, &mut self.recipients, entry);
+        Ok(())
+    }
+
+    // The message goes.
+    fn put_expunged(&mut self, id: u32)
+        requires { id < length self.old.kept.messages }
+        ensures { self.new ≡ with_record self.old (records.Expunge id) }
+    {
+        take_away(&mut self.messages, id as usize);
+    }
+
+    // The messages go.
+    fn put_all_expunged(&mut self, ids: &[u32])
+        requires { All (λ id. id < length self.old.kept.messages) ids.now }
+        ensures { self.new ≡ with_records self.old (expunged ids.now) }
+    {
+        for id in ids {
+            self.put_expunged(*id);
+        }
+    }
+
+    /// Takes messages away, in order, by one call of the keeper. Nothing is written where there are none.
+    pub fn expunge<J: Keeper>(&mut self, keeper: &mut J, ids: &[u32]) -> Result<(), StoreFault>
+        requires works { self.old.failed ≡ false }
+        requires distinct { IsDistinct (λ a b. a == b) ids.now }
+        ensures changes { Changes self.old self.new (J.tells keeper.old).octets (J.tells keeper.new).octets result (expunged ids.now) }
+        ensures refusal { IsRefusedAs result (expunge_refusal self.old.kept ids.now) }
+        ensures cause { HasKeeperCause (J.tells keeper.old) (J.tells keeper.new) result StoreFault.Keeper }
+    {
+        if !are_live(&self.messages, ids) {
+            return Err(StoreFault::NoSuch);
+        }
+        if ids.is_empty() {
+            return Ok(());
+        }
+        let text = expunge_text(self.alloc, ids)?;
+        write(keeper, text.as_slice(), &mut self.failed)?;
+        self.put_all_expunged(ids);
+        Ok(())
+    }
+}
