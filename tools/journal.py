@@ -26,9 +26,31 @@ def domain(name):
     return record(2, text(name))
 
 
-def message(account_number, octets, flags=0, date=DATE):
-    """A message in the INBOX of an account."""
-    return record(4, number(account_number), bytes([flags]), text(date), text(octets))
+def folder(account_number, name):
+    return record(3, number(account_number), text(name))
+
+
+def message(folder_number, octets, flags=0, date=DATE):
+    """A message in a folder. Folders are counted from 0, and the INBOX of each account is one."""
+    return record(4, number(folder_number), bytes([flags]), text(date), text(octets))
+
+
+def flags(message_number, value):
+    return record(5, number(message_number), bytes([value]))
+
+
+def expunge(message_number):
+    return record(6, number(message_number))
+
+
+def queue(path, addresses, octets):
+    """A message to these addresses. Such entries of the queue are counted from 0."""
+    return record(7, text(path), number(len(addresses)), *map(text, addresses), text(octets))
+
+
+def settle(entry, place):
+    """One of an entry's addresses, counted from 0, doesn't wait any more."""
+    return record(8, number(entry), number(place))
 
 
 def journal(*records):

@@ -1,151 +1,16 @@
 """What `dervlask pop` has to answer, told anew from the rules. Nothing here was taken from the program.
 
-A journal is `MAILJNL1` and records: a length of four octets (big-endian, from 1 to 67,108,864) and so many octets, which
-are a kind and its fields. Fewer than eight octets that begin `MAILJNL1` are begun anew; at the end a prefix of a record
-is cut off. So far records are accounts (1), domains (2) and messages (4); those of the kinds 3 and 5 to 8 aren't built,
-nor are addresses and domains that aren't simple. The octets of a message have a tree of entities (trees.py); their last
-line may lack its CRLF. Other octets are no record.
-
-A session answers lines that end with CRLF. A line is too long as soon as its octet 65,537 is there. One space stands
-behind the keyword, and the rest of the line is the argument. State comes first, then the arguments, then the rest."""
+The journal is read as pop_store.py says. A session answers lines that end with CRLF. A line is too long as soon as its octet
+65,537 is there. One space stands behind the keyword, and the rest of the line is the argument. State comes first, then the
+arguments, then the rest. A login is that of the first account whose mailbox the name names, with its password."""
 
 import re
 
 import trees
-from blocks import Refused, is_sound
+from addresses import Uncertain
+from pop_store import Unopened, open_journal
 
-FIRST_OCTETS = b"MAILJNL1"
-RECORD_MAX = 67_108_864
-TEXT_MAX = 65_536
 LINE_MAX = 65_536
-
-RUNS = rb"[a-z0-9]{1,63}(?:\.[a-z0-9]{1,63})*"
-DATE = re.compile(rb"[0-9 ][0-9]-(jan|feb|mar|apr|may|jun|jul|aug|sep|oct|nov|dec)-[0-9]{4} [0-9]{2}:[0-9]{2}:[0-9]{2} [+-][0-9]{4}", re.IGNORECASE)
-
-
-class Unopened(Exception):
-    """The journal can't be read: the exit status and the line."""
-
-    def __init__(self, status, line):
-        super().__init__(line)
-        self.answer = status, line + b"\r\n"
-
-
-class NoRecord(Exception):
-    """The fields are those of no record."""
-
-
-class NotBuilt(Exception):
-    """The record isn't read yet."""
-
-
-class Store:
-    """Accounts, and the messages of each one's INBOX in order."""
-
-    def __init__(self):
-        self.accounts = []
-        self.inboxes = []
-
-    def login(self, name, password):
-        """The number of the account, or None. Where several have the name the first one is meant."""
-        for number, (address, kept) in enumerate(self.accounts):
-            if address == name:
-                return number if kept == password else None
-        return None
-
-
-def open_journal(octets):
-    """The store, and the journal as it stands then; or Unopened."""
-    if len(octets) < len(FIRST_OCTETS) and FIRST_OCTETS.startswith(octets):
-        return Store(), FIRST_OCTETS
-    if not octets.startswith(FIRST_OCTETS):
-        raise Unopened(5, b"bad journal at 0")
-    store, at = Store(), len(FIRST_OCTETS)
-    while len(octets) - at >= 4:
-        size = int.from_bytes(octets[at : at + 4], "big")
-        if not 0 < size <= RECORD_MAX:
-            raise Unopened(5, b"bad journal at %d" % at)
-        if len(octets) - at - 4 < size:
-            break
-        try:
-            add(store, octets[at + 4 : at + 4 + size])
-        except NoRecord as error:
-            raise Unopened(5, b"bad journal at %d" % at) from error
-        except NotBuilt as error:
-            raise Unopened(10, b"not built at %d" % at) from error
-        at += 4 + size
-    return store, octets[:at]
-
-
-class Fields:
-    """Reads the fields of a record from left to right."""
-
-    def __init__(self, octets):
-        self.rest = octets
-
-    def take(self, count):
-        if len(self.rest) < count:
-            raise NoRecord
-        taken, self.rest = self.rest[:count], self.rest[count:]
-        return taken
-
-    def number(self):
-        return int.from_bytes(self.take(4), "big")
-
-    def octets(self):
-        return self.take(self.number())
-
-    def end(self):
-        if self.rest:
-            raise NoRecord
-
-
-def add(store, record):
-    kind, fields = record[0], Fields(record[1:])
-    if kind == 1:
-        add_account(store, fields)
-    elif kind == 2:
-        add_domain(fields)
-    elif kind == 4:
-        add_message(store, fields)
-    elif kind in (3, 5, 6, 7, 8):
-        raise NotBuilt
-    else:
-        raise NoRecord
-
-
-def add_account(store, fields):
-    address, password = fields.octets(), fields.octets()
-    fields.end()
-    local, at, domain = address.partition(b"@")
-    if not (at and is_simple(local) and is_simple(domain)):
-        raise NotBuilt
-    if len(password) > TEXT_MAX:
-        raise NoRecord
-    store.accounts.append((address, password))
-    store.inboxes.append([])
-
-
-def add_domain(fields):
-    name = fields.octets()
-    fields.end()
-    if not is_simple(name):
-        raise NotBuilt
-
-
-def add_message(store, fields):
-    folder, flags, date, octets = fields.number(), fields.take(1)[0], fields.octets(), fields.octets()
-    fields.end()
-    if folder >= len(store.inboxes) or flags >= 32 or not DATE.fullmatch(date) or not is_sound(octets):
-        raise NoRecord
-    try:
-        store.inboxes[folder].append((octets, trees.surrogate(octets)))
-    except Refused as error:
-        raise NoRecord from error
-
-
-def is_simple(text):
-    return len(text) <= 253 and re.fullmatch(RUNS, text) is not None
 
 
 class Session:
@@ -202,7 +67,8 @@ class Session:
         number, self.name = self.store.login(self.name, argument), None
         if number is None:
             return b"-ERR no\r\n"
-        self.shown = [message[0 if self.is_enabled else 1] for message in self.store.inboxes[number]]
+        messages = self.store.inbox(number)
+        self.shown = messages if self.is_enabled else list(map(trees.surrogate, messages))
         return b"+OK\r\n"
 
     def stat(self, _):
@@ -269,3 +135,11 @@ def outcome(journal, octets):
     session = Session(store)
     session.feed(octets)
     return 0, session.due, after
+
+
+def certain_outcome(journal, octets):
+    """The same, or None where the oracle is uncertain about a name or a domain."""
+    try:
+        return outcome(journal, octets)
+    except Uncertain:
+        return None

@@ -1,8 +1,9 @@
 """Rows of POP3 that are written out: a journal and lines in, replies, a status and a journal out."""
 
+import journal_rows
 import paths
 from harness import in_lanes
-from journal import FIRST_OCTETS, account, domain, journal, mailbox, message
+from journal import account, domain, expunge, flags, folder, journal, mailbox, message
 from pop_oracle import outcome
 from rows import CAFE, MIXED
 from talk import all_cuts, answer_faults, joined
@@ -14,7 +15,6 @@ ANN = mailbox([])
 TWO = journal(domain(b"example.org"), account(b"ann@example.org", b"pw"), account(b"bob@example.org", b""), message(1, b"A: b\r\n"))
 DOTS = mailbox([b"A: b\r\n\r\n.\r\n..\r\nx.\r\n\r\n.x"])
 LINE_MAX = 65_536
-TYPED = b"Content-Type: a/b\r\n"
 # a part that is a message, with a part inside
 NESTED = [
     "Content-Type: multipart/mixed; boundary=a", "", "--a", "Content-Type: message/rfc822", "", "Subject: é",
@@ -69,9 +69,37 @@ def of_logins():
         ("a password has its white", ANN, ["USER ann@example.org", "PASS  pw", *LOGIN[:1], "PASS pw ", *LOGIN],
             ["+OK ready", "+OK", "-ERR no", "+OK", "-ERR no", "+OK", "+OK"]),
         ("a second USER replaces the first", ANN, ["USER x", *LOGIN], ["+OK ready", "+OK", "+OK", "+OK"]),
-        ("a name has its case", ANN, ["USER Ann@example.org", "PASS pw"], ["+OK ready", "+OK", "-ERR no"]),
-        ("the first of two accounts of one name", journal(account(b"a@b", b"1"), account(b"a@b", b"2"), message(1, b"A: b\r\n")),
-            ["USER a@b", "PASS 2", "USER a@b", "PASS 1", "STAT"], ["+OK ready", "+OK", "-ERR no", "+OK", "+OK", "+OK 0 0"]),
+        ("the first of two accounts of one mailbox", journal(account(b"a@b", b"1"), account(b"A@B", b"2"), message(1, b"A: b\r\n")),
+            ["USER A@B", "PASS 2", "USER a@b", "PASS 1", "STAT"], ["+OK ready", "+OK", "-ERR no", "+OK", "+OK", "+OK 0 0"]),
+    ]
+
+
+def of_mailboxes():
+    """What stands in a mailbox."""
+    three = mailbox([b"A: 1\r\n", b"A: 12\r\n", b"A: 123\r\n"])
+    folders = journal(account(b"a@b", b""), folder(0, b"f"), account(b"ann@example.org", b"pw"), folder(1, b"INBOX"))
+    return [
+        ("an expunged message", three + expunge(1) + flags(2, 8), [*LOGIN, "STAT", "LIST", "RETR 2", "RETR 3"],
+            [*LOGGED_IN, "+OK 2 14", "+OK", "1 6", "2 8", ".", "+OK", "A: 123", ".", "-ERR no such message"]),
+        ("all messages expunged", three + expunge(1) + expunge(0) + expunge(2), [*LOGIN, "STAT", "LIST"], [*LOGGED_IN, "+OK 0 0", "+OK", "."]),
+        ("messages of other folders", folders + b"".join(message(number, b"A: %d\r\n" % 10**number) for number in range(4)),
+            [*LOGIN, "STAT", "RETR 1"], [*LOGGED_IN, "+OK 1 8", "+OK", "A: 100", "."]),
+    ]
+
+
+def of_names():
+    """What names a mailbox, and what doesn't."""
+    text = "Strasse.e\u0301\u03c3@B\u00fccher.example"
+    names = [
+        text, "STRASSE.\u00c9\u03a3@b\u00fccher.EXAMPLE", "stra\u00dfe.\u00e9\u03c2@bu\u0308cher.example", "strasse.\u00e9\u03c3@XN--BCHER-KVA.example",
+        '"\\Strasse.\u00e9\u03c3" @ (her) b\u00fccher . example', "strasse.(x)\u00e9\u03c3@b\u00fccher.example (y)",
+    ]
+    others = ["strasse.e\u03c3@b\u00fccher.example", "strasse.\u00e9\u03c3@bucher.example", f"<{text}>", f"{text},", f"@x:{text}", text[:20], f"{text}(", f"x {text}"]
+    literal, mail = journal(account(b"a@[1.B]", b"pw")), journal(account(text.encode(), b"pw"), message(0, b"A: b\r\n"))
+    return [
+        *((f"the name {name}", mail, [f"USER {name}", "PASS pw", "STAT"], [*LOGGED_IN, "+OK 1 6"]) for name in names),
+        *((f"the other name {name}", mail, [f"USER {name}", "PASS pw"], ["+OK ready", "+OK", "-ERR no"]) for name in others),
+        ("a domain without a normal form", literal, ["USER A@[1.b]", "PASS pw", "USER A@[1.B]", "PASS pw"], ["+OK ready", "+OK", "-ERR no", "+OK", "+OK"]),
     ]
 
 
@@ -112,53 +140,13 @@ def of_octets():
     ]
 
 
-def of_journals():
-    """Name, journal, status, line, and the journal then. The input is `QUIT`."""
-    opens = (0, b"+OK ready\r\n+OK bye\r\n")
-    refused = lambda name, octets, status, line: (name, octets, status, line + b"\r\n", octets)
-    record = bytes.fromhex
-    kinds = [*((kind, 10, b"not built at 8") for kind in (3, 5, 6, 7, 8)), *((kind, 5, b"bad journal at 8") for kind in (0, 9, 255))]
-    return [
-        ("no journal", None, *opens, FIRST_OCTETS),
-        ("an empty journal", b"", *opens, FIRST_OCTETS),
-        ("a prefix of the first octets", b"MAILJN", *opens, FIRST_OCTETS),
-        ("the first octets alone", FIRST_OCTETS, *opens, FIRST_OCTETS),
-        ("ten octets", FIRST_OCTETS + b"\0\0", *opens, FIRST_OCTETS),
-        ("a record cut off", ANN[:-1], *opens, journal(domain(b"example.org"))),
-        ("a record of an unknown kind cut off", FIRST_OCTETS + record("0000000209"), *opens, FIRST_OCTETS),
-        ("a length alone", FIRST_OCTETS + record("04000000"), *opens, FIRST_OCTETS),
-        refused("other octets", b"MAILJNL2", 5, b"bad journal at 0"),
-        refused("one other octet", b"m", 5, b"bad journal at 0"),
-        refused("a length of 0", FIRST_OCTETS + record("00000000"), 5, b"bad journal at 8"),
-        refused("a length above 67,108,864", FIRST_OCTETS + record("04000001"), 5, b"bad journal at 8"),
-        *(refused(f"the kind {kind}", FIRST_OCTETS + record("00000001") + bytes([kind]), *told) for kind, *told in kinds),
-        refused("an address of capitals", journal(account(b"Ann@example.org", b"pw")), 10, b"not built at 8"),
-        refused("a domain with a hyphen", journal(domain(b"x-y.org")), 10, b"not built at 8"),
-        refused("an octet behind the fields", journal(b"\0\0\0\x07\x02\0\0\0\1xx"), 5, b"bad journal at 8"),
-        refused("a message of no folder", journal(message(0, b"A: b\r\n")), 5, b"bad journal at 8"),
-        refused("flags above 31", ANN + message(0, b"A: b\r\n", flags=32), 5, b"bad journal at %d" % len(ANN)),
-        refused("a date of one digit", ANN + message(0, b"A: b\r\n", date=b"1-Jan-1970 00:00:00 +0000"), 5, b"bad journal at %d" % len(ANN)),
-        ("a date of a space, and months in any case", ANN + message(0, b"A: b\r\n", flags=31, date=b" 9-jUN-0000 99:99:99 -9999"), *opens,
-            ANN + message(0, b"A: b\r\n", flags=31, date=b" 9-jUN-0000 99:99:99 -9999")),
-        refused("a line that is no field", ANN + message(0, b"x\r\n"), 5, b"bad journal at %d" % len(ANN)),
-        refused("a bare LF in the body", ANN + message(0, b"A: b\r\n\r\nx\n"), 5, b"bad journal at %d" % len(ANN)),
-        refused("a part that is no entity", ANN + message(0, f"{MIXED}--b\r\né\r\n".encode()), 5, b"bad journal at %d" % len(ANN)),
-        refused("a part that isn't UTF-8", ANN + message(0, MIXED.encode() + b"--b\r\nA: \xff\r\n"), 5, b"bad journal at %d" % len(ANN)),
-        ("a part behind the last one that is no entity", ANN + message(0, f"{MIXED}--b\r\n--b--\r\né\r\n".encode()), *opens,
-            ANN + message(0, f"{MIXED}--b\r\n--b--\r\né\r\n".encode())),
-        ("a type", ANN + message(0, TYPED), *opens, ANN + message(0, TYPED)),
-        refused("a type in no folder", ANN + message(9, TYPED, flags=99), 5, b"bad journal at %d" % len(ANN)),
-        refused("the first of two faults", ANN + domain(b"-") + b"\0\0\0\1\x09", 10, b"not built at %d" % len(ANN)),
-    ]
-
-
 def rows():
     """Name, journal, input, and what is wanted: status, octets and journal."""
-    for name, octets, lines, replies in [*of_mail(), *of_logins(), *of_commands()]:
+    for name, octets, lines, replies in [*of_mail(), *of_logins(), *of_mailboxes(), *of_names(), *of_commands()]:
         yield name, octets, octets_of(lines), (0, octets_of(replies), octets)
     for name, octets, given, wanted in of_octets():
         yield name, octets, given, (0, wanted, octets)
-    for name, octets, status, line, after in of_journals():
+    for name, octets, status, line, after in journal_rows.rows():
         yield name, octets, b"QUIT\r\n", (status, line, after)
 
 

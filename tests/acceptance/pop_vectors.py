@@ -3,22 +3,24 @@
 A file has cases, with an empty line behind each; a line is a word and its value, octets in hexadecimal. `message_max` isn't
 looked at: no reply of POP3 depends on it.
 
-Two of the files are older than the rewriting of encoded words, folds, and fields with a grammar of their own, and than trees of
-entities: they say of a journal with a message that has such a field, or a Content-Type, that it isn't built (status 10). What such
-a case says of status, replies and journal is replaced by what our oracle says today (pop_oracle.py); its journal, its input and its
-cuts stay. Those that are right as they stand are counted."""
+Three of the files are older than the reading of all records, and two of them than the rewriting of all fields and than trees of
+entities: they say of a journal with such a record or message that it isn't built (status 10). There a name was that of an account
+in the same octets alone. What such a case says of status, replies and journal is replaced by what our oracle says today
+(pop_oracle.py); its journal, its input and its cuts stay.
+
+One file is newer than the program: a case that uses a command which isn't built yet is left out. Where the oracle can't tell the
+form of a domain or of a name, the case alone is held to the answer."""
 
 import os
 
-from blocks import Refused, parts_of, read_block
 from harness import differs, in_lanes
-from layout import STRUCTURED
-from parameters import TYPE
-from pop_oracle import FIRST_OCTETS, Fields, NoRecord, outcome
+from pop_oracle import certain_outcome
 from talk import all_cuts, answer_faults, joined
 
-FILES = ["pop-first.txt", "journal-first.txt", "pop-trees.txt"]
+OLDER = ["pop-first.txt", "journal-first.txt", "pop-trees.txt"]
+FILES = [*OLDER, "journal.txt", "pop.txt"]
 NOT_BUILT = 10
+LATER = {b"CAPA", b"UIDL", b"TOP", b"DELE", b"RSET", b"NOOP"}
 
 
 def cases_of(path):
@@ -41,69 +43,60 @@ def due_of(case):
     return due
 
 
-def messages_of(journal):
-    """The octets of each message whose record is whole, from the journal's start on."""
-    at = len(FIRST_OCTETS)
-    while len(journal) - at >= 4:
-        size = int.from_bytes(journal[at : at + 4], "big")
-        record = journal[at + 4 : at + 4 + size]
-        if record[:1] == b"\4":
-            yield message_of(Fields(record[1:]))
-        at += 4 + size
+def commands(case):
+    """The keyword, in capitals, and the argument of each line."""
+    lines = [line.partition(b" ") for line in bytes.fromhex(case["in"]).split(b"\r\n")[:-1]]
+    return [(keyword.upper(), argument) for keyword, _, argument in lines]
 
 
-def message_of(fields):
-    """The octets of a message's record, or none where it has no such fields."""
-    try:
-        fields.number(), fields.take(1), fields.octets()
-        return fields.octets()
-    except NoRecord:
-        return b""
+def is_older(case):
+    """Whether a case of the older files says what isn't so today: nothing was built, or a name has capitals."""
+    return int(case["status"]) == NOT_BUILT or any(keyword == b"USER" and name != name.lower() for keyword, name in commands(case))
 
 
-def is_rewritten_since(raw):
-    """Whether the oldest vectors say of a message with this field that it isn't built."""
-    name, body, _ = parts_of(raw)
-    was_not = name.lower() in STRUCTURED or name.startswith(b"-") or b"=?" in body or b"\r\n" in body
-    return name.lower() == TYPE or (was_not and not raw.isascii())
+def wanted_of(case):
+    """Status, octets and journal, and what is due."""
+    wanted = int(case["status"]), bytes.fromhex(case["out"]), bytes.fromhex(case["after"])
+    # where the journal isn't opened, the line is due before any input
+    return wanted, due_of(case) or [(0, wanted[1])]
 
 
-def is_older(journal):
-    """Whether the journal has a message with such a field."""
-    for octets in messages_of(journal):
-        try:
-            fields, _ = read_block(octets)
-        except Refused:
-            continue
-        if any(map(is_rewritten_since, fields)):
-            return True
-    return False
+def by_oracle(journal, octets):
+    """The same as the oracle has it, or None where it is uncertain."""
+    told = certain_outcome(journal, octets)
+    return told and ((told[0], joined(told[1]), told[2]), told[1])
+
+
+def oracle_faults(told, wanted):
+    faults = [f"oracle: {fault}" for fault in answer_faults(told[0], wanted[0])]
+    return faults + differs("what is due, as the oracle has it", told[1], wanted[1])
+
+
+def one_case(program, name, case):
+    """Whose answer stands, `both`, `vector` or `oracle`, and what is wrong; `none` where neither can be asked."""
+    journal, octets = bytes.fromhex(case["journal"]), bytes.fromhex(case["in"])
+    wanted, told, stands, faults = wanted_of(case), by_oracle(journal, octets), "both", []
+    if name in OLDER and is_older(case) and told != wanted:
+        wanted, stands = told, "oracle" if told else "none"
+    elif told is None:
+        stands = "vector"
+    else:
+        faults = oracle_faults(told, wanted)
+    sizes = [int(size) for size in case["cuts"].split()]
+    return stands, faults + (all_cuts(program, journal, octets, *wanted, sizes) if wanted else [])
 
 
 def check(program, tally, folder):
-    def one(case):
-        """Whether the oracle's answer stands for the case's own, whether the two are the same, and what is wrong."""
-        journal, octets, after = (bytes.fromhex(case[word]) for word in ("journal", "in", "after"))
-        status, told, then = outcome(journal, octets)
-        from_oracle = status, joined(told), then
-        wanted = int(case["status"]), bytes.fromhex(case["out"]), after
-        # where the journal isn't opened, the line is due before any input
-        due = due_of(case) or [(0, wanted[1])]
-        is_same, is_replaced = (from_oracle, told) == (wanted, due), is_older(journal)
-        faults = []
-        if is_replaced and wanted[0] == NOT_BUILT:
-            wanted, due = from_oracle, told
-        elif not is_same:
-            faults = [f"oracle: {fault}" for fault in answer_faults(from_oracle, wanted)] + differs("what is due, as the oracle has it", told, due)
-        faults += all_cuts(program, journal, octets, wanted, due, [int(size) for size in case["cuts"].split()])
-        return is_replaced, is_same, faults
-
-    paths = [os.path.join(folder, name) for name in FILES]
-    cases = [case for path in paths if os.path.exists(path) for case in cases_of(path)]
-    built = [case for case in cases if case["words"] == "pop"]
-    answers = in_lanes(one, built)
-    for case, (_, _, faults) in zip(built, answers):
-        tally.note(f"vector {case['case']}", faults)
-    replaced = [is_same for is_replaced, is_same, _ in answers if is_replaced]
+    there = [name for name in FILES if os.path.exists(os.path.join(folder, name))]
+    cases = [(name, case) for name in there for case in cases_of(os.path.join(folder, name))]
+    sessions = [(name, case) for name, case in cases if case["words"] == "pop"]
+    built = [(name, case) for name, case in sessions if name in OLDER or not any(keyword in LATER for keyword, _ in commands(case))]
+    answers = in_lanes(lambda it: one_case(program, *it), built)
+    for (name, case), (_, faults) in zip(built, answers):
+        tally.note(f"{name}, vector {case['case']}", faults)
+    stands = [it for it, _ in answers]
     print(f"vectors of POP3: {len(built)} of {len(cases)} were run, each whole, as it is cut, and command by command")
-    print(f"vectors of POP3: {len(replaced)} have a field that wasn't built in the oldest; {sum(replaced)} of these agree as they stand")
+    print(f"vectors of POP3: {len(sessions) - len(built)} use a command that isn't built, and were left out")
+    print(f"vectors of POP3: {stands.count('oracle')} are older than what is built, and say what the oracle doesn't; that was asked instead")
+    print(f"vectors of POP3: {stands.count('vector')} have a domain or a name that the oracle can't tell, and the vector alone was asked")
+    print(f"vectors of POP3: {stands.count('none')} of the older ones have such a one, and were left out")

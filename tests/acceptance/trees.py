@@ -41,24 +41,29 @@ ONE_MESSAGE = Opening(None, False, False)
 
 def surrogate(octets):
     """The surrogate of a message; or Refused, where a block has a fault."""
-    return entity(octets, 0, False, 1)
+    return entity(octets, 0, False, 1, surrogate_field)
 
 
-def entity(octets, place, in_digest, depth):
-    """An entity that stands at this place, rewritten."""
+def check(octets):
+    """Refused, where a block of the message has a fault."""
+    entity(octets, 0, False, 1, lambda raw, _: raw)
+
+
+def entity(octets, place, in_digest, depth, rewrite):
+    """An entity that stands at this place, with its fields rewritten so, and those of the entities in it."""
     fields, rest = read_block(octets, place)
     opening = opening_of(fields, in_digest) if depth <= DEPTH_MAX else None
-    made = b"".join(surrogate_field(raw, opening is not None and opening.is_global) for raw in fields)
+    made = b"".join(rewrite(raw, opening is not None and opening.is_global) for raw in fields)
     content = rest[2:]
     inner = place + len(octets) - len(content)
     if opening is None:
         return made + rest
     if opening.boundary is None:
-        return made + rest[:2] + entity(content, inner, False, depth + 1)
-    return made + rest[:2] + divided(content, inner, opening, depth + 1)
+        return made + rest[:2] + entity(content, inner, False, depth + 1, rewrite)
+    return made + rest[:2] + divided(content, inner, opening, depth + 1, rewrite)
 
 
-def divided(content, place, opening, depth):
+def divided(content, place, opening, depth, rewrite):
     """A content of parts, rewritten."""
     delimiter = re.compile(rb"--" + re.escape(opening.boundary) + rb"[ \t]*(\r\n)?")
     close = re.compile(rb"--" + re.escape(opening.boundary) + rb"--[ \t]*(\r\n)?")
@@ -70,14 +75,14 @@ def divided(content, place, opening, depth):
         if in_part:
             between = content[done : line.start()]
             part = between.removesuffix(b"\r\n")
-            made += entity(part, place + done, opening.is_digest, depth) + between[len(part) :]
+            made += entity(part, place + done, opening.is_digest, depth, rewrite) + between[len(part) :]
         else:
             made += content[done : line.start()]
         made += line[0]
         done, in_part = line.end(), not is_close
         if is_close:
             break
-    return made + (entity(content[done:], place + done, opening.is_digest, depth) if in_part else content[done:])
+    return made + (entity(content[done:], place + done, opening.is_digest, depth, rewrite) if in_part else content[done:])
 
 
 def opening_of(fields, in_digest):
