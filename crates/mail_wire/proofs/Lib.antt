@@ -12,3 +12,4 @@ pub mod TurnsLemmas
 pub mod LineEnd
 pub mod Feeding
 pub mod DateLemmas
+pub mod FramingLemmas

@@ -13,3 +13,4 @@ pub mod Keeping
 pub mod MemKept
 pub mod Turns
 pub mod Dates
+pub mod Framing

@@ -1,8 +1,12 @@
 //! Where a line ends in a stream that comes in pieces.
 ghost use Rattle.std.specs.Prelude.{◌≡◌, ◌<◌, ◌≤◌, ◌++◌, length, take, drop, Some, None, MatchOption, IfSome, IsTrue, ◌↔◌, ◌-◌, slice_get};
 ghost use Rattle.mail_wire.specs.Lines.{first_line};
+ghost use Rattle.mail_wire.specs.Framing.{next_line, waiting, framed_as, ends_in};
 
 use memchr::memmem;
+
+/// The most octets of a line, its CRLF counted.
+pub const LINE_MAX: usize = 65_536;
 
 // Whether a CRLF stands across the two parts.
 fn joins(kept: &[u8], piece: &[u8]) -> bool
@@ -25,5 +29,30 @@ pub fn line_end(kept: &[u8], piece: &[u8]) -> Option<usize>
     match memmem::find(piece, b"\r\n") {
         Some(at) => Some(at + 2),
         None => None,
+    }
+}
+
+/// What the octets of a stream begin with, as far as they are there.
+#[derive(Clone, Copy, Debug, PartialEq, Eq)]
+pub enum FoundLine {
+    /// No whole line.
+    Waiting,
+    /// A line, which has so many octets of the piece.
+    Whole(usize),
+    /// More octets than a line may have.
+    TooLong,
+}
+
+/// What the octets that were kept, which have no whole line, and a piece begin with.
+pub fn find_line(kept: &[u8], piece: &[u8]) -> FoundLine
+    requires { next_line kept.now ≡ waiting }
+    ensures line { next_line (kept.now ++ piece.now) ≡ framed_as result kept.now piece.now }
+    ensures bound { ends_in result piece.now }
+{
+    let room = LINE_MAX - kept.len();
+    match line_end(kept, piece) {
+        Some(end) if end <= room => FoundLine::Whole(end),
+        None if piece.len() <= room => FoundLine::Waiting,
+        _ => FoundLine::TooLong,
     }
 }

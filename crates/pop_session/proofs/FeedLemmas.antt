@@ -8,16 +8,16 @@ use Rattle.mail_wire.proofs.TurnsLemmas.{all_turns-stop, all_turns-go}
 use Rattle.mail_wire.proofs.Feeding.{Feed}
 use Rattle.mail_store.specs.StoreState.{StoreState}
 use Rattle.surrogate_cache.specs.Served.{Meanings}
-use Rattle.pop_session.specs.declared.session.TheConstants.{LINE_MAX}
+use Rattle.mail_wire.specs.declared.framing.TheConstants.{LINE_MAX}
 use Rattle.pop_session.specs.declared.states.PopState.{PopState}
 use Rattle.pop_session.specs.declared.states.PopState.TheVariants as pop
-use Rattle.pop_session.specs.Framing.{Framed, waiting, whole, too_long, next_command}
+use Rattle.mail_wire.specs.Framing.{Framed, waiting, whole, too_long, next_line}
 use Rattle.pop_session.specs.Commands.{command_of}
 use Rattle.pop_session.specs.Machine.{Part, State, authorization, transaction, ended, Step, step}
 use Rattle.pop_session.specs.Replies.{part_octets, IsFit}
 use Rattle.pop_session.specs.States.{state_of, state_or_ended}
 use Rattle.pop_session.specs.Session.{Machine, line_too_long, turn_by, turn_in, next_turn, turns_of}
-use Rattle.pop_session.proofs.FramingLemmas.{IsSteady, steady, next_command-line, next_command-long_line, next_command-waiting, next_command-long, le_true, le_false}
+use Rattle.mail_wire.proofs.FramingLemmas.{IsSteady, steady, next_line-line, next_line-long_line, next_line-waiting, next_line-long, le_true, le_false}
 
 -- the machine by what gives surrogates and reads paths
 abbrev pub feed_of : Meanings → Feed
@@ -33,21 +33,21 @@ unsome : {a b : Turn Machine Part} → Some a ≡ Some b → a ≡ b
 unsome h = cc
 
 turn_by_stays : (meanings : Meanings) (machine : Machine) (octets more : List ℕ) (framed : Framed) (turn : Turn Machine Part) → IsSteady octets framed
-    → turn_by meanings machine framed ≡ Some turn → turn_by meanings machine (next_command (octets ++ more)) ≡ Some (followed_by more turn)
+    → turn_by meanings machine framed ≡ Some turn → turn_by meanings machine (next_line (octets ++ more)) ≡ Some (followed_by more turn)
 turn_by_stays meanings machine octets more waiting turn steady is = cc
 turn_by_stays meanings machine octets more (whole line rest) turn steady is = ap (turn_by meanings machine) (steady.1 more) ∙ ap (λ t. Some (followed_by more t)) (unsome is)
 turn_by_stays meanings machine octets more (too_long rest) turn steady is = ap (turn_by meanings machine) (steady.1 more) ∙ ap (λ t. Some (followed_by more t)) (unsome is)
 
 shorter_in : (meanings : Meanings) (state : State) (machine : Machine) (octets : List ℕ) (turn : Turn Machine Part) → turn_in meanings state machine octets ≡ Some turn
     → length turn.rest < length octets
-shorter_in meanings (authorization mode user) machine octets turn is = turn_by_shorter meanings machine octets (next_command octets) turn (steady octets) is
-shorter_in meanings (transaction mode inbox) machine octets turn is = turn_by_shorter meanings machine octets (next_command octets) turn (steady octets) is
+shorter_in meanings (authorization mode user) machine octets turn is = turn_by_shorter meanings machine octets (next_line octets) turn (steady octets) is
+shorter_in meanings (transaction mode inbox) machine octets turn is = turn_by_shorter meanings machine octets (next_line octets) turn (steady octets) is
 shorter_in meanings ended machine octets turn is = cc
 
 stays_in : (meanings : Meanings) (state : State) (machine : Machine) (octets more : List ℕ) (turn : Turn Machine Part) → turn_in meanings state machine octets ≡ Some turn
     → turn_in meanings state machine (octets ++ more) ≡ Some (followed_by more turn)
-stays_in meanings (authorization mode user) machine octets more turn is = turn_by_stays meanings machine octets more (next_command octets) turn (steady octets) is
-stays_in meanings (transaction mode inbox) machine octets more turn is = turn_by_stays meanings machine octets more (next_command octets) turn (steady octets) is
+stays_in meanings (authorization mode user) machine octets more turn is = turn_by_stays meanings machine octets more (next_line octets) turn (steady octets) is
+stays_in meanings (transaction mode inbox) machine octets more turn is = turn_by_stays meanings machine octets more (next_line octets) turn (steady octets) is
 stays_in meanings ended machine octets more turn is = cc
 
 -- a turn takes an octet at least, and doesn't depend on what comes later
@@ -69,14 +69,14 @@ machine_at state store = record { state = state_of state; store = store }
 
 -- a session that has not ended reads commands
 reads : (meanings : Meanings) (state : PopState) (store : StoreState) (octets : List ℕ)
-    → next_turn meanings (machine_at state store) octets ≡ turn_by meanings (machine_at state store) (next_command octets)
+    → next_turn meanings (machine_at state store) octets ≡ turn_by meanings (machine_at state store) (next_line octets)
 unfolding next_turn
 reads meanings (pop.Authorization session) store octets = refl
 reads meanings (pop.EnabledAuthorization session) store octets = refl
 reads meanings (pop.Transaction session) store octets = refl
 reads meanings (pop.EnabledTransaction session) store octets = refl
 
-pub turns_of-waiting : (meanings : Meanings) (state : PopState) (store : StoreState) (octets : List ℕ) → next_command octets ≡ waiting
+pub turns_of-waiting : (meanings : Meanings) (state : PopState) (store : StoreState) (octets : List ℕ) → next_line octets ≡ waiting
     → turns_of meanings (machine_at state store) octets ≡ stay (machine_at state store) octets
 turns_of-waiting meanings state store octets is =
     all_turns-stop (next_turn meanings) (machine_at state store) octets (reads meanings state store octets ∙ ap (turn_by meanings (machine_at state store)) is)
@@ -85,13 +85,13 @@ turns_of-waiting meanings state store octets is =
 abbrev pub stepped : Meanings → PopState → StoreState → List ℕ → Step
 stepped meanings state store line = step meanings (state_of state) store (command_of line)
 
-turns_of-line : (meanings : Meanings) (state : PopState) (store : StoreState) (octets line rest : List ℕ) → next_command octets ≡ whole line rest
+turns_of-line : (meanings : Meanings) (state : PopState) (store : StoreState) (octets line rest : List ℕ) → next_line octets ≡ whole line rest
     → turns_of meanings (machine_at state store) octets
     ≡ behind (stepped meanings state store line).reply (turns_of meanings (record { state = (stepped meanings state store line).state; store = store }) rest)
 turns_of-line meanings state store octets line rest is =
     all_turns-go (next_turn meanings) (next_turn-framed meanings) (machine_at state store) octets _ (reads meanings state store octets ∙ ap (turn_by meanings (machine_at state store)) is)
 
-turns_of-too_long : (meanings : Meanings) (state : PopState) (store : StoreState) (octets rest : List ℕ) → next_command octets ≡ too_long rest
+turns_of-too_long : (meanings : Meanings) (state : PopState) (store : StoreState) (octets rest : List ℕ) → next_line octets ≡ too_long rest
     → turns_of meanings (machine_at state store) octets ≡ behind line_too_long (stay (record { state = ended; store = store }) rest)
 turns_of-too_long meanings state store octets rest is =
     all_turns-go (next_turn meanings) (next_turn-framed meanings) (machine_at state store) octets _ (reads meanings state store octets ∙ ap (turn_by meanings (machine_at state store)) is)
@@ -112,7 +112,7 @@ pub long_line : (meanings : Meanings) (state : PopState) (store : StoreState) (s
 long_line meanings state store slice kept rest n len same ends is low long =
     let found = rw same at ends.line in
     let size = line_len kept rest n ends.fits in
-    turns_of-too_long meanings state store (kept ++ rest) _ (next_command-long_line (kept ++ rest) _ found (le_false (length (kept ++ take n rest)) LINE_MAX (omega arith)))
+    turns_of-too_long meanings state store (kept ++ rest) _ (next_line-long_line (kept ++ rest) _ found (le_false (length (kept ++ take n rest)) LINE_MAX (omega arith)))
 
 -- a line
 pub short_line : (meanings : Meanings) (state : PopState) (store : StoreState) (slice kept rest line : List ℕ) (n len : ℕ) → slice ≡ kept → LineEndsAt slice rest n → len ≡ length kept
@@ -123,7 +123,7 @@ short_line meanings state store slice kept rest line n len same ends is low shor
     let found = rw same at ends.line in
     let size = line_len kept rest n ends.fits in
     rw line_is (turns_of-line meanings state store (kept ++ rest) (kept ++ take n rest) (drop n rest)
-    (next_command-line (kept ++ rest) _ found (le_true (length (kept ++ take n rest)) LINE_MAX (omega arith))))
+    (next_line-line (kept ++ rest) _ found (le_true (length (kept ++ take n rest)) LINE_MAX (omega arith))))
 
 -- a line has its CRLF
 pub line_has_end : (slice kept rest line : List ℕ) (n : ℕ) → slice ≡ kept → LineEndsAt slice rest n → line ≡ kept ++ take n rest → 2 ≤ length line
@@ -157,13 +157,13 @@ pub long_rest : (meanings : Meanings) (state : PopState) (store : StoreState) (s
     → turns_of meanings (machine_at state store) (kept ++ rest) ≡ behind line_too_long (stay (record { state = ended; store = store }) (drop LINE_MAX (kept ++ rest)))
 long_rest meanings state store slice kept rest len same none is low long =
     turns_of-too_long meanings state store (kept ++ rest) _
-    (next_command-long (kept ++ rest) (rw same at none) (le_false (length (kept ++ rest)) LINE_MAX (rw length-append (omega arith))))
+    (next_line-long (kept ++ rest) (rw same at none) (le_false (length (kept ++ rest)) LINE_MAX (rw length-append (omega arith))))
 
 -- what is left is kept
 pub kept_waits : (slice kept rest : List ℕ) (len : ℕ) → slice ≡ kept → first_line (slice ++ rest) ≡ None → len ≡ length kept → len ≤ LINE_MAX → length rest ≤ LINE_MAX - len
-    → next_command (kept ++ rest) ≡ waiting
+    → next_line (kept ++ rest) ≡ waiting
 kept_waits slice kept rest len same none is low short =
-    next_command-waiting (kept ++ rest) (rw same at none) (le_true (length (kept ++ rest)) LINE_MAX (rw length-append (omega arith)))
+    next_line-waiting (kept ++ rest) (rw same at none) (le_true (length (kept ++ rest)) LINE_MAX (rw length-append (omega arith)))
 
 pub first_line-nil : first_line [] ≡ None
 unfolding first_line

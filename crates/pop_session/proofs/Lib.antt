@@ -4,6 +4,5 @@ pub mod StuffingLemmas
 pub mod StuffedPieces
 pub mod ListLemmas
 pub mod FitLemmas
-pub mod FramingLemmas
 pub mod FeedLemmas
 pub mod RowLemmas

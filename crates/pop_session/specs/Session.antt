@@ -3,7 +3,7 @@ use Rattle.std.specs.Prelude.{◌≡◌, ℕ, List, ◌∷◌, codes, Option, No
 use Rattle.mail_wire.specs.Turns.{Turn, all_turns}
 use Rattle.mail_store.specs.StoreState.{StoreState}
 use Rattle.surrogate_cache.specs.Served.{legacy, Meanings}
-use Rattle.pop_session.specs.Framing.{Framed, waiting, whole, too_long, next_command}
+use Rattle.mail_wire.specs.Framing.{Framed, waiting, whole, too_long, next_line}
 use Rattle.pop_session.specs.Commands.{command_of}
 use Rattle.pop_session.specs.Machine.{Part, line, State, authorization, transaction, ended, says, step}
 use Rattle.pop_session.specs.States.{state_of, KnowsState}
@@ -29,8 +29,8 @@ turn_by meanings machine (too_long rest) =
 
 -- after the end no command is read
 abbrev pub turn_in : Meanings → State → Machine → List ℕ → Option (Turn Machine Part)
-turn_in meanings (authorization mode user) machine octets = turn_by meanings machine (next_command octets)
-turn_in meanings (transaction mode inbox) machine octets = turn_by meanings machine (next_command octets)
+turn_in meanings (authorization mode user) machine octets = turn_by meanings machine (next_line octets)
+turn_in meanings (transaction mode inbox) machine octets = turn_by meanings machine (next_line octets)
 turn_in meanings ended machine octets = None
 
 unfoldable pub next_turn : Meanings → Machine → List ℕ → Option (Turn Machine Part)
@@ -75,5 +75,5 @@ pub record StandsFor (session : PopSession) (store : StoreState) (turn : Turn Ma
 
 -- What a session needs: it has kept no whole command, and the store has the messages that it names.
 abbrev pub IsReady : PopSession → StoreState → Type 0
-IsReady (variant.Open reading) store = (next_command reading.kept ≡ waiting) × KnowsState store (state_of reading.state)
+IsReady (variant.Open reading) store = (next_line reading.kept ≡ waiting) × KnowsState store (state_of reading.state)
 IsReady variant.Ended store = Unit {0}

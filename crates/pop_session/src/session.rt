@@ -1,7 +1,7 @@
 //! A session over a wire.
 ghost use Rattle.std.specs.Prelude.{◌≡◌, ℕ, ◌++◌, List, None, Some, IfOk, IfSome, MatchOption, Err, IsTrue, ◌↔◌, length, take, drop, ◌⊎◌, ◌<◌, ◌≤◌, ◌-◌, true, false, []};
 ghost use Rattle.mail_wire.specs.Lines.{first_line};
-ghost use Rattle.pop_session.specs.declared.session.TheConstants.{LINE_MAX};
+ghost use Rattle.mail_wire.specs.declared.framing.TheConstants.{LINE_MAX};
 ghost use Rattle.std.specs.Option.{option_copied};
 ghost use Rattle.mail_wire.specs.Moves.{GivesOrFails, HasWireCause};
 ghost use Rattle.mail_store.specs.StoreState.{StoreState};
@@ -17,16 +17,13 @@ use crate::replies::{Asked, find_message, list, list_one, retr, stat};
 use crate::states::{Authorization, Kind, Login, Pop, PopState, Transaction};
 use mail_store::kept::Listed;
 use mail_store::storing::Store;
-use mail_wire::framing::line_end;
+use mail_wire::framing::{LINE_MAX, line_end};
 use mail_wire::keeping::Keeper;
 use mail_wire::outside::{Fault, Wire};
 use mail_wire::traffic::give_all;
 use mail_wire::values::{Memory, Octets};
 use std::alloc::Global;
 use surrogate_cache::cache::Cache;
-
-/// The most octets of a line, its CRLF counted.
-pub const LINE_MAX: usize = 65_536;
 
 const DONE: &[u8] = b"+OK\r\n";
 
@@ -333,7 +330,7 @@ impl PopSession {
     /// Takes the next piece of the stream, and gives the replies to the commands that are whole now, in their order.
     ///
     /// Where a line ends is sought in the piece alone; of what came before only the last octet is looked at. A line of more
-    /// than [`LINE_MAX`] octets ends the session with a reply. After the end pieces are taken and bring nothing.
+    /// than `LINE_MAX` octets ends the session with a reply. After the end pieces are taken and bring nothing.
     ///
     /// An `Err` takes the session away, and no reply says so. No command changes the store yet, so `Fault::Keeper` never
     /// comes.

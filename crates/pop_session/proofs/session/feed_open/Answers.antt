@@ -3,10 +3,10 @@ use Rattle.std.proofs.lemmas.Result.{err_from_is_err_and}
 use Rattle.mail_wire.specs.declared.outside.Fault.TheVariants as fault
 use Rattle.mail_wire.proofs.Moving.{GoesOn-nil, GoesOn-of, GoesOn-trans}
 use Rattle.mail_wire.proofs.Feeding.{FedSoFar-start, FedSoFar-fails, FedSoFar-ends, FedSoFar-more, FedSoFar-all}
-use Rattle.pop_session.specs.declared.session.TheConstants.{LINE_MAX}
+use Rattle.mail_wire.specs.declared.framing.TheConstants.{LINE_MAX}
 use Rattle.pop_session.specs.Session.{line_too_long}
 use Rattle.pop_session.specs.Machine.{ended}
-use Rattle.pop_session.proofs.FramingLemmas.{waits}
+use Rattle.mail_wire.proofs.FramingLemmas.{waits}
 use Rattle.pop_session.proofs.FeedLemmas.{feed_of, machine_at, stepped, LineEndsAt, long_line, short_line, line_has_end, line_goes, line_ends, long_rest, kept_waits, turns_of-waiting, first_line-nil}
 use Rattle.pop_session.proofs.session.feed_open.Goals as goal
 

@@ -3,7 +3,7 @@ use Rattle.mail_wire.specs.Lines.{first_line}
 use Rattle.mail_wire.specs.Moves.{GoesOn}
 use Rattle.mail_wire.proofs.Feeding.{FedSoFar}
 use Rattle.surrogate_cache.specs.Served.{WithMeanings}
-use Rattle.pop_session.specs.declared.session.TheConstants.{LINE_MAX}
+use Rattle.mail_wire.specs.declared.framing.TheConstants.{LINE_MAX}
 use Rattle.pop_session.specs.States.{state_of, KnowsState}
 use Rattle.pop_session.proofs.FeedLemmas.{feed_of, machine_at}
 use Rattle.pop_session.proofs.session.feed_open.Given as goal

@@ -6,20 +6,20 @@ use Rattle.std.proofs.lemmas.Bool.Decides.{nat_tests}
 use Rattle.std.proofs.lemmas.List.{drop-append-le}
 use Rattle.mail_wire.specs.Lines.{first_line, Cut}
 use Rattle.mail_wire.proofs.FirstLineLemmas.{joins, put, first_line-across, first_line-apart, first_line-cut, joins_parts}
-use Rattle.pop_session.specs.declared.session.TheConstants.{LINE_MAX}
-use Rattle.pop_session.specs.Framing.{Framed, waiting, whole, too_long, next_command}
+use Rattle.mail_wire.specs.declared.framing.TheConstants.{LINE_MAX}
+use Rattle.mail_wire.specs.Framing.{Framed, waiting, whole, too_long, next_line}
 
-pub next_command-line : (octets : List ℕ) (cut : Cut) → first_line octets ≡ Some cut → nat_le (length cut.line) LINE_MAX ≡ true → next_command octets ≡ whole cut.line cut.rest
-next_command-line octets cut found short = rw (found, short) refl
+pub next_line-line : (octets : List ℕ) (cut : Cut) → first_line octets ≡ Some cut → nat_le (length cut.line) LINE_MAX ≡ true → next_line octets ≡ whole cut.line cut.rest
+next_line-line octets cut found short = rw (found, short) refl
 
-pub next_command-long_line : (octets : List ℕ) (cut : Cut) → first_line octets ≡ Some cut → nat_le (length cut.line) LINE_MAX ≡ false → next_command octets ≡ too_long (drop LINE_MAX octets)
-next_command-long_line octets cut found long = rw (found, long) refl
+pub next_line-long_line : (octets : List ℕ) (cut : Cut) → first_line octets ≡ Some cut → nat_le (length cut.line) LINE_MAX ≡ false → next_line octets ≡ too_long (drop LINE_MAX octets)
+next_line-long_line octets cut found long = rw (found, long) refl
 
-pub next_command-waiting : (octets : List ℕ) → first_line octets ≡ None → nat_le (length octets) LINE_MAX ≡ true → next_command octets ≡ waiting
-next_command-waiting octets none short = rw (none, short) refl
+pub next_line-waiting : (octets : List ℕ) → first_line octets ≡ None → nat_le (length octets) LINE_MAX ≡ true → next_line octets ≡ waiting
+next_line-waiting octets none short = rw (none, short) refl
 
-pub next_command-long : (octets : List ℕ) → first_line octets ≡ None → nat_le (length octets) LINE_MAX ≡ false → next_command octets ≡ too_long (drop LINE_MAX octets)
-next_command-long octets none long = rw (none, long) refl
+pub next_line-long : (octets : List ℕ) → first_line octets ≡ None → nat_le (length octets) LINE_MAX ≡ false → next_line octets ≡ too_long (drop LINE_MAX octets)
+next_line-long octets none long = rw (none, long) refl
 
 pub le_true : (n m : ℕ) → n ≤ m → nat_le n m ≡ true
 le_true n m h = grind (arith, nat_tests)
@@ -61,15 +61,15 @@ longer_by xs (y ∷ ys) cut none found true is =
 -- more octets leave what octets begin with
 abbrev pub IsSteady : List ℕ → Framed → Type 0
 IsSteady octets waiting = Unit {0}
-IsSteady octets (whole line rest) = (length rest < length octets) × ((more : List ℕ) → next_command (octets ++ more) ≡ whole line (rest ++ more))
-IsSteady octets (too_long rest) = (length rest < length octets) × ((more : List ℕ) → next_command (octets ++ more) ≡ too_long (rest ++ more))
+IsSteady octets (whole line rest) = (length rest < length octets) × ((more : List ℕ) → next_line (octets ++ more) ≡ whole line (rest ++ more))
+IsSteady octets (too_long rest) = (length rest < length octets) × ((more : List ℕ) → next_line (octets ++ more) ≡ too_long (rest ++ more))
 
 long_steady : (octets more : List ℕ) → LINE_MAX < length octets → (found : Option Cut) → first_line (octets ++ more) ≡ found
-    → ((cut : Cut) → first_line (octets ++ more) ≡ Some cut → LINE_MAX < length cut.line) → next_command (octets ++ more) ≡ too_long (drop LINE_MAX octets ++ more)
+    → ((cut : Cut) → first_line (octets ++ more) ≡ Some cut → LINE_MAX < length cut.line) → next_line (octets ++ more) ≡ too_long (drop LINE_MAX octets ++ more)
 long_steady octets more long None is lines =
-    next_command-long (octets ++ more) is (le_false (length (octets ++ more)) LINE_MAX (rw length-append (omega arith))) ∙ ap too_long (drop-append-le LINE_MAX octets more (omega arith))
+    next_line-long (octets ++ more) is (le_false (length (octets ++ more)) LINE_MAX (rw length-append (omega arith))) ∙ ap too_long (drop-append-le LINE_MAX octets more (omega arith))
 long_steady octets more long (Some cut) is lines =
-    next_command-long_line (octets ++ more) cut is (le_false (length cut.line) LINE_MAX (lines cut is)) ∙ ap too_long (drop-append-le LINE_MAX octets more (omega arith))
+    next_line-long_line (octets ++ more) cut is (le_false (length cut.line) LINE_MAX (lines cut is)) ∙ ap too_long (drop-append-le LINE_MAX octets more (omega arith))
 
 dropped : (octets : List ℕ) → LINE_MAX < length octets → length (drop LINE_MAX octets) < length octets
 dropped octets long = rw length-drop (omega arith)
@@ -77,36 +77,36 @@ dropped octets long = rw length-drop (omega arith)
 unsome_line : (line rest more : List ℕ) (cut : Cut) → Some (record { line = line; rest = rest ++ more }) ≡ Some cut → line ≡ cut.line
 unsome_line line rest more cut e = cc
 
-steady_line : (octets : List ℕ) (cut : Cut) → first_line octets ≡ Some cut → (b : Bool) → nat_le (length cut.line) LINE_MAX ≡ b → IsSteady octets (next_command octets)
+steady_line : (octets : List ℕ) (cut : Cut) → first_line octets ≡ Some cut → (b : Bool) → nat_le (length cut.line) LINE_MAX ≡ b → IsSteady octets (next_line octets)
 steady_line octets cut found true short =
     let parts = first_line-cut octets cut found in
     let two = parts.some in
     let len : length octets ≡ length cut.line + length cut.rest = ap length parts.parts ∙ length-append cut.line cut.rest in
-    rw (next_command-line octets cut found short) (omega arith, λ more. next_command-line (octets ++ more) _ (parts.longer more) short)
+    rw (next_line-line octets cut found short) (omega arith, λ more. next_line-line (octets ++ more) _ (parts.longer more) short)
 steady_line octets cut found false is =
     let parts = first_line-cut octets cut found in
     let long = below_of (length cut.line) LINE_MAX is in
     let len : length octets ≡ length cut.line + length cut.rest = ap length parts.parts ∙ length-append cut.line cut.rest in
     let all : LINE_MAX < length octets = omega arith in
-    rw (next_command-long_line octets cut found is) (
+    rw (next_line-long_line octets cut found is) (
       dropped octets all,
       λ more. long_steady octets more all _ (parts.longer more) (λ other at. rw (← unsome_line cut.line cut.rest more other (sym (parts.longer more) ∙ at)) long),
     )
 
-steady_none : (octets : List ℕ) → first_line octets ≡ None → (b : Bool) → nat_le (length octets) LINE_MAX ≡ b → IsSteady octets (next_command octets)
-steady_none octets none true short = rw (next_command-waiting octets none short) tt
+steady_none : (octets : List ℕ) → first_line octets ≡ None → (b : Bool) → nat_le (length octets) LINE_MAX ≡ b → IsSteady octets (next_line octets)
+steady_none octets none true short = rw (next_line-waiting octets none short) tt
 steady_none octets none false is =
     let long = below_of (length octets) LINE_MAX is in
-    rw (next_command-long octets none is) (
+    rw (next_line-long octets none is) (
       dropped octets long,
       λ more. long_steady octets more long (first_line (octets ++ more)) refl (λ cut at. let longer = longer_by octets more cut none at (joins octets more) refl in omega arith),
     )
 
-steady_by : (octets : List ℕ) (found : Option Cut) → first_line octets ≡ found → IsSteady octets (next_command octets)
+steady_by : (octets : List ℕ) (found : Option Cut) → first_line octets ≡ found → IsSteady octets (next_line octets)
 steady_by octets None is = steady_none octets is (nat_le (length octets) LINE_MAX) refl
 steady_by octets (Some cut) is = steady_line octets cut is (nat_le (length cut.line) LINE_MAX) refl
 
-pub steady : (octets : List ℕ) → IsSteady octets (next_command octets)
+pub steady : (octets : List ℕ) → IsSteady octets (next_line octets)
 steady octets = steady_by octets (first_line octets) refl
 
 -- octets that wait have no line, and aren't too many
@@ -114,26 +114,26 @@ pub record IsWaiting (octets : List ℕ) : Type 0 where
   pub none : first_line octets ≡ None
   pub short : length octets ≤ LINE_MAX
 
-waits_none : (octets : List ℕ) → first_line octets ≡ None → next_command octets ≡ waiting → (b : Bool) → nat_le (length octets) LINE_MAX ≡ b → IsWaiting octets
+waits_none : (octets : List ℕ) → first_line octets ≡ None → next_line octets ≡ waiting → (b : Bool) → nat_le (length octets) LINE_MAX ≡ b → IsWaiting octets
 waits_none octets none waits true is = record { none = none; short = at_most_of (length octets) LINE_MAX is }
-waits_none octets none waits false is = absurd (never (sym (next_command-long octets none is) ∙ waits))
+waits_none octets none waits false is = absurd (never (sym (next_line-long octets none is) ∙ waits))
   where
     never : too_long (drop LINE_MAX octets) ≡ waiting → ⊥
     never e = cc
 
-waits_some : (octets : List ℕ) (cut : Cut) → first_line octets ≡ Some cut → next_command octets ≡ waiting → (b : Bool) → nat_le (length cut.line) LINE_MAX ≡ b → IsWaiting octets
-waits_some octets cut found waits true is = absurd (never (sym (next_command-line octets cut found is) ∙ waits))
+waits_some : (octets : List ℕ) (cut : Cut) → first_line octets ≡ Some cut → next_line octets ≡ waiting → (b : Bool) → nat_le (length cut.line) LINE_MAX ≡ b → IsWaiting octets
+waits_some octets cut found waits true is = absurd (never (sym (next_line-line octets cut found is) ∙ waits))
   where
     never : whole cut.line cut.rest ≡ waiting → ⊥
     never e = cc
-waits_some octets cut found waits false is = absurd (never (sym (next_command-long_line octets cut found is) ∙ waits))
+waits_some octets cut found waits false is = absurd (never (sym (next_line-long_line octets cut found is) ∙ waits))
   where
     never : too_long (drop LINE_MAX octets) ≡ waiting → ⊥
     never e = cc
 
-waits_by : (octets : List ℕ) (found : Option Cut) → first_line octets ≡ found → next_command octets ≡ waiting → IsWaiting octets
+waits_by : (octets : List ℕ) (found : Option Cut) → first_line octets ≡ found → next_line octets ≡ waiting → IsWaiting octets
 waits_by octets None is waits = waits_none octets is waits (nat_le (length octets) LINE_MAX) refl
 waits_by octets (Some cut) is waits = waits_some octets cut is waits (nat_le (length cut.line) LINE_MAX) refl
 
-pub waits : (octets : List ℕ) → next_command octets ≡ waiting → IsWaiting octets
+pub waits : (octets : List ℕ) → next_line octets ≡ waiting → IsWaiting octets
 waits octets h = waits_by octets (first_line octets) refl h
