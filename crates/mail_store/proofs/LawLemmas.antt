@@ -14,17 +14,10 @@ use Rattle.mail_store.specs.Opening.{IsCutShort}
 use Rattle.mail_store.specs.Records.{IsRecord, AreRecords}
 use Rattle.mail_store.specs.Spelling.{number, fields_of, record_text, journal, first_octets}
 use Rattle.mail_store.specs.StoreState.{StoreState}
+use Rattle.mail_store.proofs.ChangeLemmas.{after_all-append}
+use Rattle.mail_store.proofs.DeliveryLemmas.{AreRecords-append}
 use Rattle.mail_store.proofs.Next.{some_fields}
 use Rattle.mail_store.proofs.Readings.{first_of}
-
--- records, and more of them
-AreRecords-append : (kept : Kept) (a b : List Record) → AreRecords kept a → AreRecords (after_all kept a) b → AreRecords kept (a ++ b)
-AreRecords-append kept [] b p q = q
-AreRecords-append kept (x ∷ a) b p q = (p.0, AreRecords-append (after kept x) a b p.1 q)
-
-after_all-append : (kept : Kept) (a b : List Record) → after_all kept (a ++ b) ≡ after_all (after_all kept a) b
-after_all-append kept [] b = refl
-after_all-append kept (x ∷ a) b = after_all-append (after kept x) a b
 
 journal-append : (a b : List Record) → journal (a ++ b) ≡ journal a ++ flat_map record_text b
 journal-append a b = ap (λ (l : List ℕ). first_octets ++ l) (flat_map-append record_text a b) ∙ sym (append_assoc first_octets (flat_map record_text a) (flat_map record_text b))

@@ -16,6 +16,8 @@ pub mod Next
 pub mod Places
 pub mod Readings
 pub mod LawLemmas
+pub mod FollowLemmas
+pub mod ListedLemmas
 pub mod ReplayLemmas
 pub mod WritingLemmas
 pub mod ChangeLemmas

@@ -15,4 +15,5 @@ pub mod Replaying
 pub mod Writing
 pub mod Chains
 pub mod Changing
+pub mod Following
 pub mod Delivering

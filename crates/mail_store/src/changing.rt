@@ -33,19 +33,25 @@ use mail_wire::keeping::Keeper;
 use mail_wire::outside::Failed;
 use mail_wire::values::{Memory as OutOfMemory, Octets};
 use std::alloc::{AllocError, AllocFailed, Global};
+use thiserror::Error;
 
 /// Why a store wasn't changed.
-#[derive(Clone, Copy, Debug, PartialEq, Eq)]
+#[derive(Clone, Copy, Debug, PartialEq, Eq, Error)]
 pub enum StoreFault {
     /// It is there already.
+    #[error("exists")]
     Exists,
     /// It isn't there.
+    #[error("not there")]
     NoSuch,
     /// Octets are more than the limit, or a kind of things would pass its limit.
+    #[error("too large")]
     TooLarge,
     /// Want of memory.
+    #[error("want of memory")]
     Memory,
     /// The keeper failed.
+    #[error("keeper fault")]
     Keeper,
 }
 

@@ -1,9 +1,14 @@
 //! Laws of journals and stores.
-ghost use Rattle.std.specs.Prelude.{◌≡◌, ℕ, List, ◌++◌, Option, Ok, Err};
+ghost use Rattle.std.specs.Prelude.{◌≡◌, ◌==◌, ℕ, List, ◌++◌, map, slice_get, Option, Ok, Err};
+ghost use Rattle.std.specs.List.{AllByRecursion, IsDistinct};
 ghost use Rattle.mail_store.specs.declared.changing.StoreFault.{StoreFault};
+ghost use Rattle.mail_store.specs.declared.kept.Listed.{Listed as ListedValue};
 ghost use Rattle.mail_store.specs.declared.records.Record.{Record};
 ghost use Rattle.mail_store.specs.Changing.{IsStoreOf, Changes, HoldsFirst};
+ghost use Rattle.mail_store.specs.Following.{Follows, FailsIn, records_of};
+ghost use Rattle.mail_store.specs.Kept.{Kept, listed};
 ghost use Rattle.mail_store.specs.Opening.{HasRecords, IsBadAt};
+ghost use Rattle.mail_store.specs.Records.{IsLive};
 ghost use Rattle.mail_store.specs.StoreState.{StoreState};
 
 /// Octets have their records in one way only, or are bad.
@@ -20,4 +25,19 @@ pub fn one_more_change()
         → Changes {T = Unit {0}} old new had has (Ok tt) more → IsStoreOf new has (all ++ more) }
     ensures keeper { (old new : StoreState) (had has : Option (List ℕ)) (all more : List Record) → IsStoreOf old had all
         → Changes {T = Unit {0}} old new had has (Err StoreFault.Keeper) more → HoldsFirst has all more }
+{}
+
+/// After several calls the store and the keeper have the records of all of them; where the keeper failed in one, it opens
+/// with the old records and the first of the new ones up to that call's.
+pub fn changes_follow()
+    ensures made { (old new : StoreState) (had has : Option (List ℕ)) (all more : List Record) → IsStoreOf old had all
+        → Follows old new had has more → IsStoreOf new has (all ++ more) }
+    ensures fails { (old new : StoreState) (had has : Option (List ℕ)) (all : List Record) (due : List (List Record)) → IsStoreOf old had all
+        → (fails : FailsIn old new had has due) → HoldsFirst has all (records_of fails.made ++ fails.failing) }
+{}
+
+/// The messages of a listing aren't expunged, and their numbers differ.
+pub fn listings_are_live()
+    ensures live { (kept : Kept) (folder : ℕ) → AllByRecursion (λ one. IsLive (slice_get kept.messages one.id)) (listed kept folder) }
+    ensures distinct { (kept : Kept) (folder : ℕ) → IsDistinct (λ a b. a == b) (map (λ (one : ListedValue). one.id) (listed kept folder)) }
 {}

@@ -14,15 +14,19 @@ use crate::storing::Store;
 use mail_wire::keeping::Keeper;
 use mail_wire::outside::Failed;
 use std::alloc::{AllocError, Global};
+use thiserror::Error;
 
 /// Why a store wasn't opened.
-#[derive(Clone, Copy, Debug, PartialEq, Eq)]
+#[derive(Clone, Copy, Debug, PartialEq, Eq, Error)]
 pub enum OpenFault {
     /// The keeper failed.
+    #[error("keeper fault")]
     Keeper,
     /// The octets from here on are no record and no prefix of one.
+    #[error("bad journal at {at}")]
     BadJournal { at: u64 },
     /// Want of memory.
+    #[error("want of memory")]
     Memory,
 }
 
