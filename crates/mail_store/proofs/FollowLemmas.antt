@@ -1,16 +1,13 @@
 -- Several calls that change a store, one after another.
-use Rattle.std.proofs.Common.{◌≡◌, ℕ, ◌+◌, ◌-◌, ◌≤◌, List, [], ◌∷◌, ◌++◌, length, take, Option, Some, None, true, refl, sym, ap, subst, ◌∙◌, append_assoc, append-nil, arith, length-append}
-use Rattle.std.specs.Prelude.{Result, Ok, Err}
+use Rattle.std.proofs.Common.{◌≡◌, ℕ, ◌+◌, List, [], ◌∷◌, ◌++◌, length, take, Option, Some, None, true, refl, sym, ap, subst, ◌∙◌, append_assoc, append-nil}
 use Rattle.std.specs.List.{flat_map}
 use Rattle.std.proofs.lemmas.List.Concat.{flat_map-cons, flat_map-append}
 use Rattle.std.proofs.Math.Seq.{take-append-add}
 use Rattle.mail_wire.specs.Keeping.{with_last}
-use Rattle.mail_wire.specs.declared.outside.Fault.{Fault}
-use Rattle.mail_wire.specs.declared.outside.Fault.TheVariants as fault
 use Rattle.mail_store.specs.declared.records.Record.{Record}
 use Rattle.mail_store.specs.Changing.{IsStoreOf, HoldsFirst}
-use Rattle.mail_store.specs.Following.{records_of, Follows, FollowsSome, FailsIn, Leaves}
-use Rattle.mail_store.specs.Kept.{Kept, after_all}
+use Rattle.mail_store.specs.Following.{records_of, Follows, FollowsSome, FailsIn}
+use Rattle.mail_store.specs.Kept.{Kept}
 use Rattle.mail_store.specs.Records.{AreRecords}
 use Rattle.mail_store.specs.Spelling.{record_text}
 use Rattle.mail_store.specs.StoreState.{StoreState, with_records}
@@ -49,29 +46,63 @@ Follows-more old mid new had has having all more first second = record {
       ∙ with_last-twice had (flat_map record_text all) (flat_map record_text more) ∙ ap (with_last had) (sym (flat_map-append record_text all more));
 }
 
--- one more call
-pub Follows-call : (old mid new : StoreState) (had has having : Option (List ℕ)) (made : List (List Record)) (more : List Record)
-    → Follows old mid had has (records_of made) → AreRecords mid.kept more × (new ≡ with_records mid more) × (having ≡ with_last has (flat_map record_text more))
-    → Follows old new had having (records_of (made ++ more ∷ []))
-Follows-call old mid new had has having made more first (records, store, journal) =
-    rw (records_of-one made more) (Follows-more old mid new had has having (records_of made) more first (record { records = records; store = store; journal = journal }))
+-- ---- changes that are due behind those that were made
 
--- the keeper failed in the next call
-pub FailsIn-call : (old mid new : StoreState) (had has having : Option (List ℕ)) (made : List (List Record)) (failing : List Record) (left due : List (List Record))
-    → due ≡ made ++ failing ∷ left → Follows old mid had has (records_of made)
-    → AreRecords mid.kept failing × (new ≡ record mid { failed = true }) × (n : ℕ) × (having ≡ with_last has (take n (flat_map record_text failing)))
-    → FailsIn old new had having due
-FailsIn-call old mid new had has having made failing left due is first (records, store, n, journal) = record {
-  made = made;
-  failing = failing;
-  left = left;
-  due_is = is;
-  records = records_on old mid (records_of made) failing first.store first.records records;
-  store = store ∙ ap (λ (s : StoreState). (let broken : StoreState = record s { failed = true } in broken)) first.store;
-  count = n;
-  journal = journal ∙ ap (λ (o : Option (List ℕ)). with_last o (take n (flat_map record_text failing))) first.journal
-      ∙ with_last-twice had (flat_map record_text (records_of made)) (take n (flat_map record_text failing));
+pub FollowsSome-more : (old mid new : StoreState) (had has having : Option (List ℕ)) (made due more : List (List Record)) → Follows old mid had has (records_of made)
+    → FollowsSome mid new has having due → FollowsSome old new had having (made ++ (due ++ more))
+FollowsSome-more old mid new had has having made due more first some = record {
+  made = made ++ some.made;
+  left = some.left ++ more;
+  due_is = ap (λ (l : List (List Record)). made ++ (l ++ more)) some.due_is ∙ ap (λ (l : List (List Record)). made ++ l) (append_assoc some.made some.left more)
+      ∙ sym (append_assoc made some.made (some.left ++ more));
+  follows = rw (records_of-append made some.made) (Follows-more old mid new had has having (records_of made) (records_of some.made) first some.follows);
 }
+
+-- the records of a call behind those of others
+records_behind : (made some : List (List Record)) (failing : List Record) → records_of made ++ (records_of some ++ failing) ≡ records_of (made ++ some) ++ failing
+records_behind made some failing =
+    sym (append_assoc (records_of made) (records_of some) failing) ∙ ap (λ (l : List Record). l ++ failing) (sym (records_of-append made some))
+
+pub FailsIn-more : (old mid new : StoreState) (had has having : Option (List ℕ)) (made due more : List (List Record)) → Follows old mid had has (records_of made)
+    → FailsIn mid new has having due → FailsIn old new had having (made ++ (due ++ more))
+FailsIn-more old mid new had has having made due more first fails =
+    let front = flat_map record_text (records_of made) in
+    let text = flat_map record_text (records_of fails.made) in
+    let cut = take fails.count (flat_map record_text fails.failing) in
+    let joined : front ++ (text ++ cut) ≡ flat_map record_text (records_of (made ++ fails.made)) ++ cut =
+    sym (append_assoc front text cut) ∙ ap (λ (l : List ℕ). l ++ cut) (sym (flat_map-append record_text (records_of made) (records_of fails.made)) ∙ ap (flat_map record_text) (sym (records_of-append made fails.made))) in
+    record {
+      made = made ++ fails.made;
+      failing = fails.failing;
+      left = fails.left ++ more;
+      due_is = ap (λ (l : List (List Record)). made ++ (l ++ more)) fails.due_is ∙ ap (λ (l : List (List Record)). made ++ l) (append_assoc fails.made (fails.failing ∷ fails.left) more)
+          ∙ sym (append_assoc made fails.made (fails.failing ∷ (fails.left ++ more)));
+      records = subst (AreRecords old.kept) (records_behind made fails.made fails.failing)
+          (records_on old mid (records_of made) (records_of fails.made ++ fails.failing) first.store first.records fails.records);
+      store = fails.store ∙ ap (λ (s : StoreState). (let broken : StoreState = record (with_records s (records_of fails.made)) { failed = true } in broken)) first.store
+          ∙ ap (λ (s : StoreState). (let broken : StoreState = record s { failed = true } in broken)) (with_records-append old (records_of made) (records_of fails.made) ∙ ap (with_records old) (sym (records_of-append made fails.made)));
+      count = fails.count;
+      journal = fails.journal ∙ ap (λ (o : Option (List ℕ)). with_last o (text ++ cut)) first.journal ∙ with_last-twice had front (text ++ cut) ∙ ap (with_last had) joined;
+    }
+
+-- ---- one call
+
+pub Follows-one : (old new : StoreState) (had has : Option (List ℕ)) (all : List Record)
+    → AreRecords old.kept all × (new ≡ with_records old all) × (has ≡ with_last had (flat_map record_text all)) → Follows old new had has (records_of (all ∷ []))
+Follows-one old new had has all (records, store, journal) = rw (records_of-one [] all) (record { records = records; store = store; journal = journal })
+
+-- the call wasn't made
+pub FollowsSome-none : (old : StoreState) (had : Option (List ℕ)) (due : List (List Record)) → FollowsSome old old had had due
+FollowsSome-none old had due = record { made = []; left = due; due_is = refl; follows = Follows-nil old had }
+
+-- it was, and what follows failed
+pub FollowsSome-all : (old new : StoreState) (had has : Option (List ℕ)) (due : List (List Record)) → Follows old new had has (records_of due) → FollowsSome old new had has due
+FollowsSome-all old new had has due follows = record { made = due; left = []; due_is = sym (append-nil due); follows = follows }
+
+pub FailsIn-one : (old new : StoreState) (had has : Option (List ℕ)) (failing : List Record)
+    → AreRecords old.kept failing × (new ≡ record old { failed = true }) × (n : ℕ) × (has ≡ with_last had (take n (flat_map record_text failing))) → FailsIn old new had has (failing ∷ [])
+FailsIn-one old new had has failing (records, store, n, journal) =
+    record { made = []; failing = failing; left = []; due_is = refl; records = records; store = store; count = n; journal = journal }
 
 -- ---- the laws
 

@@ -18,6 +18,7 @@ pub mod Readings
 pub mod LawLemmas
 pub mod FollowLemmas
 pub mod ListedLemmas
+pub mod ActLemmas
 pub mod ReplayLemmas
 pub mod WritingLemmas
 pub mod ChangeLemmas

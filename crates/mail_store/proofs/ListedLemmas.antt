@@ -1,6 +1,6 @@
 -- The messages of a folder's listing are live, and their numbers differ.
-use Rattle.std.proofs.Common.{◌≡◌, ℕ, ◌+◌, ◌<◌, ◌≤◌, List, [], ◌∷◌, ◌++◌, length, Bool, true, false, arith, refl, sym, ap, subst, ◌∙◌, append_assoc, length-append}
-use Rattle.std.specs.Prelude.{IsTrue, ◌==◌, map, slice_get, if◌then◌else◌}
+use Rattle.std.proofs.Common.{◌≡◌, ℕ, ◌+◌, ◌≤◌, List, [], ◌∷◌, ◌++◌, length, Bool, true, false, arith, refl, subst, append_assoc, length-append}
+use Rattle.std.specs.Prelude.{◌==◌, map, slice_get, if◌then◌else◌}
 use Rattle.std.specs.List.{AllByRecursion, IsDistinct}
 use Rattle.std.proofs.lemmas.Bool.Decides.{nat_tests}
 use Rattle.mail_store.specs.declared.kept.Message.{Message}

@@ -16,4 +16,5 @@ pub mod Writing
 pub mod Chains
 pub mod Changing
 pub mod Following
+pub mod Acts
 pub mod Delivering
