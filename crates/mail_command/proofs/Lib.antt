@@ -5,4 +5,5 @@ pub mod OutcomeLemmas
 pub mod RunLemmas
 pub mod ServingLemmas
 pub mod PopServing
+pub mod BegunLemmas
 pub mod SessionLemmas

@@ -1,11 +1,13 @@
 -- A session over a wire, whatever it answers: what was taken so far, and the answer to it.
-use Rattle.std.proofs.Common.{◌≡◌, ℕ, List, [], ◌∷◌, ◌++◌, Option, Some, None, refl, sym, ap, ◌∙◌, append-nil, append_assoc, take}
-use Rattle.std.specs.Prelude.{IfSome}
+use Rattle.std.proofs.Common.{◌≡◌, ℕ, ◌≤◌, List, [], ◌∷◌, ◌++◌, Option, Some, None, Result, refl, sym, ap, ◌∙◌, append-nil, append_assoc, take, arith}
+use Rattle.std.specs.Prelude.{IfSome, IsTrue}
 use Rattle.std.specs.Io.KnownBytes.{Consumes, IsAtEnd}
 use Rattle.std.proofs.lemmas.Option.{IfSome_then}
 use Rattle.mail_wire.specs.declared.outside.Entry.{Entry}
 use Rattle.mail_wire.specs.declared.outside.Entry.TheVariants.{Taken}
 use Rattle.mail_wire.specs.Telling.{Telling}
+use Rattle.mail_wire.specs.KeeperTelling.{KeeperTelling}
+use Rattle.mail_wire.specs.Keeping.{HasKeeperCause}
 use Rattle.mail_wire.specs.Transcript.{IsLawful, taken_of, given_of}
 use Rattle.mail_wire.specs.Moves.{Moves, Gives, TakesPiece, TakesNothing}
 use Rattle.mail_wire.proofs.Moving.{Moves-trans, Moves-take, Moves-none, taken_of-append, given_of-append, AreGiven-taken_of}
@@ -111,3 +113,19 @@ pub begins_answer : (answer : List ℕ → List ℕ) (a b : Telling) (taken give
 begins_answer answer a b taken given grows half begun =
     IfSome_then a.left {P = λ octets. IsPrefixOf taken octets} (left_begins answer a b taken given half)
     (λ octets front. prefix_trans given (answer taken) (answer octets) begun (rw (← front.1) at (grows taken front.0)))
+
+-- ---- the keeper
+
+-- The count of faults doesn't fall, and a keeper that tells that it never fails goes on telling so.
+pub record KeepsOn (before now : KeeperTelling) : Type 0 where
+  pub later : before.faults ≤ now.faults
+  pub sure : IsTrue before.never_fails → IsTrue now.never_fails
+
+pub KeepsOn-nil : (a : KeeperTelling) → KeepsOn a a
+KeepsOn-nil a = record { later = omega arith; sure = λ sure. sure }
+
+pub KeepsOn-trans : (a b c : KeeperTelling) → KeepsOn a b → KeepsOn b c → KeepsOn a c
+KeepsOn-trans a b c one two = record { later = let early = one.later in let late = two.later in omega arith; sure = λ sure. two.sure (one.sure sure) }
+
+pub KeepsOn-of : {T E : Type 0} (a b : KeeperTelling) (result : Result T E) (fault : E) → HasKeeperCause a b result fault → KeepsOn a b
+KeepsOn-of a b result fault cause = record { later = cause.later; sure = λ sure. (cause.sure sure).0 }

@@ -11,6 +11,8 @@ use Rattle.mail_store.specs.declared.opening.OpenFault.{OpenFault}
 use Rattle.mail_store.specs.declared.opening.OpenFault.TheVariants as faults
 use Rattle.mail_store.specs.declared.records.Record.{Record}
 use Rattle.mail_store.specs.Answers.{IsFold, OpensTo, IsJournalFault, LeavesRecords}
+use Rattle.mail_store.specs.Changing.{HoldsFirst}
+use Rattle.mail_store.specs.Following.{records_of}
 use Rattle.mail_store.specs.Kept.{nothing, store_of}
 use Rattle.mail_store.specs.Opening.{IsBadAt}
 use Rattle.mail_store.specs.Records.{AreRecords}
@@ -19,7 +21,9 @@ use Rattle.mail_store.specs.StoreState.{StoreState}
 use Rattle.surrogate_cache.specs.Served.{Meanings}
 use Rattle.mail_command.specs.declared.serving.Role.{Role}
 use Rattle.mail_command.specs.Outcome.{DowngradeOutcome, message_max}
-use Rattle.mail_command.specs.Serving.{IsPrefixOf, ServesLawfully, ServesAll, ServesUpTo}
+use Rattle.mail_command.specs.declared.serving.Served.{Served}
+use Rattle.mail_command.specs.Served.{status_of_served}
+use Rattle.mail_command.specs.Serving.{IsPrefixOf, changes_by, ServesLawfully, ServesAll, ServesUpTo}
 
 -- status 1, a fault of the wire, or 3, want of memory
 abbrev pub IsBrokenOff : ℕ → Type 0
@@ -97,28 +101,46 @@ pub record IsUnopened (old new : Option (List ℕ)) (status : ℕ) (line : List 
 abbrev pub BreaksSessionOff : ℕ → Type 0
 BreaksSessionOff status = IsBrokenOff status ⊎ (status ≡ 2)
 
--- how far a session's command came that was broken off
-pub data BreaksSession (meanings : Meanings) (role : Role) (max : ℕ) (old new : Option (List ℕ)) (before now : Telling) : Type 0 where
+-- The keeper opens with the store's records and the first of those that the changes bring.
+pub record HoldsBegun (octets : Option (List ℕ)) (store : StoreState) (due : List (List Record)) : Type 0 where
+  pub all : List Record
+  pub records : AreRecords nothing all
+  pub fold : store.kept ≡ store_of all
+  pub holds : HoldsFirst octets all (records_of due)
+
+-- A session was broken off that worked on the store that the keeper's records give.
+pub record BreaksInSession (meanings : Meanings) (role : Role) (max : ℕ) (old new : Option (List ℕ)) (before now : Telling) (status : ℕ) : Type 0 where
+  pub store : StoreState
+  pub after : StoreState
+  pub opened : Option (List ℕ)
+  pub served : Served
+  pub told : status ≡ status_of_served served
+  pub opens : OpensStore old opened store
+  pub lawful : ServesLawfully meanings role store after opened new served max before now
+  pub holds : IfSome old (λ octets. HoldsBegun new store (changes_by meanings role store (taken_of lawful.entries)))
+
+-- how far a session's command came that was broken off and ended so
+pub data BreaksSession (meanings : Meanings) (role : Role) (max : ℕ) (old new : Option (List ℕ)) (before now : Telling) (ended : ℕ) : Type 0 where
   -- the journal wasn't opened
-  InJournal : Gives before now [] → BreaksSession meanings role max old new before now
+  InJournal : Gives before now [] → LeavesRecords old new → BreaksSession meanings role max old new before now ended
   -- the line that tells why it can't be
-  InLine : (status : ℕ) (line : List ℕ) → IsUnopened old new status line → GivesPrefix before now line → BreaksSession meanings role max old new before now
-  InSession : (store : StoreState) → OpensStore old new store → ServesLawfully meanings role store max before now → BreaksSession meanings role max old new before now
+  InLine : (status : ℕ) (line : List ℕ) → IsUnopened old new status line → GivesPrefix before now line → LeavesRecords old new
+      → BreaksSession meanings role max old new before now ended
+  InSession : BreaksInSession meanings role max old new before now ended → BreaksSession meanings role max old new before now ended
 
 -- What the command of a session does, by its status. `meanings` gives surrogates and reads paths, and `max` is how many
 -- octets a session may take.
 pub data RunsSession (meanings : Meanings) (role : Role) (max : ℕ) (old new : Option (List ℕ)) (before now : Telling) (status : ℕ) : Type 0 where
   -- the session or its input ended
-  Ended : (store after : StoreState) → OpensStore old new store → ServesAll meanings role store after max before now → HoldsStore new after → status ≡ 0
-      → RunsSession meanings role max old new before now status
+  Ended : (store after : StoreState) (opened : Option (List ℕ)) → OpensStore old opened store → ServesAll meanings role store after opened new max before now
+      → HoldsStore new after → status ≡ 0 → RunsSession meanings role max old new before now status
   -- as many octets were taken as a session may take, and it hadn't ended
-  Limit : (store after : StoreState) → OpensStore old new store → ServesUpTo meanings role store after max before now → HoldsStore new after → status ≡ 6
-      → RunsSession meanings role max old new before now status
+  Limit : (store after : StoreState) (opened : Option (List ℕ)) → OpensStore old opened store → ServesUpTo meanings role store after opened new max before now
+      → HoldsStore new after → status ≡ 6 → RunsSession meanings role max old new before now status
   -- the journal was told to be bad
   Unopened : (line : List ℕ) → IsUnopened old new status line → Gives before now line → RunsSession meanings role max old new before now status
-  -- it was broken off; the keeper's records stay
-  Broken : BreaksSessionOff status → BreaksSession meanings role max old new before now → LeavesRecords old new
-      → RunsSession meanings role max old new before now status
+  -- it was broken off
+  Broken : BreaksSessionOff status → BreaksSession meanings role max old new before now status → RunsSession meanings role max old new before now status
 
 -- A journal that is bad is answered 5, unless the command was broken off.
 abbrev pub IsExactJournal : List ℕ → ℕ → Type 0

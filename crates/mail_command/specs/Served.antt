@@ -1,10 +1,15 @@
--- When a session may be answered with a fault.
-use Rattle.std.specs.Prelude.{◌≡◌, ◌≤◌, IsTrue}
+-- How a session may be answered, and what it leaves of its store then.
+use Rattle.std.specs.Prelude.{◌≡◌, ◌≤◌, ℕ, List, Bool, true, false, Option, Result, Ok, Err, IsTrue}
 use Rattle.mail_wire.specs.Telling.{Telling}
 use Rattle.mail_wire.specs.KeeperTelling.{KeeperTelling}
 use Rattle.mail_wire.specs.Causes.{Rose}
+use Rattle.mail_wire.specs.declared.outside.Fault.{Fault}
+use Rattle.mail_wire.specs.declared.outside.Fault.TheVariants as fault
+use Rattle.mail_store.specs.Following.{records_of, Follows, FollowsSome, FailsIn}
+use Rattle.mail_store.specs.StoreState.{StoreState}
+use Rattle.mail_store.specs.declared.records.Record.{Record}
 use Rattle.mail_command.specs.declared.serving.Served.{Served}
-use Rattle.mail_command.specs.declared.serving.Served.TheVariants.{WireFault, KeeperFault}
+use Rattle.mail_command.specs.declared.serving.Served.TheVariants.{Ended, WireFault, KeeperFault, Memory, Limit}
 
 -- No count of faults falls. A fault of the wire or of the keeper comes only where its count rose, and never where it tells that
 -- it never fails.
@@ -15,3 +20,28 @@ pub record HasServedCause (before now : Telling) (keeper kept : KeeperTelling) (
   pub keeper_later : keeper.faults ≤ kept.faults
   pub keeper_rose : served ≡ KeeperFault → Rose keeper.faults kept.faults
   pub keeper_sure : IsTrue keeper.never_fails → IsTrue kept.never_fails × ¬ (served ≡ KeeperFault)
+
+-- What is left of the changes that were due: all were made in the store and in the keeper; or the first ones, where the session
+-- was broken off; or the first ones and, in the keeper, a prefix of the next one, where the keeper failed.
+abbrev pub LeavesBy : StoreState → StoreState → Option (List ℕ) → Option (List ℕ) → Served → List (List Record) → Type 0
+LeavesBy old new had has Ended due = Follows old new had has (records_of due)
+LeavesBy old new had has Limit due = Follows old new had has (records_of due)
+LeavesBy old new had has WireFault due = FollowsSome old new had has due
+LeavesBy old new had has Memory due = FollowsSome old new had has due
+LeavesBy old new had has KeeperFault due = FailsIn old new had has due
+
+-- a fault as the call answers it
+abbrev pub served_of : Result Bool Fault → Served
+served_of (Ok true) = Ended
+served_of (Ok false) = Limit
+served_of (Err fault.Wire) = WireFault
+served_of (Err fault.Keeper) = KeeperFault
+served_of (Err fault.Memory) = Memory
+
+-- the status of a command whose session ends so
+abbrev pub status_of_served : Served → ℕ
+status_of_served Ended = 0
+status_of_served WireFault = 1
+status_of_served KeeperFault = 2
+status_of_served Memory = 3
+status_of_served Limit = 6

@@ -6,7 +6,7 @@ ghost use Rattle.mail_store.specs.Answers.{IsFold, OpensTo, IsJournalFault, Leav
 ghost use Rattle.mail_store.specs.StoreState.{StoreState};
 ghost use Rattle.surrogate_cache.specs.Served.{WithMeanings};
 ghost use Rattle.mail_command.specs.Serving.{AreLimits, IsOpen, ServesLawfully, ServesAll, ServesUpTo};
-ghost use Rattle.mail_command.specs.Served.{HasServedCause};
+ghost use Rattle.mail_command.specs.Served.{HasServedCause, served_of};
 
 use mail_store::opening::OpenFault;
 use mail_store::storing::Store;
@@ -95,16 +95,17 @@ fn serve_pop<W: Wire, J: Keeper>(
     wire: &mut W,
     keeper: &mut J,
 ) -> Result<bool, Fault>
-    ensures lawful { WithMeanings (λ meanings. ServesLawfully meanings Role.Pop desk.old.store desk.old.limits.session_max (W.tells wire.old) (W.tells wire.new)) }
-    ensures ended { result ≡ Ok true → WithMeanings (λ meanings.
-        ServesAll meanings Role.Pop desk.old.store desk.new.store desk.old.limits.session_max (W.tells wire.old) (W.tells wire.new)) }
-    ensures limit { result ≡ Ok false → WithMeanings (λ meanings.
-        ServesUpTo meanings Role.Pop desk.old.store desk.new.store desk.old.limits.session_max (W.tells wire.old) (W.tells wire.new)) }
+    requires { IsOpen desk.old }
+    ensures lawful { WithMeanings (λ meanings. ServesLawfully meanings Role.Pop desk.old.store desk.new.store
+        (J.tells keeper.old).octets (J.tells keeper.new).octets (served_of result) desk.old.limits.session_max (W.tells wire.old) (W.tells wire.new)) }
+    ensures ended { result ≡ Ok true → WithMeanings (λ meanings. ServesAll meanings Role.Pop desk.old.store desk.new.store
+        (J.tells keeper.old).octets (J.tells keeper.new).octets desk.old.limits.session_max (W.tells wire.old) (W.tells wire.new)) }
+    ensures limit { result ≡ Ok false → WithMeanings (λ meanings. ServesUpTo meanings Role.Pop desk.old.store desk.new.store
+        (J.tells keeper.old).octets (J.tells keeper.new).octets desk.old.limits.session_max (W.tells wire.old) (W.tells wire.new)) }
     ensures cause { HasWireCause (W.tells wire.old) (W.tells wire.new) result Fault.Wire }
-    ensures keeper { ¬ (result ≡ Err Fault.Keeper) }
-    ensures kept { J.tells keeper.new ≡ J.tells keeper.old }
+    ensures keeper { HasKeeperCause (J.tells keeper.old) (J.tells keeper.new) result Fault.Keeper }
+    ensures open { ¬ (result ≡ Err Fault.Keeper) → IsOpen desk.new }
     ensures limits { desk.new.limits ≡ desk.old.limits }
-    ensures same { desk.new.store ≡ desk.old.store }
 {
     let max = desk.limits.session_max;
     let mut session = PopSession::start(alloc, wire)?;
@@ -141,20 +142,20 @@ pub fn serve_one<W: Wire, J: Keeper>(
     keeper: &mut J,
 ) -> Served
     requires { IsOpen desk.old }
-    // Before each take all that was taken was answered, nothing else was ever given, and no more was taken than the limit.
-    ensures lawful { WithMeanings (λ meanings. ServesLawfully meanings role desk.old.store desk.old.limits.session_max (W.tells wire.old) (W.tells wire.new)) }
+    // Before each take all that was taken was answered, nothing else was ever given, and no more was taken than the limit. The
+    // changes of what was taken were made in the store and in the keeper, or, after a fault, the first of them.
+    ensures lawful { WithMeanings (λ meanings. ServesLawfully meanings role desk.old.store desk.new.store
+        (J.tells keeper.old).octets (J.tells keeper.new).octets result desk.old.limits.session_max (W.tells wire.old) (W.tells wire.new)) }
     // The session was sent what is due for all that was left, and has ended, or nothing is left.
-    ensures ended { result ≡ Served.Ended → WithMeanings (λ meanings.
-        ServesAll meanings role desk.old.store desk.new.store desk.old.limits.session_max (W.tells wire.old) (W.tells wire.new)) }
+    ensures ended { result ≡ Served.Ended → WithMeanings (λ meanings. ServesAll meanings role desk.old.store desk.new.store
+        (J.tells keeper.old).octets (J.tells keeper.new).octets desk.old.limits.session_max (W.tells wire.old) (W.tells wire.new)) }
     // It was sent what is due for as many octets as a session may take, and has not ended.
-    ensures limit { result ≡ Served.Limit → WithMeanings (λ meanings.
-        ServesUpTo meanings role desk.old.store desk.new.store desk.old.limits.session_max (W.tells wire.old) (W.tells wire.new)) }
+    ensures limit { result ≡ Served.Limit → WithMeanings (λ meanings. ServesUpTo meanings role desk.old.store desk.new.store
+        (J.tells keeper.old).octets (J.tells keeper.new).octets desk.old.limits.session_max (W.tells wire.old) (W.tells wire.new)) }
 
     ensures cause { HasServedCause (W.tells wire.old) (W.tells wire.new) (J.tells keeper.old) (J.tells keeper.new) result }
-    ensures open { IsOpen desk.new }
+    ensures open { ¬ (result ≡ Served.KeeperFault) → IsOpen desk.new }
     ensures limits { desk.new.limits ≡ desk.old.limits }
-    ensures store { desk.new.store ≡ desk.old.store }
-    ensures kept { J.tells keeper.new ≡ J.tells keeper.old }
 {
     let served = match role {
         Role::Pop => serve_pop(alloc, desk, wire, keeper),

@@ -1,53 +1,65 @@
--- The turns of a stream that comes in pieces.
-use Rattle.std.proofs.Common.{◌≡◌, ℕ, ◌+◌, ◌-◌, ◌<◌, ◌≤◌, List, [], ◌++◌, length, take, drop, arith, refl, sym, ap, ◌∙◌, Some, None, Option, length-append}
-use Rattle.mail_wire.specs.Lines.{first_line}
-use Rattle.mail_wire.proofs.FirstLineLemmas.{first_line-cut}
-use Rattle.std.proofs.lemmas.List.{length-take-le}
+-- The turns of a stream that comes in pieces, and what a session has done by then.
+use Rattle.std.proofs.Common.{◌≡◌, ℕ, ◌+◌, ◌<◌, ◌≤◌, List, [], ◌++◌, length, arith, refl, sym, ap, subst, ◌∙◌, Bool, true, false, Some, None, Option, Ok, Err, Result}
+use Rattle.std.specs.Prelude.{nat_le, take, drop, IsTrue}
+use Rattle.std.specs.List.{AllByRecursion}
+use Rattle.mail_wire.specs.Framing.{Framed, waiting, whole, too_long, next_line, framed_as}
+use Rattle.mail_wire.specs.Keeping.{HasKeeperCause}
+use Rattle.mail_wire.specs.KeeperTelling.{KeeperTelling}
+use Rattle.mail_wire.specs.Lines.{Cut, first_line}
+use Rattle.mail_wire.specs.Moves.{Gives, GivesPrefix, GoesOn}
+use Rattle.mail_wire.specs.Telling.{Telling}
 use Rattle.mail_wire.specs.Turns.{Turn, stay, behind, followed_by, IsFramed}
-use Rattle.mail_wire.proofs.TurnsLemmas.{all_turns-stop, all_turns-go}
-use Rattle.mail_wire.proofs.Feeding.{Feed}
-use Rattle.mail_store.specs.StoreState.{StoreState}
-use Rattle.surrogate_cache.specs.Served.{Meanings}
 use Rattle.mail_wire.specs.declared.framing.TheConstants.{LINE_MAX}
+use Rattle.mail_wire.specs.declared.framing.FoundLine.{FoundLine}
+use Rattle.mail_wire.specs.declared.framing.FoundLine.TheVariants as variant
+use Rattle.mail_wire.specs.declared.outside.Fault.{Fault}
+use Rattle.mail_wire.specs.declared.outside.Fault.TheVariants as fault
+use Rattle.mail_wire.proofs.FirstLineLemmas.{first_line-cut}
+use Rattle.mail_wire.proofs.FramingLemmas.{IsSteady, steady, next_line-line, next_line-long_line, next_line-waiting, next_line-long}
+use Rattle.mail_wire.proofs.TurnsLemmas.{all_turns-stop, all_turns-go}
+use Rattle.mail_store.specs.Acts.{Act, acts_of, changes_in}
+use Rattle.mail_store.specs.Following.{records_of, Follows, Leaves}
+use Rattle.mail_store.specs.StoreState.{StoreState, with_records}
+use Rattle.mail_store.proofs.ActLemmas.{Serving, ServedSoFar, ServedSoFar-start, ServedSoFar-more, ServedSoFar-broken, ServedSoFar-fails, ServedSoFar-given, ServedAll, ServedSoFar-all, ServedSoFar-ends}
+use Rattle.mail_store.proofs.FollowLemmas.{Follows-nil}
+use Rattle.surrogate_cache.specs.Served.{Meanings, WithMeanings}
 use Rattle.pop_session.specs.declared.states.PopState.{PopState}
 use Rattle.pop_session.specs.declared.states.PopState.TheVariants as pop
-use Rattle.mail_wire.specs.Framing.{Framed, waiting, whole, too_long, next_line}
 use Rattle.pop_session.specs.Commands.{command_of}
 use Rattle.pop_session.specs.Machine.{Part, State, authorization, transaction, ended, Step, step}
-use Rattle.pop_session.specs.Replies.{part_octets, IsFit}
+use Rattle.pop_session.specs.Replies.{part_octets, reply_octets, given_by, IsFit, AreFit}
 use Rattle.pop_session.specs.States.{state_of, state_or_ended}
-use Rattle.pop_session.specs.Session.{Machine, line_too_long, turn_by, turn_in, next_turn, turns_of}
-use Rattle.mail_wire.proofs.FramingLemmas.{IsSteady, steady, next_line-line, next_line-long_line, next_line-waiting, next_line-long, le_true, le_false}
+use Rattle.pop_session.specs.Session.{Machine, line_too_long, after_step, turn_by, turn_in, next_turn, turns_of}
 
 -- the machine by what gives surrogates and reads paths
-abbrev pub feed_of : Meanings → Feed
-feed_of meanings = record { S = Machine; P = Part; next = next_turn meanings; spelled = part_octets meanings; Fits = IsFit meanings }
+abbrev pub serving_of : Meanings → Serving
+serving_of meanings = record { S = Machine; P = Part; next = next_turn meanings; spelled = part_octets meanings; Fits = IsFit meanings }
 
-turn_by_shorter : (meanings : Meanings) (machine : Machine) (octets : List ℕ) (framed : Framed) (turn : Turn Machine Part) → IsSteady octets framed
+turn_by_shorter : (meanings : Meanings) (machine : Machine) (octets : List ℕ) (framed : Framed) (turn : Turn Machine (Act Part)) → IsSteady octets framed
     → turn_by meanings machine framed ≡ Some turn → length turn.rest < length octets
 turn_by_shorter meanings machine octets waiting turn steady is = cc
 turn_by_shorter meanings machine octets (whole line rest) turn steady is = let same : rest ≡ turn.rest = cc in rw (← same) steady.0
 turn_by_shorter meanings machine octets (too_long rest) turn steady is = let same : rest ≡ turn.rest = cc in rw (← same) steady.0
 
-unsome : {a b : Turn Machine Part} → Some a ≡ Some b → a ≡ b
+unsome : {a b : Turn Machine (Act Part)} → Some a ≡ Some b → a ≡ b
 unsome h = cc
 
-turn_by_stays : (meanings : Meanings) (machine : Machine) (octets more : List ℕ) (framed : Framed) (turn : Turn Machine Part) → IsSteady octets framed
+turn_by_stays : (meanings : Meanings) (machine : Machine) (octets more : List ℕ) (framed : Framed) (turn : Turn Machine (Act Part)) → IsSteady octets framed
     → turn_by meanings machine framed ≡ Some turn → turn_by meanings machine (next_line (octets ++ more)) ≡ Some (followed_by more turn)
 turn_by_stays meanings machine octets more waiting turn steady is = cc
 turn_by_stays meanings machine octets more (whole line rest) turn steady is = ap (turn_by meanings machine) (steady.1 more) ∙ ap (λ t. Some (followed_by more t)) (unsome is)
 turn_by_stays meanings machine octets more (too_long rest) turn steady is = ap (turn_by meanings machine) (steady.1 more) ∙ ap (λ t. Some (followed_by more t)) (unsome is)
 
-shorter_in : (meanings : Meanings) (state : State) (machine : Machine) (octets : List ℕ) (turn : Turn Machine Part) → turn_in meanings state machine octets ≡ Some turn
+shorter_in : (meanings : Meanings) (state : State) (machine : Machine) (octets : List ℕ) (turn : Turn Machine (Act Part)) → turn_in meanings state machine octets ≡ Some turn
     → length turn.rest < length octets
 shorter_in meanings (authorization mode user) machine octets turn is = turn_by_shorter meanings machine octets (next_line octets) turn (steady octets) is
-shorter_in meanings (transaction mode inbox) machine octets turn is = turn_by_shorter meanings machine octets (next_line octets) turn (steady octets) is
+shorter_in meanings (transaction mode maildrop) machine octets turn is = turn_by_shorter meanings machine octets (next_line octets) turn (steady octets) is
 shorter_in meanings ended machine octets turn is = cc
 
-stays_in : (meanings : Meanings) (state : State) (machine : Machine) (octets more : List ℕ) (turn : Turn Machine Part) → turn_in meanings state machine octets ≡ Some turn
+stays_in : (meanings : Meanings) (state : State) (machine : Machine) (octets more : List ℕ) (turn : Turn Machine (Act Part)) → turn_in meanings state machine octets ≡ Some turn
     → turn_in meanings state machine (octets ++ more) ≡ Some (followed_by more turn)
 stays_in meanings (authorization mode user) machine octets more turn is = turn_by_stays meanings machine octets more (next_line octets) turn (steady octets) is
-stays_in meanings (transaction mode inbox) machine octets more turn is = turn_by_stays meanings machine octets more (next_line octets) turn (steady octets) is
+stays_in meanings (transaction mode maildrop) machine octets more turn is = turn_by_stays meanings machine octets more (next_line octets) turn (steady octets) is
 stays_in meanings ended machine octets more turn is = cc
 
 -- a turn takes an octet at least, and doesn't depend on what comes later
@@ -87,84 +99,177 @@ stepped meanings state store line = step meanings (state_of state) store (comman
 
 turns_of-line : (meanings : Meanings) (state : PopState) (store : StoreState) (octets line rest : List ℕ) → next_line octets ≡ whole line rest
     → turns_of meanings (machine_at state store) octets
-    ≡ behind (stepped meanings state store line).reply (turns_of meanings (record { state = (stepped meanings state store line).state; store = store }) rest)
+    ≡ behind (acts_of (stepped meanings state store line).changes (stepped meanings state store line).reply) (turns_of meanings (after_step store (stepped meanings state store line)) rest)
 turns_of-line meanings state store octets line rest is =
     all_turns-go (next_turn meanings) (next_turn-framed meanings) (machine_at state store) octets _ (reads meanings state store octets ∙ ap (turn_by meanings (machine_at state store)) is)
 
 turns_of-too_long : (meanings : Meanings) (state : PopState) (store : StoreState) (octets rest : List ℕ) → next_line octets ≡ too_long rest
-    → turns_of meanings (machine_at state store) octets ≡ behind line_too_long (stay (record { state = ended; store = store }) rest)
+    → turns_of meanings (machine_at state store) octets ≡ behind (acts_of [] line_too_long) (stay (record { state = ended; store = store }) rest)
 turns_of-too_long meanings state store octets rest is =
     all_turns-go (next_turn meanings) (next_turn-framed meanings) (machine_at state store) octets _ (reads meanings state store octets ∙ ap (turn_by meanings (machine_at state store)) is)
-    ∙ ap (behind line_too_long) (turns_of-ended meanings store rest)
+    ∙ ap (behind (acts_of [] line_too_long)) (turns_of-ended meanings store rest)
 
--- where the first line ends in the piece
-pub record LineEndsAt (slice rest : List ℕ) (n : ℕ) : Type 0 where
-  pub fits : n ≤ length rest
-  pub line : first_line (slice ++ rest) ≡ Some (record { line = slice ++ take n rest; rest = drop n rest })
+-- ---- a line has its CRLF
 
-line_len : (kept rest : List ℕ) (n : ℕ) → n ≤ length rest → length (kept ++ take n rest) ≡ length kept + n
-line_len kept rest n fits = length-append kept (take n rest) ∙ ap (λ len. length kept + len) (length-take-le n rest fits)
+whole_line : (a b c d : List ℕ) → whole a b ≡ whole c d → a ≡ c
+whole_line a b c d h = cc
 
--- a line that has no room
-pub long_line : (meanings : Meanings) (state : PopState) (store : StoreState) (slice kept rest : List ℕ) (n len : ℕ) → slice ≡ kept → LineEndsAt slice rest n → len ≡ length kept → len ≤ LINE_MAX
-    → LINE_MAX - len < n
-    → turns_of meanings (machine_at state store) (kept ++ rest) ≡ behind line_too_long (stay (record { state = ended; store = store }) (drop LINE_MAX (kept ++ rest)))
-long_line meanings state store slice kept rest n len same ends is low long =
-    let found = rw same at ends.line in
-    let size = line_len kept rest n ends.fits in
-    turns_of-too_long meanings state store (kept ++ rest) _ (next_line-long_line (kept ++ rest) _ found (le_false (length (kept ++ take n rest)) LINE_MAX (omega arith)))
+never_whole : (a b c : List ℕ) → too_long a ≡ whole b c → ⊥
+never_whole a b c h = cc
 
--- a line
-pub short_line : (meanings : Meanings) (state : PopState) (store : StoreState) (slice kept rest line : List ℕ) (n len : ℕ) → slice ≡ kept → LineEndsAt slice rest n → len ≡ length kept
-    → len ≤ LINE_MAX → n ≤ LINE_MAX - len → line ≡ kept ++ take n rest
-    → turns_of meanings (machine_at state store) (kept ++ rest)
-    ≡ behind (stepped meanings state store line).reply (turns_of meanings (record { state = (stepped meanings state store line).state; store = store }) (drop n rest))
-short_line meanings state store slice kept rest line n len same ends is low short line_is =
-    let found = rw same at ends.line in
-    let size = line_len kept rest n ends.fits in
-    rw line_is (turns_of-line meanings state store (kept ++ rest) (kept ++ take n rest) (drop n rest)
-    (next_line-line (kept ++ rest) _ found (le_true (length (kept ++ take n rest)) LINE_MAX (omega arith))))
+ends_some : (octets line rest : List ℕ) (cut : Cut) → first_line octets ≡ Some cut → next_line octets ≡ whole line rest → (b : Bool) → nat_le (length cut.line) LINE_MAX ≡ b → 2 ≤ length line
+ends_some octets line rest cut found is true short =
+    subst (λ (l : List ℕ). 2 ≤ length l) (whole_line cut.line cut.rest line rest (sym (next_line-line octets cut found short) ∙ is)) (first_line-cut octets cut found).some
+ends_some octets line rest cut found is false long = absurd (never_whole _ line rest (sym (next_line-long_line octets cut found long) ∙ is))
 
--- a line has its CRLF
-pub line_has_end : (slice kept rest line : List ℕ) (n : ℕ) → slice ≡ kept → LineEndsAt slice rest n → line ≡ kept ++ take n rest → 2 ≤ length line
-line_has_end slice kept rest line n same ends line_is =
-    let found = rw same at ends.line in
-    rw line_is (first_line-cut (kept ++ rest) _ found).some
+ends_none : (octets line rest : List ℕ) → first_line octets ≡ None → next_line octets ≡ whole line rest → (b : Bool) → nat_le (length octets) LINE_MAX ≡ b → 2 ≤ length line
+ends_none octets line rest none is true short = absurd (never (sym (next_line-waiting octets none short) ∙ is))
+  where
+    never : waiting ≡ whole line rest → ⊥
+    never h = cc
+ends_none octets line rest none is false long = absurd (never_whole _ line rest (sym (next_line-long octets none long) ∙ is))
+
+ends_by : (octets line rest : List ℕ) (found : Option Cut) → first_line octets ≡ found → next_line octets ≡ whole line rest → 2 ≤ length line
+ends_by octets line rest None found is = ends_none octets line rest found is (nat_le (length octets) LINE_MAX) refl
+ends_by octets line rest (Some cut) found is = ends_some octets line rest cut found is (nat_le (length cut.line) LINE_MAX) refl
+
+pub line_has_end : (octets line rest : List ℕ) → next_line octets ≡ whole line rest → 2 ≤ length line
+line_has_end octets line rest is = ends_by octets line rest (first_line octets) refl is
+
+-- what was found of the octets that were kept and a piece
+pub found_line : (found : FoundLine) (slice kept rest front others line full : List ℕ) (n : ℕ) → next_line (slice ++ rest) ≡ framed_as found slice rest → found ≡ variant.Whole n → slice ≡ kept
+    → front ≡ take n rest → others ≡ drop n rest → line ≡ full → full ≡ kept ++ front → next_line (kept ++ rest) ≡ whole line others
+found_line found slice kept rest front others line full n framed is same front_is others_is line_is full_is =
+    rw (line_is, full_is, front_is, others_is, ← same) (framed ∙ ap (λ (f : FoundLine). framed_as f slice rest) is)
+
+pub found_long : (found : FoundLine) (slice kept rest : List ℕ) → next_line (slice ++ rest) ≡ framed_as found slice rest → found ≡ variant.TooLong → slice ≡ kept
+    → next_line (kept ++ rest) ≡ too_long (drop LINE_MAX (kept ++ rest))
+found_long found slice kept rest framed is same = rw (← same) (framed ∙ ap (λ (f : FoundLine). framed_as f slice rest) is)
+
+pub found_waiting : (found : FoundLine) (slice kept rest : List ℕ) → next_line (slice ++ rest) ≡ framed_as found slice rest → found ≡ variant.Waiting → slice ≡ kept
+    → next_line (kept ++ rest) ≡ waiting
+found_waiting found slice kept rest framed is same = rw (← same) (framed ∙ ap (λ (f : FoundLine). framed_as f slice rest) is)
+
+-- ---- what a session has done
+
+-- the wire of a session, its store, and the octets of its keeper
+pub record Surroundings : Type 0 where
+  pub wire : Telling
+  pub store : StoreState
+  pub journal : Option (List ℕ)
+
+-- So far it has done what the first lines of these octets ask for, and is in this state, with these octets left.
+abbrev pub Served : Meanings → Surroundings → Surroundings → PopState → List ℕ → PopState → List ℕ → Type 0
+Served meanings before now first octets state left =
+    ServedSoFar (serving_of meanings) before.wire now.wire before.store now.store before.journal now.journal (machine_at first before.store) octets (machine_at state now.store) left
+
+-- It has done all that these octets ask for, and is in this state of the machine, with a rest.
+abbrev pub ServedWhole : Meanings → Surroundings → Surroundings → PopState → List ℕ → State → List ℕ → Type 0
+ServedWhole meanings before now first octets state rest =
+    ServedAll (serving_of meanings) before.wire now.wire before.store now.store before.journal now.journal (machine_at first before.store) octets (record { state = state; store = now.store }) rest
+
+-- what these octets ask for
+abbrev pub due_by : Meanings → Surroundings → PopState → List ℕ → Turn Machine (Act Part)
+due_by meanings before first octets = turns_of meanings (machine_at first before.store) octets
+
+pub Served-start : (meanings : Meanings) (now : Surroundings) (state : PopState) (octets : List ℕ) → Served meanings now now state octets state octets
+Served-start meanings now state octets = ServedSoFar-start (serving_of meanings) now.wire now.store now.journal (machine_at state now.store) octets
+
+-- Between these the step was carried out, and this state was found.
+pub record TakesStep (meanings : Meanings) (before now : Surroundings) (taken : Step) (found : Option PopState) : Type 0 where
+  pub gives : Gives before.wire now.wire (reply_octets meanings taken.reply)
+  pub fit : AreFit meanings taken.reply
+  pub next : state_or_ended found ≡ taken.state
+  pub follows : Follows before.store now.store before.journal now.journal (records_of taken.changes)
+  pub on : GoesOn before.wire now.wire
+
+-- the machine behind a step
+behind_step : (meanings : Meanings) (before now : Surroundings) (taken : Step) (found : Option PopState) → TakesStep meanings before now taken found
+    → after_step before.store taken ≡ record { state = state_or_ended found; store = now.store }
+behind_step meanings before now taken found takes = rw (takes.next, takes.follows.store) refl
 
 -- a line after which the session goes on
-pub line_goes : (meanings : Meanings) (state next : PopState) (store : StoreState) (kept rest line others : List ℕ) (n : ℕ) (found : Option PopState)
-    → turns_of meanings (machine_at state store) (kept ++ rest)
-    ≡ behind (stepped meanings state store line).reply (turns_of meanings (record { state = (stepped meanings state store line).state; store = store }) (drop n rest))
-    → state_or_ended found ≡ (stepped meanings state store line).state → found ≡ Some next → others ≡ drop n rest
-    → turns_of meanings (machine_at state store) (kept ++ rest) ≡ behind (stepped meanings state store line).reply (turns_of meanings (machine_at next store) others)
-line_goes meanings state next store kept rest line others n found turn after is left =
-    let at_next : state_of next ≡ (stepped meanings state store line).state = ap state_or_ended (sym is) ∙ after in
-    rw (at_next, left) turn
+pub line_goes : (meanings : Meanings) (a b c : Surroundings) (first state next : PopState) (octets left line rest : List ℕ) (found : Option PopState)
+    → Served meanings a b first octets state left → next_line left ≡ whole line rest → TakesStep meanings b c (stepped meanings state b.store line) found → found ≡ Some next
+    → Served meanings a c first octets next rest
+line_goes meanings a b c first state next octets left line rest found served is takes found_is =
+    let taken = stepped meanings state b.store line in
+    let machine : after_step b.store taken ≡ machine_at next c.store =
+    behind_step meanings b c taken found takes ∙ ap (λ (f : Option PopState). (let m : Machine = record { state = state_or_ended f; store = c.store } in m)) found_is in
+    ServedSoFar-more (serving_of meanings) a.wire b.wire c.wire a.store b.store c.store a.journal b.journal c.journal (machine_at first a.store) (machine_at state b.store) (machine_at next c.store)
+    octets left rest taken.changes taken.reply served
+    (turns_of-line meanings state b.store left line rest is ∙ ap (λ (m : Machine). behind (acts_of taken.changes taken.reply) (turns_of meanings m rest)) machine) takes.follows takes.gives takes.fit takes.on
 
 -- a line that ends the session
-pub line_ends : (meanings : Meanings) (state : PopState) (store : StoreState) (kept rest line : List ℕ) (n : ℕ) (found : Option PopState)
-    → turns_of meanings (machine_at state store) (kept ++ rest)
-    ≡ behind (stepped meanings state store line).reply (turns_of meanings (record { state = (stepped meanings state store line).state; store = store }) (drop n rest))
-    → state_or_ended found ≡ (stepped meanings state store line).state → found ≡ None
-    → turns_of meanings (machine_at state store) (kept ++ rest) ≡ behind (stepped meanings state store line).reply (stay (record { state = ended; store = store }) (drop n rest))
-line_ends meanings state store kept rest line n found turn after is =
-    let at_end : ended ≡ (stepped meanings state store line).state = ap state_or_ended (sym is) ∙ after in
-    turn ∙ ap (behind (stepped meanings state store line).reply) ((rw (← at_end) refl) ∙ turns_of-ended meanings store (drop n rest))
+pub line_ends : (meanings : Meanings) (a b c : Surroundings) (first state : PopState) (octets left line rest : List ℕ) (found : Option PopState)
+    → Served meanings a b first octets state left → next_line left ≡ whole line rest → TakesStep meanings b c (stepped meanings state b.store line) found → found ≡ None
+    → ServedWhole meanings a c first octets ended rest
+line_ends meanings a b c first state octets left line rest found served is takes found_is =
+    let taken = stepped meanings state b.store line in
+    let machine : after_step b.store taken ≡ record { state = ended; store = c.store } =
+    behind_step meanings b c taken found takes ∙ ap (λ (f : Option PopState). (let m : Machine = record { state = state_or_ended f; store = c.store } in m)) found_is in
+    ServedSoFar-ends (serving_of meanings) a.wire b.wire c.wire a.store b.store c.store a.journal b.journal c.journal (machine_at first a.store) (machine_at state b.store) (record { state = ended; store = c.store })
+    octets left rest taken.changes taken.reply served
+    (turns_of-line meanings state b.store left line rest is ∙ ap (λ (m : Machine). behind (acts_of taken.changes taken.reply) (turns_of meanings m rest)) machine
+    ∙ ap (behind (acts_of taken.changes taken.reply)) (turns_of-ended meanings c.store rest)) takes.follows takes.gives takes.fit takes.on
 
--- what is left has no line, and no room for what is there
-pub long_rest : (meanings : Meanings) (state : PopState) (store : StoreState) (slice kept rest : List ℕ) (len : ℕ) → slice ≡ kept → first_line (slice ++ rest) ≡ None → len ≡ length kept
-    → len ≤ LINE_MAX → LINE_MAX - len < length rest
-    → turns_of meanings (machine_at state store) (kept ++ rest) ≡ behind line_too_long (stay (record { state = ended; store = store }) (drop LINE_MAX (kept ++ rest)))
-long_rest meanings state store slice kept rest len same none is low long =
-    turns_of-too_long meanings state store (kept ++ rest) _
-    (next_line-long (kept ++ rest) (rw same at none) (le_false (length (kept ++ rest)) LINE_MAX (rw length-append (omega arith))))
+-- what was given by a failure in a line's step
+pub line_given : (meanings : Meanings) (a b c : Surroundings) (first state : PopState) (octets left line rest : List ℕ) → Served meanings a b first octets state left → next_line left ≡ whole line rest
+    → GivesPrefix b.wire c.wire (reply_octets meanings (stepped meanings state b.store line).reply) → GivesPrefix a.wire c.wire (given_by meanings (due_by meanings a first octets).parts)
+line_given meanings a b c first state octets left line rest served is gives =
+    ServedSoFar-given (serving_of meanings) a.wire b.wire c.wire a.store b.store a.journal b.journal (machine_at first a.store) (machine_at state b.store) octets left
+    (stepped meanings state b.store line).changes (stepped meanings state b.store line).reply _ served (turns_of-line meanings state b.store left line rest is) gives
 
--- what is left is kept
-pub kept_waits : (slice kept rest : List ℕ) (len : ℕ) → slice ≡ kept → first_line (slice ++ rest) ≡ None → len ≡ length kept → len ≤ LINE_MAX → length rest ≤ LINE_MAX - len
-    → next_line (kept ++ rest) ≡ waiting
-kept_waits slice kept rest len same none is low short =
-    next_line-waiting (kept ++ rest) (rw same at none) (le_true (length (kept ++ rest)) LINE_MAX (rw length-append (omega arith)))
+-- what a failure in a line's step leaves
+pub line_leaves : (T U : Type 0) (meanings : Meanings) (a b c : Surroundings) (first state : PopState) (octets left line rest : List ℕ) (met : Fault) → Served meanings a b first octets state left
+    → next_line left ≡ whole line rest → Leaves {T = T} b.store c.store b.journal c.journal (Err met) (stepped meanings state b.store line).changes
+    → Leaves {T = U} a.store c.store a.journal c.journal (Err met) (changes_in (due_by meanings a first octets).parts)
+line_leaves T U meanings a b c first state octets left line rest fault.Keeper served is leaves =
+    ServedSoFar-fails (serving_of meanings) a.wire b.wire a.store b.store c.store a.journal b.journal c.journal (machine_at first a.store) (machine_at state b.store) octets left
+    (stepped meanings state b.store line).changes (stepped meanings state b.store line).reply _ served (turns_of-line meanings state b.store left line rest is) leaves
+line_leaves T U meanings a b c first state octets left line rest fault.Wire served is leaves =
+    ServedSoFar-broken (serving_of meanings) a.wire b.wire a.store b.store c.store a.journal b.journal c.journal (machine_at first a.store) (machine_at state b.store) octets left
+    (stepped meanings state b.store line).changes (stepped meanings state b.store line).reply _ served (turns_of-line meanings state b.store left line rest is) leaves
+line_leaves T U meanings a b c first state octets left line rest fault.Memory served is leaves =
+    ServedSoFar-broken (serving_of meanings) a.wire b.wire a.store b.store c.store a.journal b.journal c.journal (machine_at first a.store) (machine_at state b.store) octets left
+    (stepped meanings state b.store line).changes (stepped meanings state b.store line).reply _ served (turns_of-line meanings state b.store left line rest is) leaves
 
-pub first_line-nil : first_line [] ≡ None
+-- a line that is too long
+pub long_ends : (meanings : Meanings) (a b : Surroundings) (wire : Telling) (first state : PopState) (octets left rest : List ℕ) → Served meanings a b first octets state left
+    → next_line left ≡ too_long rest → Gives b.wire wire (reply_octets meanings line_too_long) → GoesOn b.wire wire
+    → ServedWhole meanings a (record b { wire = wire }) first octets ended rest
+long_ends meanings a b wire first state octets left rest served is gives on =
+    ServedSoFar-ends (serving_of meanings) a.wire b.wire wire a.store b.store b.store a.journal b.journal b.journal (machine_at first a.store) (machine_at state b.store) (record { state = ended; store = b.store })
+    octets left rest [] line_too_long served (turns_of-too_long meanings state b.store left rest is) (Follows-nil b.store b.journal) gives (refl, tt) on
+
+pub long_given : (meanings : Meanings) (a b : Surroundings) (wire : Telling) (first state : PopState) (octets left rest : List ℕ) → Served meanings a b first octets state left
+    → next_line left ≡ too_long rest → GivesPrefix b.wire wire (reply_octets meanings line_too_long) → GivesPrefix a.wire wire (given_by meanings (due_by meanings a first octets).parts)
+long_given meanings a b wire first state octets left rest served is gives =
+    ServedSoFar-given (serving_of meanings) a.wire b.wire wire a.store b.store a.journal b.journal (machine_at first a.store) (machine_at state b.store) octets left [] line_too_long _ served
+    (turns_of-too_long meanings state b.store left rest is) gives
+
+-- no whole line is left
+pub all_served : (meanings : Meanings) (a b : Surroundings) (first state : PopState) (octets left : List ℕ) → Served meanings a b first octets state left → next_line left ≡ waiting
+    → ServedWhole meanings a b first octets (state_of state) left
+all_served meanings a b first state octets left served is =
+    ServedSoFar-all (serving_of meanings) a.wire b.wire a.store b.store a.journal b.journal (machine_at first a.store) (machine_at state b.store) octets left served
+    (turns_of-waiting meanings state b.store left is)
+
+-- ---- the keeper over several calls
+
+-- The count of faults doesn't fall, and a keeper that tells that it never fails goes on telling so.
+pub record KeepsOn (before now : KeeperTelling) : Type 0 where
+  pub later : before.faults ≤ now.faults
+  pub sure : IsTrue before.never_fails → IsTrue now.never_fails
+
+pub KeepsOn-nil : (a : KeeperTelling) → KeepsOn a a
+KeepsOn-nil a = record { later = omega arith; sure = λ sure. sure }
+
+-- one more call
+pub KeepsOn-more : {T E : Type 0} (a b c : KeeperTelling) (result : Result T E) (fault : E) → KeepsOn a b → HasKeeperCause b c result fault → KeepsOn a c
+KeepsOn-more a b c result fault one two = record { later = let early = one.later in let late = two.later in omega arith; sure = λ sure. (two.sure (one.sure sure)).0 }
+
+-- nothing waits for a line
+pub waiting-nil : next_line [] ≡ waiting
 unfolding first_line
-first_line-nil = refl
+waiting-nil = refl

@@ -1,5 +1,5 @@
 -- Each line of a reply is ASCII.
-use Rattle.std.proofs.Common.{◌≡◌, ℕ, zero, suc, ◌+◌, ◌/◌, ◌%◌, ◌<◌, List, [], ◌∷◌, ◌++◌, length, Bool, true, false, arith, refl, Some, None, Option, ◌&&◌, ◌==◌, ◌∙◌, codes, sum_by}
+use Rattle.std.proofs.Common.{◌≡◌, ℕ, zero, suc, ◌+◌, ◌/◌, ◌%◌, ◌<◌, List, [], ◌∷◌, ◌++◌, length, Bool, true, false, arith, refl, Some, None, Option, ◌&&◌, ◌==◌, ◌∙◌, codes, sum_by, if◌then◌else◌}
 use Rattle.std.specs.Prelude.{nat_lt}
 use Rattle.std.specs.List.{list_all}
 use Rattle.std.specs.Fmt.{decimal, digits, digits_onto, digit_glyph}
@@ -11,9 +11,10 @@ use Rattle.mail_store.specs.declared.kept.Listed.{Listed}
 use Rattle.mail_store.specs.Kept.{logged_in}
 use Rattle.mail_store.specs.StoreState.{StoreState}
 use Rattle.surrogate_cache.specs.Served.{Mode, Meanings}
+use Rattle.pop_session.specs.declared.states.MaildropMessage.{MaildropMessage}
 use Rattle.pop_session.specs.declared.command.Keyword.{Keyword}
 use Rattle.pop_session.specs.declared.command.Keyword.TheVariants as keyword
-use Rattle.pop_session.specs.Machine.{line, authorization_step, pass_step, two_numbers, scan_listing, size_of, list_one_reply, list_reply, stat_reply}
+use Rattle.pop_session.specs.Machine.{line, authorization_step, pass_step, dele_message, dele_step, two_numbers, left_of, message_at, size_of, listing_from, listing_one_reply, listing_reply, stat_reply}
 use Rattle.pop_session.specs.Replies.{IsFit, AreFit}
 
 both : (b c : Bool) → b ≡ true → c ≡ true → (b && c) ≡ true
@@ -50,18 +51,31 @@ pub ascii-two : (word : List ℕ) (n m : ℕ) → list_all is_ascii word ≡ tru
 ascii-two word n m ascii =
     ascii-append (word ++ decimal n ++ codes " ") (decimal m) (ascii-append (word ++ decimal n) (codes " ") (ascii-append word (decimal n) ascii (ascii-decimal n)) refl) (ascii-decimal m)
 
-scan_fit : (meanings : Meanings) (mode : Mode) (store : StoreState) (number : ℕ) (inbox : List Listed) → AreFit meanings (scan_listing meanings mode store number inbox)
-scan_fit meanings mode store number [] = tt
-scan_fit meanings mode store number (one ∷ inbox) = (ascii-two [] number (size_of meanings mode store one) refl, scan_fit meanings mode store (number + 1) inbox)
+from_by : (meanings : Meanings) (row : Listed → ℕ) (number : ℕ) (one : MaildropMessage) (maildrop : List MaildropMessage) → AreFit meanings (listing_from row (number + 1) maildrop)
+    → (b : Bool) → one.deleted ≡ b → AreFit meanings (listing_from row number (one ∷ maildrop))
+from_by meanings row number one maildrop others true is = rw is others
+from_by meanings row number one maildrop others false is = rw is (ascii-two [] number (row one.listed) refl, others)
 
-pub list_fit : (meanings : Meanings) (mode : Mode) (store : StoreState) (inbox : List Listed) → AreFit meanings (list_reply meanings mode store inbox)
-list_fit meanings mode store inbox = (refl, all-append (IsFit meanings) (scan_listing meanings mode store 1 inbox) (line (codes ".") ∷ []) (scan_fit meanings mode store 1 inbox) (refl, tt))
+from_fit : (meanings : Meanings) (row : Listed → ℕ) (number : ℕ) (maildrop : List MaildropMessage) → AreFit meanings (listing_from row number maildrop)
+from_fit meanings row number [] = tt
+from_fit meanings row number (one ∷ maildrop) = from_by meanings row number one maildrop (from_fit meanings row (number + 1) maildrop) one.deleted refl
 
-pub stat_fit : (meanings : Meanings) (mode : Mode) (store : StoreState) (inbox : List Listed) → AreFit meanings (stat_reply meanings mode store inbox)
-stat_fit meanings mode store inbox = (ascii-two (codes "+OK ") (length inbox) (sum_by (size_of meanings mode store) inbox) refl, tt)
+pub listing_fit : (meanings : Meanings) (row : Listed → ℕ) (maildrop : List MaildropMessage) → AreFit meanings (listing_reply row maildrop)
+listing_fit meanings row maildrop = (refl, all-append (IsFit meanings) (listing_from row 1 maildrop) (line (codes ".") ∷ []) (from_fit meanings row 1 maildrop) (refl, tt))
 
-pub list_one_fit : (meanings : Meanings) (mode : Mode) (store : StoreState) (number : ℕ) (one : Listed) → AreFit meanings (list_one_reply meanings mode store number one)
-list_one_fit meanings mode store number one = (ascii-two (codes "+OK ") number (size_of meanings mode store one) refl, tt)
+pub stat_fit : (meanings : Meanings) (mode : Mode) (store : StoreState) (maildrop : List MaildropMessage) → AreFit meanings (stat_reply meanings mode store maildrop)
+stat_fit meanings mode store maildrop = (ascii-two (codes "+OK ") (length (left_of maildrop)) (sum_by (size_of meanings mode store) (left_of maildrop)) refl, tt)
+
+pub listing_one_fit : (meanings : Meanings) (row : Listed → ℕ) (number : ℕ) (one : Listed) → AreFit meanings (listing_one_reply row number one)
+listing_one_fit meanings row number one = (ascii-two (codes "+OK ") number (row one) refl, tt)
+
+of_one_fit : (meanings : Meanings) (mode : Mode) (maildrop : List MaildropMessage) (number : ℕ) (found : Option Listed) → AreFit meanings (dele_message mode maildrop number found).reply
+of_one_fit meanings mode maildrop number None = (refl, tt)
+of_one_fit meanings mode maildrop number (Some one) = (refl, tt)
+
+pub dele_fit : (meanings : Meanings) (mode : Mode) (maildrop : List MaildropMessage) (number : Option ℕ) → AreFit meanings (dele_step mode maildrop number).reply
+dele_fit meanings mode maildrop None = (refl, tt)
+dele_fit meanings mode maildrop (Some number) = of_one_fit meanings mode maildrop number (message_at maildrop number)
 
 pass_fit : (meanings : Meanings) (mode : Mode) (store : StoreState) (found : Option ℕ) → AreFit meanings (pass_step mode store found).reply
 pass_fit meanings mode store None = (refl, tt)
@@ -71,7 +85,14 @@ pub authorization_fit : (meanings : Meanings) (mode : Mode) (user : Option (List
     → AreFit meanings (authorization_step meanings mode user store word argument).reply
 authorization_fit meanings mode user store keyword.Stat argument = (refl, tt)
 authorization_fit meanings mode user store keyword.List argument = (refl, tt)
+authorization_fit meanings mode user store keyword.Uidl argument = (refl, tt)
 authorization_fit meanings mode user store keyword.Retr argument = (refl, tt)
+authorization_fit meanings mode user store keyword.Top argument = (refl, tt)
+authorization_fit meanings mode user store keyword.Dele argument = (refl, tt)
+authorization_fit meanings mode user store keyword.Rset argument = (refl, tt)
+authorization_fit meanings mode user store keyword.Noop argument = (refl, tt)
+authorization_fit meanings mode user store keyword.Capa None = (refl, (refl, (refl, (refl, (refl, (refl, tt))))))
+authorization_fit meanings mode user store keyword.Capa (Some text) = (refl, tt)
 authorization_fit meanings mode user store keyword.Utf8 None = (refl, tt)
 authorization_fit meanings mode user store keyword.Utf8 (Some text) = (refl, tt)
 authorization_fit meanings mode user store keyword.User None = (refl, tt)
@@ -85,4 +106,4 @@ authorization_fit meanings mode user store keyword.Quit None = (refl, tt)
 authorization_fit meanings mode user store keyword.Quit (Some text) = (refl, tt)
 authorization_fit meanings mode user store keyword.Other argument = (refl, tt)
 
-pub ruleset fit_steps = (authorization_fit, list_fit, stat_fit, list_one_fit)
+pub ruleset fit_steps = (authorization_fit, listing_fit, stat_fit, listing_one_fit, dele_fit)

@@ -2,7 +2,10 @@ pub mod Numbers
 pub mod Arguments
 pub mod StuffingLemmas
 pub mod StuffedPieces
+pub mod TopLemmas
 pub mod ListLemmas
 pub mod FitLemmas
 pub mod FeedLemmas
 pub mod RowLemmas
+pub mod MaildropLemmas
+pub mod ManyLines

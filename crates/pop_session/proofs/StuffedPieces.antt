@@ -1,6 +1,6 @@
 -- A message that is given in stuffed pieces.
-use Rattle.std.proofs.Common.{◌≡◌, ◌≤◌, ◌+◌, ◌-◌, ℕ, List, [], ◌++◌, length, take, drop, min, refl, sym, ap, ◌∙◌, arith, append-nil, append_assoc, Result, cond}
-use Rattle.std.proofs.lemmas.List.{take-append-drop, drop-drop, take_at, length-take-le, length-drop, drop_all}
+use Rattle.std.proofs.Common.{◌≡◌, ◌≤◌, ◌+◌, ◌-◌, ℕ, zero, suc, List, [], ◌∷◌, ◌++◌, length, take, drop, min, refl, sym, ap, ◌∙◌, arith, append-nil, append_assoc, Result, cond}
+use Rattle.std.proofs.lemmas.List.{take-append-drop, take-append-le, drop-take, drop-drop, take_at, length-take-le, length-drop, drop_all}
 use Rattle.mail_wire.specs.Lines.{crlf}
 use Rattle.mail_wire.specs.Telling.{Telling}
 use Rattle.mail_wire.specs.Moves.{Gives, GivesPrefix, GivesOrFails, GoesOn}
@@ -87,6 +87,25 @@ read_piece octets buffer old piece at n count read is =
     let len : length (take n (drop at octets)) ≡ n = length-take-le n (drop at octets) low in
     let front : piece ≡ take n (drop at octets) = is ∙ (rw read (take_at (take n (drop at octets)) (drop n old) n len)) in
     record { len = rw front len; parts = rw front (sym (take-append-drop n (drop at octets))) }
+
+-- the first of the first ones are the first ones
+take_first : (xs : List ℕ) (n m : ℕ) → n ≤ m → take n (take m xs) ≡ take n xs
+take_first xs zero m low = refl
+take_first [] (suc n) (suc m) low = refl
+take_first (x ∷ xs) (suc n) (suc m) low = ap (λ more. x ∷ more) (take_first xs n m (omega arith))
+take_first xs (suc n) zero low = absurd (omega arith)
+
+-- a read that is cut where the first octets, so many, end
+pub read_cut : (octets buffer old piece : List ℕ) (at n len count : ℕ) → n ≡ min (length old) (length octets - at) → buffer ≡ take n (drop at octets) ++ drop n old → at ≤ len → len ≤ length octets
+    → count ≡ min n (len - at) → piece ≡ take count buffer → IsRead (take len octets) piece at count
+read_cut octets buffer old piece at n len count room read before low cut is =
+    let left : drop at (take len octets) ≡ take (len - at) (drop at octets) = (let whole : len ≡ at + (len - at) = omega arith in ap (λ k. drop at (take k octets)) whole ∙ drop-take at (len - at) octets) in
+    let front_len : length (take n (drop at octets)) ≡ n = length-take-le n (drop at octets) (rw (length-drop at octets) (omega arith)) in
+    let front : piece ≡ take count (drop at (take len octets)) =
+    is ∙ ap (take count) read ∙ take-append-le count (take n (drop at octets)) (drop n old) (rw front_len (omega arith)) ∙ take_first (drop at octets) count n (omega arith)
+    ∙ sym (ap (take count) left ∙ take_first (drop at octets) count (len - at) (omega arith)) in
+    let cut_len : length (drop at (take len octets)) ≡ len - at = ap length left ∙ length-take-le (len - at) (drop at octets) (rw (length-drop at octets) (omega arith)) in
+    record { len = rw front (length-take-le count (drop at (take len octets)) (rw cut_len (omega arith))); parts = rw front (sym (take-append-drop count (drop at (take len octets)))) }
 
 -- the next piece is pending
 pub piece_pending : (a b : Telling) (head octets pending piece new : List ℕ) (at n : ℕ) (place after : Place) → HasGiven a b head octets pending at place → IsRead octets piece at n

@@ -1,15 +1,15 @@
 -- What a text asks for that is to be the number of a message.
 use Rattle.std.specs.Prelude.{◌≡◌, ◌<◌, ℕ, List, Option, None, Some, length}
-use Rattle.mail_store.specs.declared.kept.Listed.{Listed}
+use Rattle.pop_session.specs.declared.states.MaildropMessage.{MaildropMessage}
 use Rattle.mail_store.specs.StoreState.{StoreState}
 use Rattle.pop_session.specs.declared.replies.Asked.{Asked}
 use Rattle.pop_session.specs.declared.replies.Asked.TheVariants.{NotNumber, NoSuch, Found}
 use Rattle.pop_session.specs.Machine.{message_at}
 
-abbrev pub IsAsked : Asked → List Listed → Option ℕ → Type 0
-IsAsked NotNumber inbox number = number ≡ None
-IsAsked NoSuch inbox number = (n : ℕ) × (number ≡ Some n) × (message_at inbox n ≡ None)
-IsAsked (Found n one) inbox number = (number ≡ Some n) × (message_at inbox n ≡ Some one)
+abbrev pub IsAsked : Asked → List MaildropMessage → Option ℕ → Type 0
+IsAsked NotNumber maildrop number = number ≡ None
+IsAsked NoSuch maildrop number = (n : ℕ) × (number ≡ Some n) × (message_at maildrop n ≡ None)
+IsAsked (Found n one) maildrop number = (number ≡ Some n) × (message_at maildrop n ≡ Some one)
 
 -- a message that was found is in the store
 abbrev pub IsKnown : Asked → StoreState → Type 0

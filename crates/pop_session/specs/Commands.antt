@@ -1,10 +1,11 @@
 -- The words of a command line (RFC 1939, 3).
-use Rattle.std.specs.Prelude.{ℕ, ◌+◌, ◌-◌, ◌*◌, ◌==◌, ◌&&◌, List, [], ◌∷◌, Bool, Option, None, Some, length, take, drop, map, fold, codes, if◌then◌else◌, nat_le, position}
+use Rattle.std.specs.Prelude.{ℕ, ◌+◌, ◌-◌, ◌*◌, ◌==◌, ◌&&◌, List, [], ◌∷◌, Bool, Option, None, Some, length, take, drop, map, fold, codes, if◌then◌else◌, nat_le, option_and_then, position, min, ◌^◌}
 use Rattle.std.specs.List.{before_first, list_all}
 use Rattle.std.specs.Option.{option_map}
 use Rattle.std.specs.Str.{bytes_eq}
 use Rattle.std.specs.Char.{to_ascii_lowercase}
 use Rattle.pop_session.specs.declared.command.Keyword.{Keyword}
+use Rattle.pop_session.specs.declared.command.TopNumbers.{TopNumbers}
 use Rattle.pop_session.specs.declared.command.Keyword.TheVariants as keyword
 
 -- a command: its keyword, and what stands behind the first space, where there is one
@@ -21,7 +22,13 @@ keyword_named name =
     else (if bytes_eq name (codes "stat") then keyword.Stat
     else (if bytes_eq name (codes "list") then keyword.List
     else (if bytes_eq name (codes "retr") then keyword.Retr
-    else (if bytes_eq name (codes "quit") then keyword.Quit else keyword.Other))))))
+    else (if bytes_eq name (codes "quit") then keyword.Quit
+    else (if bytes_eq name (codes "capa") then keyword.Capa
+    else (if bytes_eq name (codes "uidl") then keyword.Uidl
+    else (if bytes_eq name (codes "top") then keyword.Top
+    else (if bytes_eq name (codes "dele") then keyword.Dele
+    else (if bytes_eq name (codes "rset") then keyword.Rset
+    else (if bytes_eq name (codes "noop") then keyword.Noop else keyword.Other))))))))))))
 
 -- keywords are read in any case
 abbrev pub keyword_of : List ℕ → Keyword
@@ -52,3 +59,20 @@ value_of digits = fold (λ n digit. n * 10 + (digit - 48)) 0 digits
 unfoldable pub number_of : List ℕ → Option ℕ
 number_of [] = None
 number_of (x ∷ digits) = if list_all is_digit (x ∷ digits) then Some (value_of (x ∷ digits)) else None
+
+abbrev pub with_lines : ℕ → Option ℕ → Option TopNumbers
+with_lines number None = None
+with_lines number (Some lines) = Some (record { number = number; lines = lines })
+
+-- the number of a message and that of lines (RFC 1939, 7, TOP)
+abbrev pub both_numbers : Option ℕ → Option ℕ → Option TopNumbers
+both_numbers None lines = None
+both_numbers (Some number) lines = with_lines number lines
+
+-- two numbers with one space between them
+unfoldable pub top_numbers_of : List ℕ → Option TopNumbers
+top_numbers_of text = option_and_then (λ at. both_numbers (number_of (take at text)) (number_of (drop (at + 1) text))) (position is_space text)
+
+-- with the greatest 64-bit number in the place of a greater one
+abbrev pub saturated : TopNumbers → TopNumbers
+saturated numbers = record { number = min numbers.number (2 ^ 64 - 1); lines = min numbers.lines (2 ^ 64 - 1) }

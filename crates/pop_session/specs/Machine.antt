@@ -1,15 +1,21 @@
 -- The POP3 machine (RFC 1939, 4 to 6; RFC 6856, 2).
-use Rattle.std.specs.Prelude.{ℕ, Bool, true, false, zero, suc, ◌+◌, ◌++◌, List, [], ◌∷◌, Option, None, Some, length, codes, slice_get, sum_by}
+use Rattle.std.specs.Prelude.{ℕ, Bool, true, false, zero, suc, ◌+◌, ◌++◌, List, [], ◌∷◌, Option, None, Some, length, codes, map, take, slice_get, sum_by, option_and_then, if◌then◌else◌}
+use Rattle.std.specs.Str.{bytes_eq}
 use Rattle.std.specs.Fmt.{decimal}
 use Rattle.std.specs.Option.{option_map_or}
+use Rattle.mail_wire.specs.Lines.{crlf, lines_of}
 use Rattle.mail_store.specs.declared.kept.Listed.{Listed}
 use Rattle.mail_store.specs.declared.kept.Message.{Message}
-use Rattle.mail_store.specs.Kept.{Kept, logged_in, inbox_of, listed}
+use Rattle.mail_store.specs.Changing.{expunged}
+use Rattle.mail_store.specs.Kept.{Kept, change_at, logged_in, inbox_of, listed}
 use Rattle.mail_store.specs.StoreState.{StoreState}
+use Rattle.mail_store.specs.declared.records.Record.{Record}
 use Rattle.surrogate_cache.specs.Served.{Mode, enabled, served_by, Meanings}
 use Rattle.pop_session.specs.declared.command.Keyword.{Keyword}
 use Rattle.pop_session.specs.declared.command.Keyword.TheVariants as keyword
-use Rattle.pop_session.specs.Commands.{Command, number_of}
+use Rattle.pop_session.specs.Commands.{Command, number_of, top_numbers_of}
+use Rattle.pop_session.specs.declared.command.TopNumbers.{TopNumbers}
+use Rattle.pop_session.specs.declared.states.MaildropMessage.{MaildropMessage}
 
 -- a part of a reply
 pub data Part : Type 0 where
@@ -21,13 +27,14 @@ pub data Part : Type 0 where
 pub data State : Type 0 where
   -- AUTHORIZATION, with the name that USER gave
   authorization : (mode : Mode) (user : Option (List ℕ)) → State
-  -- TRANSACTION, with the messages of INBOX at login
-  transaction : (mode : Mode) (inbox : List Listed) → State
+  -- TRANSACTION, with the messages of INBOX at login and those of them that are marked as deleted
+  transaction : (mode : Mode) (maildrop : List MaildropMessage) → State
   -- the session has ended
   ended : State
 
--- what a command does
+-- What a command does: the changes that it makes of the store, the records of one call each; its reply; and the state behind it.
 pub record Step : Type 0 where
+  pub changes : List (List Record)
   pub reply : List Part
   pub state : State
 
@@ -66,32 +73,85 @@ size_of meanings mode store one = length (served_by meanings.surrogate mode (oct
 abbrev pub two_numbers : List ℕ → ℕ → ℕ → List ℕ
 two_numbers word n m = word ++ decimal n ++ codes " " ++ decimal m
 
+-- ---- the maildrop
+
+-- a message that isn't marked
+abbrev pub unless_deleted : MaildropMessage → Option Listed
+unless_deleted one = if one.deleted then None else Some one.listed
+
+-- the messages that aren't marked
+abbrev pub left_of : List MaildropMessage → List Listed
+left_of [] = []
+left_of (one ∷ maildrop) = if one.deleted then left_of maildrop else one.listed ∷ left_of maildrop
+
+-- the numbers in the store of the messages that are marked
+abbrev pub deleted_ids : List MaildropMessage → List ℕ
+deleted_ids [] = []
+deleted_ids (one ∷ maildrop) = if one.deleted then one.listed.id ∷ deleted_ids maildrop else deleted_ids maildrop
+
+abbrev pub marked : Bool → MaildropMessage → MaildropMessage
+marked deleted one = record one { deleted = deleted }
+
+-- with the message of this number marked
+abbrev pub with_deleted : ℕ → List MaildropMessage → List MaildropMessage
+with_deleted zero maildrop = maildrop
+with_deleted (suc place) maildrop = change_at (marked true) maildrop place
+
+-- the message of a number, from 1 on, unless it is marked
+abbrev pub message_at : List MaildropMessage → ℕ → Option Listed
+message_at maildrop zero = None
+message_at maildrop (suc place) = option_and_then unless_deleted (slice_get maildrop place)
+
+-- ---- replies on messages
+
 -- how many messages, and the sum of their sizes
-abbrev pub stat_reply : Meanings → Mode → StoreState → List Listed → List Part
-stat_reply meanings mode store inbox = says (two_numbers (codes "+OK ") (length inbox) (sum_by (size_of meanings mode store) inbox))
+abbrev pub stat_reply : Meanings → Mode → StoreState → List MaildropMessage → List Part
+stat_reply meanings mode store maildrop =
+    says (two_numbers (codes "+OK ") (length (left_of maildrop)) (sum_by (size_of meanings mode store) (left_of maildrop)))
 
--- a line for each message, numbered from this number on
-abbrev pub scan_listing : Meanings → Mode → StoreState → ℕ → List Listed → List Part
-scan_listing meanings mode store number [] = []
-scan_listing meanings mode store number (one ∷ inbox) =
-    line (two_numbers [] number (size_of meanings mode store one)) ∷ scan_listing meanings mode store (number + 1) inbox
+-- what LIST and UIDL tell of a message, behind its number
+abbrev pub size_row : Meanings → Mode → StoreState → Listed → ℕ
+size_row meanings mode store one = size_of meanings mode store one
 
-abbrev pub list_reply : Meanings → Mode → StoreState → List Listed → List Part
-list_reply meanings mode store inbox = line (codes "+OK") ∷ scan_listing meanings mode store 1 inbox ++ line (codes ".") ∷ []
+abbrev pub uid_row : Listed → ℕ
+uid_row one = one.uid
 
-abbrev pub list_one_reply : Meanings → Mode → StoreState → ℕ → Listed → List Part
-list_one_reply meanings mode store number one = says (two_numbers (codes "+OK ") number (size_of meanings mode store one))
+-- a line for each message that isn't marked, numbered from this number on
+abbrev pub listing_from : (Listed → ℕ) → ℕ → List MaildropMessage → List Part
+listing_from row number [] = []
+listing_from row number (one ∷ maildrop) =
+    if one.deleted then listing_from row (number + 1) maildrop
+    else line (two_numbers [] number (row one.listed)) ∷ listing_from row (number + 1) maildrop
+
+abbrev pub listing_reply : (Listed → ℕ) → List MaildropMessage → List Part
+listing_reply row maildrop = line (codes "+OK") ∷ listing_from row 1 maildrop ++ line (codes ".") ∷ []
+
+abbrev pub listing_one_reply : (Listed → ℕ) → ℕ → Listed → List Part
+listing_one_reply row number one = says (two_numbers (codes "+OK ") number (row one))
 
 abbrev pub retr_reply : Meanings → Mode → StoreState → ℕ → Listed → List Part
 retr_reply meanings mode store number one =
     line (codes "+OK") ∷ shown (octets_of store one) mode 0 (size_of meanings mode store one) ∷ line (codes ".") ∷ []
 
--- ---- numbers of messages
+-- the lines up to the first empty one, and so many lines behind it
+abbrev pub top_lines : ℕ → List (List ℕ) → List (List ℕ)
+top_lines n [] = []
+top_lines n (first ∷ lines) = if bytes_eq first crlf then first ∷ take n lines else first ∷ top_lines n lines
 
--- the message of a number, from 1 on
-abbrev pub message_at : List Listed → ℕ → Option Listed
-message_at inbox zero = None
-message_at inbox (suc place) = slice_get inbox place
+-- how many octets that are of what is served
+abbrev pub top_length : ℕ → List ℕ → ℕ
+top_length n octets = sum_by length (top_lines n (lines_of octets))
+
+abbrev pub top_reply : Meanings → Mode → StoreState → ℕ → ℕ → Listed → List Part
+top_reply meanings mode store lines number one =
+    line (codes "+OK") ∷ shown (octets_of store one) mode 0 (top_length lines (served_by meanings.surrogate mode (octets_of store one)))
+    ∷ line (codes ".") ∷ []
+
+-- what this server can do (RFC 2449, 5; RFC 6856, 2)
+abbrev pub capabilities : List Part
+capabilities = line (codes "+OK") ∷ line (codes "UTF8 USER") ∷ line (codes "TOP") ∷ line (codes "UIDL") ∷ line (codes "USER") ∷ line (codes ".") ∷ []
+
+-- ---- numbers of messages
 
 -- a row for the message of this number
 abbrev pub of_message : (ℕ → Listed → List Part) → ℕ → Option Listed → List Part
@@ -99,9 +159,14 @@ of_message row number None = no_such_message
 of_message row number (Some one) = row number one
 
 -- a row whose argument is the number of a message
-abbrev pub of_number : (ℕ → Listed → List Part) → List Listed → Option ℕ → List Part
-of_number row inbox None = syntax_error
-of_number row inbox (Some number) = of_message row number (message_at inbox number)
+abbrev pub of_number : (ℕ → Listed → List Part) → List MaildropMessage → Option ℕ → List Part
+of_number row maildrop None = syntax_error
+of_number row maildrop (Some number) = of_message row number (message_at maildrop number)
+
+-- a row whose argument is the number of a message, and that of lines
+abbrev pub of_top : (ℕ → ℕ → Listed → List Part) → List MaildropMessage → Option TopNumbers → List Part
+of_top row maildrop None = syntax_error
+of_top row maildrop (Some numbers) = of_message (row numbers.lines) numbers.number (message_at maildrop numbers.number)
 
 -- ---- rows; the first that fits counts
 
@@ -109,47 +174,90 @@ of_number row inbox (Some number) = of_message row number (message_at inbox numb
 abbrev pub inbox_messages : Kept → ℕ → List Listed
 inbox_messages kept account = option_map_or (listed kept) (inbox_of kept account) []
 
+abbrev pub unmarked : Listed → MaildropMessage
+unmarked one = record { listed = one; deleted = false }
+
+-- no message is marked at login
+abbrev pub maildrop_of : Kept → ℕ → List MaildropMessage
+maildrop_of kept account = map unmarked (inbox_messages kept account)
+
+-- a reply, and nothing is changed
+abbrev pub answers : List Part → State → Step
+answers reply state = record { changes = []; reply = reply; state = state }
+
 -- the state after a PASS that finds this account, or none
 abbrev pub pass_step : Mode → StoreState → Option ℕ → Step
-pass_step mode store None = record { reply = not_admitted; state = authorization mode None }
-pass_step mode store (Some account) = record { reply = done; state = transaction mode (inbox_messages store.kept account) }
+pass_step mode store None = answers not_admitted (authorization mode None)
+pass_step mode store (Some account) = answers done (transaction mode (maildrop_of store.kept account))
+
+-- the commands of TRANSACTION alone
+abbrev pub is_of_transaction : Keyword → Bool
+is_of_transaction keyword.Stat = true
+is_of_transaction keyword.List = true
+is_of_transaction keyword.Uidl = true
+is_of_transaction keyword.Retr = true
+is_of_transaction keyword.Top = true
+is_of_transaction keyword.Dele = true
+is_of_transaction keyword.Rset = true
+is_of_transaction keyword.Noop = true
+is_of_transaction keyword = false
+
+-- the rows of AUTHORIZATION that are its own
+abbrev pub authorization_row : Meanings → Mode → Option (List ℕ) → StoreState → Keyword → Option (List ℕ) → Step
+authorization_row meanings mode user store keyword.Capa None = answers capabilities (authorization mode user)
+authorization_row meanings mode user store keyword.Utf8 None = answers done (authorization enabled user)
+authorization_row meanings mode user store keyword.User (Some (x ∷ name)) = answers done (authorization mode (Some (x ∷ name)))
+authorization_row meanings mode None store keyword.Pass (Some password) = answers out_of_order (authorization mode None)
+authorization_row meanings mode (Some name) store keyword.Pass (Some password) = pass_step mode store (logged_in meanings.path_of store.kept name password)
+authorization_row meanings mode user store keyword.Quit None = answers bye ended
+authorization_row meanings mode user store keyword argument = answers syntax_error (authorization mode user)
 
 -- the rows of AUTHORIZATION
 abbrev pub authorization_step : Meanings → Mode → Option (List ℕ) → StoreState → Keyword → Option (List ℕ) → Step
-authorization_step meanings mode user store keyword.Stat argument = record { reply = out_of_order; state = authorization mode user }
-authorization_step meanings mode user store keyword.List argument = record { reply = out_of_order; state = authorization mode user }
-authorization_step meanings mode user store keyword.Retr argument = record { reply = out_of_order; state = authorization mode user }
-authorization_step meanings mode user store keyword.Utf8 None = record { reply = done; state = authorization enabled user }
-authorization_step meanings mode user store keyword.User (Some (x ∷ name)) = record { reply = done; state = authorization mode (Some (x ∷ name)) }
-authorization_step meanings mode None store keyword.Pass (Some password) = record { reply = out_of_order; state = authorization mode None }
-authorization_step meanings mode (Some name) store keyword.Pass (Some password) = pass_step mode store (logged_in meanings.path_of store.kept name password)
-authorization_step meanings mode user store keyword.Quit None = record { reply = bye; state = ended }
-authorization_step meanings mode user store keyword argument = record { reply = syntax_error; state = authorization mode user }
+authorization_step meanings mode user store keyword argument =
+    if is_of_transaction keyword then answers out_of_order (authorization mode user)
+    else authorization_row meanings mode user store keyword argument
 
 -- the replies of the rows of TRANSACTION that leave the state
-abbrev pub transaction_reply : Meanings → Mode → List Listed → StoreState → Keyword → Option (List ℕ) → List Part
-transaction_reply meanings mode inbox store keyword.User argument = out_of_order
-transaction_reply meanings mode inbox store keyword.Pass argument = out_of_order
-transaction_reply meanings mode inbox store keyword.Utf8 argument = out_of_order
-transaction_reply meanings mode inbox store keyword.Stat None = stat_reply meanings mode store inbox
-transaction_reply meanings mode inbox store keyword.List None = list_reply meanings mode store inbox
-transaction_reply meanings mode inbox store keyword.List (Some number) = of_number (list_one_reply meanings mode store) inbox (number_of number)
-transaction_reply meanings mode inbox store keyword.Retr (Some number) = of_number (retr_reply meanings mode store) inbox (number_of number)
-transaction_reply meanings mode inbox store keyword argument = syntax_error
+abbrev pub transaction_reply : Meanings → Mode → List MaildropMessage → StoreState → Keyword → Option (List ℕ) → List Part
+transaction_reply meanings mode maildrop store keyword.User argument = out_of_order
+transaction_reply meanings mode maildrop store keyword.Pass argument = out_of_order
+transaction_reply meanings mode maildrop store keyword.Utf8 argument = out_of_order
+transaction_reply meanings mode maildrop store keyword.Capa None = capabilities
+transaction_reply meanings mode maildrop store keyword.Noop None = done
+transaction_reply meanings mode maildrop store keyword.Stat None = stat_reply meanings mode store maildrop
+transaction_reply meanings mode maildrop store keyword.List None = listing_reply (size_row meanings mode store) maildrop
+transaction_reply meanings mode maildrop store keyword.List (Some number) =
+    of_number (listing_one_reply (size_row meanings mode store)) maildrop (number_of number)
+transaction_reply meanings mode maildrop store keyword.Uidl None = listing_reply uid_row maildrop
+transaction_reply meanings mode maildrop store keyword.Uidl (Some number) = of_number (listing_one_reply uid_row) maildrop (number_of number)
+transaction_reply meanings mode maildrop store keyword.Retr (Some number) = of_number (retr_reply meanings mode store) maildrop (number_of number)
+transaction_reply meanings mode maildrop store keyword.Top (Some numbers) = of_top (top_reply meanings mode store) maildrop (top_numbers_of numbers)
+transaction_reply meanings mode maildrop store keyword argument = syntax_error
+
+-- DELE marks the message of a number
+abbrev pub dele_message : Mode → List MaildropMessage → ℕ → Option Listed → Step
+dele_message mode maildrop number None = answers no_such_message (transaction mode maildrop)
+dele_message mode maildrop number (Some one) = answers done (transaction mode (with_deleted number maildrop))
+
+abbrev pub dele_step : Mode → List MaildropMessage → Option ℕ → Step
+dele_step mode maildrop None = answers syntax_error (transaction mode maildrop)
+dele_step mode maildrop (Some number) = dele_message mode maildrop number (message_at maildrop number)
+
+-- QUIT takes the marked messages out of the store, by one call
+abbrev pub quit_step : List MaildropMessage → Step
+quit_step maildrop = record { changes = expunged (deleted_ids maildrop) ∷ []; reply = bye; state = ended }
 
 -- the rows of TRANSACTION
-abbrev pub transaction_step : Meanings → Mode → List Listed → StoreState → Keyword → Option (List ℕ) → Step
-transaction_step meanings mode inbox store keyword.Quit None = record { reply = bye; state = ended }
-transaction_step meanings mode inbox store keyword argument =
-    record { reply = transaction_reply meanings mode inbox store keyword argument; state = transaction mode inbox }
-
--- QUIT without an argument, a word of the private calls
-abbrev pub is_quit : Keyword → Option (List ℕ) → Bool
-is_quit keyword.Quit None = true
-is_quit keyword argument = false
+abbrev pub transaction_step : Meanings → Mode → List MaildropMessage → StoreState → Keyword → Option (List ℕ) → Step
+transaction_step meanings mode maildrop store keyword.Dele (Some number) = dele_step mode maildrop (number_of number)
+transaction_step meanings mode maildrop store keyword.Rset None = answers done (transaction mode (map (marked false) maildrop))
+transaction_step meanings mode maildrop store keyword.Quit None = quit_step maildrop
+transaction_step meanings mode maildrop store keyword argument =
+    answers (transaction_reply meanings mode maildrop store keyword argument) (transaction mode maildrop)
 
 -- one command
 unfoldable pub step : Meanings → State → StoreState → Command → Step
 step meanings (authorization mode user) store command = authorization_step meanings mode user store command.keyword command.argument
-step meanings (transaction mode inbox) store command = transaction_step meanings mode inbox store command.keyword command.argument
-step meanings ended store command = record { reply = []; state = ended }
+step meanings (transaction mode maildrop) store command = transaction_step meanings mode maildrop store command.keyword command.argument
+step meanings ended store command = answers [] ended

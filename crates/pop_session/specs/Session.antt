@@ -1,11 +1,14 @@
 -- A session (RFC 1939, 3): the machine over a stream, and what a session value stands for.
-use Rattle.std.specs.Prelude.{◌≡◌, ℕ, List, ◌∷◌, codes, Option, None, Some}
+use Rattle.std.specs.Prelude.{◌≡◌, ℕ, List, [], ◌∷◌, codes, Option, None, Some}
 use Rattle.mail_wire.specs.Turns.{Turn, all_turns}
-use Rattle.mail_store.specs.StoreState.{StoreState}
+use Rattle.mail_store.specs.Acts.{Act, gives, acts_of, changes_in}
+use Rattle.mail_store.specs.Following.{records_of}
+use Rattle.mail_store.specs.StoreState.{StoreState, with_records}
+use Rattle.mail_store.specs.declared.records.Record.{Record}
 use Rattle.surrogate_cache.specs.Served.{legacy, Meanings}
 use Rattle.mail_wire.specs.Framing.{Framed, waiting, whole, too_long, next_line}
 use Rattle.pop_session.specs.Commands.{command_of}
-use Rattle.pop_session.specs.Machine.{Part, line, State, authorization, transaction, ended, says, step}
+use Rattle.pop_session.specs.Machine.{Part, line, State, authorization, transaction, ended, says, Step, step}
 use Rattle.pop_session.specs.States.{state_of, KnowsState}
 use Rattle.pop_session.specs.declared.session.PopSession.{PopSession}
 use Rattle.pop_session.specs.declared.session.PopSession.TheVariants as variant
@@ -18,26 +21,30 @@ pub record Machine : Type 0 where
 abbrev pub line_too_long : List Part
 line_too_long = says (codes "-ERR line too long")
 
+-- what is left after a command
+abbrev pub after_step : StoreState → Step → Machine
+after_step store taken = record { state = taken.state; store = with_records store (records_of taken.changes) }
+
 -- what a whole command brings
-abbrev pub turn_by : Meanings → Machine → Framed → Option (Turn Machine Part)
+abbrev pub turn_by : Meanings → Machine → Framed → Option (Turn Machine (Act Part))
 turn_by meanings machine waiting = None
 turn_by meanings machine (whole text rest) =
     let taken = step meanings machine.state machine.store (command_of text) in
-    Some (record { parts = taken.reply; after = record { state = taken.state; store = machine.store }; rest = rest })
+    Some (record { parts = acts_of taken.changes taken.reply; after = after_step machine.store taken; rest = rest })
 turn_by meanings machine (too_long rest) =
-    Some (record { parts = line_too_long; after = record { state = ended; store = machine.store }; rest = rest })
+    Some (record { parts = acts_of [] line_too_long; after = record machine { state = ended }; rest = rest })
 
 -- after the end no command is read
-abbrev pub turn_in : Meanings → State → Machine → List ℕ → Option (Turn Machine Part)
+abbrev pub turn_in : Meanings → State → Machine → List ℕ → Option (Turn Machine (Act Part))
 turn_in meanings (authorization mode user) machine octets = turn_by meanings machine (next_line octets)
-turn_in meanings (transaction mode inbox) machine octets = turn_by meanings machine (next_line octets)
+turn_in meanings (transaction mode maildrop) machine octets = turn_by meanings machine (next_line octets)
 turn_in meanings ended machine octets = None
 
-unfoldable pub next_turn : Meanings → Machine → List ℕ → Option (Turn Machine Part)
+unfoldable pub next_turn : Meanings → Machine → List ℕ → Option (Turn Machine (Act Part))
 next_turn meanings machine octets = turn_in meanings machine.state machine octets
 
 -- what these octets bring
-abbrev pub turns_of : Meanings → Machine → List ℕ → Turn Machine Part
+abbrev pub turns_of : Meanings → Machine → List ℕ → Turn Machine (Act Part)
 turns_of meanings machine octets = all_turns (next_turn meanings) machine octets
 
 abbrev pub greeting : List Part
@@ -47,9 +54,9 @@ greeting = says (codes "+OK ready")
 abbrev pub start_of : StoreState → Machine
 start_of store = record { state = authorization legacy None; store = store }
 
--- the parts that a session is sent of a stream: the greeting, and the replies to its whole commands, up to the end
-abbrev pub parts_to : Meanings → StoreState → List ℕ → List Part
-parts_to meanings store octets = line (codes "+OK ready") ∷ (turns_of meanings (start_of store) octets).parts
+-- what a session does of a stream: it gives the greeting, and carries out its whole commands, up to the end
+abbrev pub acts_for : Meanings → StoreState → List ℕ → List (Act Part)
+acts_for meanings store octets = gives (line (codes "+OK ready")) ∷ (turns_of meanings (start_of store) octets).parts
 
 -- the store that these commands leave
 abbrev pub store_after : Meanings → StoreState → List ℕ → StoreState
@@ -69,7 +76,7 @@ HasRest (variant.Open reading) rest = rest ≡ reading.kept
 HasRest variant.Ended rest = Unit {0}
 
 -- A session and its store stand for what these turns leave.
-pub record StandsFor (session : PopSession) (store : StoreState) (turn : Turn Machine Part) : Type 0 where
+pub record StandsFor (session : PopSession) (store : StoreState) (turn : Turn Machine (Act Part)) : Type 0 where
   pub machine : machine_of session store ≡ turn.after
   pub rest : HasRest session turn.rest
 

@@ -8,3 +8,4 @@ pub mod states;
 mod stuffing;
 #[cfg(test)]
 mod tests;
+mod top;

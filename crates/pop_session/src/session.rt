@@ -1,23 +1,26 @@
 //! A session over a wire.
-ghost use Rattle.std.specs.Prelude.{◌≡◌, ℕ, ◌++◌, List, None, Some, IfOk, IfSome, MatchOption, Err, IsTrue, ◌↔◌, length, take, drop, ◌⊎◌, ◌<◌, ◌≤◌, ◌-◌, true, false, []};
-ghost use Rattle.mail_wire.specs.Lines.{first_line};
-ghost use Rattle.mail_wire.specs.declared.framing.TheConstants.{LINE_MAX};
+ghost use Rattle.std.specs.Prelude.{◌≡◌, ℕ, ◌++◌, List, None, Some, IfOk, Err, IsTrue, ◌↔◌, length, ◌⊎◌, ◌≤◌, false, []};
 ghost use Rattle.std.specs.Option.{option_copied};
+ghost use Rattle.mail_wire.specs.Keeping.{HasKeeperCause};
 ghost use Rattle.mail_wire.specs.Moves.{GivesOrFails, HasWireCause};
+ghost use Rattle.mail_store.specs.Acts.{changes_in};
+ghost use Rattle.mail_store.specs.Following.{Leaves};
 ghost use Rattle.mail_store.specs.StoreState.{StoreState};
 ghost use Rattle.surrogate_cache.specs.Served.{Meanings, WithMeanings};
-ghost use Rattle.pop_session.specs.Commands.{command_of};
-ghost use Rattle.pop_session.specs.Machine.{ended, authorization_step, transaction_step, transaction_reply, step, is_quit as is_quit_command};
-ghost use Rattle.pop_session.specs.Replies.{reply_octets, AreFit};
+ghost use Rattle.pop_session.specs.Commands.{command_of, number_of};
+ghost use Rattle.pop_session.specs.Machine.{transaction, ended, authorization_step, transaction_step, transaction_reply, dele_step, quit_step, step};
+ghost use Rattle.pop_session.specs.Replies.{reply_octets, AreFit, given_by, AreFitActs};
 ghost use Rattle.pop_session.specs.Session.{machine_of, turns_of, StandsFor, IsReady, HasRest, greeting, start_of, session_state};
 ghost use Rattle.pop_session.specs.States.{state_or_ended, state_of, KnowsState, Knows};
 
-use crate::command::{Command, Keyword, read_command};
-use crate::replies::{Asked, find_message, list, list_one, retr, stat};
-use crate::states::{Authorization, Kind, Login, Pop, PopState, Transaction};
-use mail_store::kept::Listed;
+use crate::command::{Command, Keyword, is_of_transaction, read_command, read_top_numbers};
+use crate::replies::{
+    Asked, find_message, list, list_one, message_at, retr, stat, top, uidl, uidl_one,
+};
+use crate::states::{Authorization, Kind, Login, MaildropMessage, Pop, PopState, Transaction};
+use mail_store::changing::StoreFault;
 use mail_store::storing::Store;
-use mail_wire::framing::{LINE_MAX, line_end};
+use mail_wire::framing::{FoundLine, find_line};
 use mail_wire::keeping::Keeper;
 use mail_wire::outside::{Fault, Wire};
 use mail_wire::traffic::give_all;
@@ -32,6 +35,10 @@ const OUT_OF_ORDER: &[u8] = b"-ERR out of order\r\n";
 const SYNTAX: &[u8] = b"-ERR syntax\r\n";
 
 const NO_SUCH_MESSAGE: &[u8] = b"-ERR no such message\r\n";
+
+const BYE: &[u8] = b"+OK bye\r\n";
+
+const CAPABILITIES: &[u8] = b"+OK\r\nUTF8 USER\r\nTOP\r\nUIDL\r\nUSER\r\n.\r\n";
 
 const TOO_LONG: &[u8] = b"-ERR line too long\r\n";
 
@@ -56,19 +63,20 @@ fn answer_authorization<V: Kind>(
     ensures known { IfOk result (λ answer. KnowsState store.now (state_or_ended answer.next)) }
 {
     let (reply, next) = match (command.keyword, command.argument) {
-        (Keyword::Stat | Keyword::List | Keyword::Retr, _) => {
+        (keyword, _) if is_of_transaction(keyword) => {
             (OUT_OF_ORDER, Some(V::in_authorization(pop)))
         }
+        (Keyword::Capa, None) => (CAPABILITIES, Some(V::in_authorization(pop))),
         (Keyword::Utf8, None) => (DONE, Some(PopState::EnabledAuthorization(pop.utf8()))),
         (Keyword::User, Some(name)) if !name.is_empty() => {
             (DONE, Some(V::in_authorization(pop.user(alloc, name)?)))
         }
-        (Keyword::Pass, Some(password)) => match pop.pass(password, store)? {
+        (Keyword::Pass, Some(password)) => match pop.pass(alloc, password, store)? {
             Login::OutOfOrder(pop) => (OUT_OF_ORDER, Some(V::in_authorization(pop))),
             Login::Refused(pop) => (b"-ERR no\r\n".as_slice(), Some(V::in_authorization(pop))),
             Login::Open(pop) => (DONE, Some(V::in_transaction(pop))),
         },
-        (Keyword::Quit, None) => (b"+OK bye\r\n".as_slice(), None),
+        (Keyword::Quit, None) => (BYE, None),
         _ => (SYNTAX, Some(V::in_authorization(pop))),
     };
     Ok(OneLine { reply, next })
@@ -103,29 +111,59 @@ fn give_of_message<V: Kind, W: Wire>(
     cache: &mut Cache,
     keyword: Keyword,
     text: &[u8],
-    inbox: &[Listed],
+    maildrop: &[MaildropMessage],
     store: &Store,
     wire: &mut W,
 ) -> Result<(), Fault>
-    requires keyword { (keyword ≡ Keyword.List) ⊎ (keyword ≡ Keyword.Retr) }
-    requires known { Knows store.now inbox.now }
+    requires keyword { (keyword ≡ Keyword.List) ⊎ (keyword ≡ Keyword.Uidl) ⊎ (keyword ≡ Keyword.Retr) }
+    requires known { Knows store.now maildrop.now }
     ensures gives { WithMeanings (λ meanings. GivesOrFails (W.tells wire.old) (W.tells wire.new) result
-        (reply_octets meanings (transaction_reply meanings V.mode inbox.now store.now keyword (Some text.now)))) }
-    ensures fit { IfOk result (λ _. WithMeanings (λ meanings. AreFit meanings (transaction_reply meanings V.mode inbox.now store.now keyword (Some text.now)))) }
+        (reply_octets meanings (transaction_reply meanings V.mode maildrop.now store.now keyword (Some text.now)))) }
+    ensures fit { IfOk result (λ _. WithMeanings (λ meanings. AreFit meanings (transaction_reply meanings V.mode maildrop.now store.now keyword (Some text.now)))) }
     ensures cause { HasWireCause (W.tells wire.old) (W.tells wire.new) result Fault.Wire }
     ensures keeper { ¬ (result ≡ Err Fault.Keeper) }
 {
-    match find_message(store, inbox, text) {
-        Asked::NotNumber => give_all(wire, SYNTAX),
-        Asked::NoSuch => give_all(wire, NO_SUCH_MESSAGE),
-        Asked::Found { number, one } => {
-            if keyword == Keyword::Retr {
-                retr::<V, W>(alloc, cache, store, &one, wire)
-            } else {
-                let text = list_one::<V>(alloc, cache, store, number, &one)?;
-                give_all(wire, text.as_bytes())
-            }
+    let (number, one) = match find_message(store, maildrop, text) {
+        Asked::NotNumber => return give_all(wire, SYNTAX),
+        Asked::NoSuch => return give_all(wire, NO_SUCH_MESSAGE),
+        Asked::Found { number, one } => (number, one),
+    };
+    match keyword {
+        Keyword::Retr => retr::<V, W>(alloc, cache, store, &one, wire),
+        Keyword::Uidl => {
+            let text = uidl_one(alloc, number, &one)?;
+            give_all(wire, text.as_bytes())
         }
+        _ => {
+            let text = list_one::<V>(alloc, cache, store, number, &one)?;
+            give_all(wire, text.as_bytes())
+        }
+    }
+}
+
+// TOP, with the text of its two numbers.
+#[tactic(auto, using(crate::proofs::FitLemmas::fit_steps))]
+fn give_top<V: Kind, W: Wire>(
+    alloc: Global,
+    cache: &mut Cache,
+    text: &[u8],
+    maildrop: &[MaildropMessage],
+    store: &Store,
+    wire: &mut W,
+) -> Result<(), Fault>
+    requires { Knows store.now maildrop.now }
+    ensures gives { WithMeanings (λ meanings. GivesOrFails (W.tells wire.old) (W.tells wire.new) result
+        (reply_octets meanings (transaction_reply meanings V.mode maildrop.now store.now Keyword.Top (Some text.now)))) }
+    ensures fit { IfOk result (λ _. WithMeanings (λ meanings. AreFit meanings (transaction_reply meanings V.mode maildrop.now store.now Keyword.Top (Some text.now)))) }
+    ensures cause { HasWireCause (W.tells wire.old) (W.tells wire.new) result Fault.Wire }
+    ensures keeper { ¬ (result ≡ Err Fault.Keeper) }
+{
+    let Some(numbers) = read_top_numbers(text) else {
+        return give_all(wire, SYNTAX);
+    };
+    match message_at(store, maildrop, numbers.number) {
+        Some(one) => top::<V, W>(alloc, cache, store, &one, numbers.lines, wire),
+        None => give_all(wire, NO_SUCH_MESSAGE),
     }
 }
 
@@ -134,96 +172,183 @@ fn give_of_message<V: Kind, W: Wire>(
 fn give_reply<V: Kind, W: Wire>(
     alloc: Global,
     cache: &mut Cache,
-    inbox: &[Listed],
+    maildrop: &[MaildropMessage],
     command: Command,
     store: &Store,
     wire: &mut W,
 ) -> Result<(), Fault>
-    requires { Knows store.now inbox.now }
+    requires { Knows store.now maildrop.now }
     ensures gives { WithMeanings (λ meanings. GivesOrFails (W.tells wire.old) (W.tells wire.new) result
-        (reply_octets meanings (transaction_reply meanings V.mode inbox.now store.now command.entry.keyword (option_copied command.entry.argument)))) }
-    ensures fit { IfOk result (λ _. WithMeanings (λ meanings. AreFit meanings (transaction_reply meanings V.mode inbox.now store.now command.entry.keyword (option_copied command.entry.argument)))) }
+        (reply_octets meanings (transaction_reply meanings V.mode maildrop.now store.now command.entry.keyword (option_copied command.entry.argument)))) }
+    ensures fit { IfOk result (λ _. WithMeanings (λ meanings. AreFit meanings (transaction_reply meanings V.mode maildrop.now store.now command.entry.keyword (option_copied command.entry.argument)))) }
     ensures cause { HasWireCause (W.tells wire.old) (W.tells wire.new) result Fault.Wire }
     ensures keeper { ¬ (result ≡ Err Fault.Keeper) }
 {
     match (command.keyword, command.argument) {
         (Keyword::User | Keyword::Pass | Keyword::Utf8, _) => give_all(wire, OUT_OF_ORDER),
+        (Keyword::Capa, None) => give_all(wire, CAPABILITIES),
+        (Keyword::Noop, None) => give_all(wire, DONE),
         (Keyword::Stat, None) => {
-            let text = stat::<V>(alloc, cache, store, inbox)?;
+            let text = stat::<V>(alloc, cache, store, maildrop)?;
             give_all(wire, text.as_bytes())
         }
         (Keyword::List, None) => {
-            let text = list::<V>(alloc, cache, store, inbox)?;
+            let text = list::<V>(alloc, cache, store, maildrop)?;
             give_all(wire, text.as_bytes())
         }
-        (Keyword::List | Keyword::Retr, Some(text)) => {
-            give_of_message::<V, W>(alloc, cache, command.keyword, text, inbox, store, wire)
+        (Keyword::Uidl, None) => {
+            let text = uidl(alloc, maildrop)?;
+            give_all(wire, text.as_bytes())
+        }
+        (Keyword::List | Keyword::Uidl | Keyword::Retr, Some(text)) => {
+            give_of_message::<V, W>(alloc, cache, command.keyword, text, maildrop, store, wire)
+        }
+        (Keyword::Top, Some(text)) => {
+            give_top::<V, W>(alloc, cache, text, maildrop, store, wire)
         }
         _ => give_all(wire, SYNTAX),
     }
 }
 
-fn is_quit(command: &Command) -> bool
-    ensures { result ≡ is_quit_command command.now.keyword (option_copied command.now.argument) }
+// DELE, with the text of its number.
+#[tactic(auto, using(crate::proofs::FitLemmas::fit_steps))]
+fn dele<V: Kind, W: Wire>(
+    pop: Pop<Transaction, V>,
+    text: &[u8],
+    store: &Store,
+    wire: &mut W,
+) -> Result<Pop<Transaction, V>, Fault>
+    requires { Knows store.now pop.state.maildrop.items }
+    ensures gives { WithMeanings (λ meanings. GivesOrFails (W.tells wire.old) (W.tells wire.new) result
+        (reply_octets meanings (dele_step V.mode pop.state.maildrop.items (number_of text.now)).reply)) }
+    ensures fit { IfOk result (λ _. WithMeanings (λ meanings. AreFit meanings (dele_step V.mode pop.state.maildrop.items (number_of text.now)).reply)) }
+    ensures next { IfOk result (λ next. transaction V.mode next.state.maildrop.items ≡ (dele_step V.mode pop.state.maildrop.items (number_of text.now)).state) }
+    ensures known { IfOk result (λ next. Knows store.now next.state.maildrop.items) }
+    ensures cause { HasWireCause (W.tells wire.old) (W.tells wire.new) result Fault.Wire }
+    ensures keeper { ¬ (result ≡ Err Fault.Keeper) }
 {
-    matches!((command.keyword, command.argument), (Keyword::Quit, None))
+    match find_message(store, &pop.state.maildrop, text) {
+        Asked::NotNumber => {
+            give_all(wire, SYNTAX)?;
+            Ok(pop)
+        }
+        Asked::NoSuch => {
+            give_all(wire, NO_SUCH_MESSAGE)?;
+            Ok(pop)
+        }
+        Asked::Found { number, one: _ } => {
+            give_all(wire, DONE)?;
+            Ok(pop.dele((number - 1) as usize))
+        }
+    }
+}
+
+// QUIT: the marked messages go, and then the session's end is told.
+#[tactic(auto, using(crate::proofs::FitLemmas::fit_steps))]
+fn quit<V: Kind, W: Wire, J: Keeper>(
+    alloc: Global,
+    pop: Pop<Transaction, V>,
+    store: &mut Store,
+    wire: &mut W,
+    keeper: &mut J,
+) -> Result<(), Fault>
+    requires works { store.old.failed ≡ false }
+    requires known { Knows store.old pop.state.maildrop.items }
+    ensures gives { (meanings : Meanings) → GivesOrFails (W.tells wire.old) (W.tells wire.new) result (reply_octets meanings (quit_step pop.state.maildrop.items).reply) }
+    ensures leaves { Leaves store.old store.new (J.tells keeper.old).octets (J.tells keeper.new).octets result (quit_step pop.state.maildrop.items).changes }
+    ensures works { ¬ (result ≡ Err Fault.Keeper) → store.new.failed ≡ false }
+    ensures limit { store.new.message_max ≡ store.old.message_max }
+    ensures cause { HasWireCause (W.tells wire.old) (W.tells wire.new) result Fault.Wire }
+    ensures keeper { HasKeeperCause (J.tells keeper.old) (J.tells keeper.new) result Fault.Keeper }
+{
+    match pop.quit().update(alloc, store, keeper) {
+        Ok(()) => give_all(wire, BYE),
+        Err(StoreFault::Keeper) => Err(Fault::Keeper),
+        Err(StoreFault::Memory) => Err(Fault::Memory),
+        Err(StoreFault::Exists | StoreFault::NoSuch | StoreFault::TooLarge) => unreachable!(),
+    }
 }
 
 // The rows of TRANSACTION.
 #[tactic(auto, using(crate::proofs::RowLemmas::row_steps))]
-fn answer_transaction<V: Kind, W: Wire>(
+fn answer_transaction<V: Kind, W: Wire, J: Keeper>(
     alloc: Global,
     cache: &mut Cache,
     pop: Pop<Transaction, V>,
     command: Command,
-    store: &Store,
+    store: &mut Store,
     wire: &mut W,
+    keeper: &mut J,
 ) -> Result<Option<PopState>, Fault>
-    requires { Knows store.now pop.state.inbox.items }
+    requires works { store.old.failed ≡ false }
+    requires known { Knows store.old pop.state.maildrop.items }
     ensures gives { WithMeanings (λ meanings. GivesOrFails (W.tells wire.old) (W.tells wire.new) result
-        (reply_octets meanings (transaction_step meanings V.mode pop.state.inbox.items store.now command.entry.keyword (option_copied command.entry.argument)).reply)) }
-    ensures fit { IfOk result (λ _. WithMeanings (λ meanings. AreFit meanings (transaction_step meanings V.mode pop.state.inbox.items store.now command.entry.keyword (option_copied command.entry.argument)).reply)) }
-    ensures next { IfOk result (λ next. WithMeanings (λ meanings. state_or_ended next ≡ (transaction_step meanings V.mode pop.state.inbox.items store.now command.entry.keyword (option_copied command.entry.argument)).state)) }
-    ensures known { IfOk result (λ next. KnowsState store.now (state_or_ended next)) }
+        (reply_octets meanings (transaction_step meanings V.mode pop.state.maildrop.items store.old command.entry.keyword (option_copied command.entry.argument)).reply)) }
+    ensures fit { IfOk result (λ _. WithMeanings (λ meanings. AreFit meanings (transaction_step meanings V.mode pop.state.maildrop.items store.old command.entry.keyword (option_copied command.entry.argument)).reply)) }
+    ensures next { IfOk result (λ next. WithMeanings (λ meanings. state_or_ended next ≡ (transaction_step meanings V.mode pop.state.maildrop.items store.old command.entry.keyword (option_copied command.entry.argument)).state)) }
+    ensures leaves { WithMeanings (λ meanings. Leaves store.old store.new (J.tells keeper.old).octets (J.tells keeper.new).octets result
+        (transaction_step meanings V.mode pop.state.maildrop.items store.old command.entry.keyword (option_copied command.entry.argument)).changes) }
+    ensures known { IfOk result (λ next. KnowsState store.new (state_or_ended next)) }
+    ensures works { ¬ (result ≡ Err Fault.Keeper) → store.new.failed ≡ false }
+    ensures limit { store.new.message_max ≡ store.old.message_max }
     ensures cause { HasWireCause (W.tells wire.old) (W.tells wire.new) result Fault.Wire }
-    ensures keeper { ¬ (result ≡ Err Fault.Keeper) }
+    ensures keeper { HasKeeperCause (J.tells keeper.old) (J.tells keeper.new) result Fault.Keeper }
 {
-    if is_quit(&command) {
-        let _update = pop.quit();
-        give_all(wire, b"+OK bye\r\n")?;
-        return Ok(None);
+    match (command.keyword, command.argument) {
+        (Keyword::Dele, Some(text)) => {
+            let pop = dele(pop, text, store, wire)?;
+            Ok(Some(V::in_transaction(pop)))
+        }
+        (Keyword::Rset, None) => {
+            give_all(wire, DONE)?;
+            Ok(Some(V::in_transaction(pop.rset())))
+        }
+        (Keyword::Quit, None) => {
+            quit(alloc, pop, store, wire, keeper)?;
+            Ok(None)
+        }
+        _ => {
+            give_reply::<V, W>(alloc, cache, &pop.state.maildrop, command, store, wire)?;
+            Ok(Some(V::in_transaction(pop)))
+        }
     }
-    give_reply::<V, W>(alloc, cache, &pop.state.inbox, command, store, wire)?;
-    Ok(Some(V::in_transaction(pop)))
 }
 
 // A command, in any state. The line has its CRLF.
 #[tactic(auto, unfolding(crate::specs::Machine::step))]
-fn answer<W: Wire>(
+fn answer<W: Wire, J: Keeper>(
     alloc: Global,
     state: PopState,
     line: &[u8],
-    store: &Store,
+    store: &mut Store,
     cache: &mut Cache,
     wire: &mut W,
+    keeper: &mut J,
 ) -> Result<Option<PopState>, Fault>
     requires line { 2 ≤ length line.now }
-    requires known { KnowsState store.now (state_of state) }
+    requires works { store.old.failed ≡ false }
+    requires known { KnowsState store.old (state_of state) }
     ensures gives { WithMeanings (λ meanings. GivesOrFails (W.tells wire.old) (W.tells wire.new) result
-        (reply_octets meanings (step meanings (state_of state) store.now (command_of line.now)).reply)) }
-    ensures fit { IfOk result (λ _. WithMeanings (λ meanings. AreFit meanings (step meanings (state_of state) store.now (command_of line.now)).reply)) }
-    ensures next { IfOk result (λ next. WithMeanings (λ meanings. state_or_ended next ≡ (step meanings (state_of state) store.now (command_of line.now)).state)) }
-    ensures known { IfOk result (λ next. KnowsState store.now (state_or_ended next)) }
+        (reply_octets meanings (step meanings (state_of state) store.old (command_of line.now)).reply)) }
+    ensures fit { IfOk result (λ _. WithMeanings (λ meanings. AreFit meanings (step meanings (state_of state) store.old (command_of line.now)).reply)) }
+    ensures next { IfOk result (λ next. WithMeanings (λ meanings. state_or_ended next ≡ (step meanings (state_of state) store.old (command_of line.now)).state)) }
+    ensures leaves { WithMeanings (λ meanings. Leaves store.old store.new (J.tells keeper.old).octets (J.tells keeper.new).octets result
+        (step meanings (state_of state) store.old (command_of line.now)).changes) }
+    ensures known { IfOk result (λ next. KnowsState store.new (state_or_ended next)) }
+    ensures works { ¬ (result ≡ Err Fault.Keeper) → store.new.failed ≡ false }
+    ensures limit { store.new.message_max ≡ store.old.message_max }
     ensures cause { HasWireCause (W.tells wire.old) (W.tells wire.new) result Fault.Wire }
-    ensures keeper { ¬ (result ≡ Err Fault.Keeper) }
+    ensures keeper { HasKeeperCause (J.tells keeper.old) (J.tells keeper.new) result Fault.Keeper }
 {
     let command = read_command(line);
     match state {
         PopState::Authorization(pop) => give_authorization(alloc, pop, command, store, wire),
         PopState::EnabledAuthorization(pop) => give_authorization(alloc, pop, command, store, wire),
-        PopState::Transaction(pop) => answer_transaction(alloc, cache, pop, command, store, wire),
+        PopState::Transaction(pop) => {
+            answer_transaction(alloc, cache, pop, command, store, wire, keeper)
+        }
         PopState::EnabledTransaction(pop) => {
-            answer_transaction(alloc, cache, pop, command, store, wire)
+            answer_transaction(alloc, cache, pop, command, store, wire, keeper)
         }
     }
 }
@@ -243,43 +368,30 @@ pub enum PopSession {
     Ended,
 }
 
-// Where in the rest the line ends that the kept octets begin.
-fn next_end(kept: &Octets, rest: &[u8]) -> Option<usize>
-    requires { first_line kept.now ≡ None }
-    ensures bound { IfSome result (λ end. (0 < end) × (end ≤ length rest.now)) }
-    ensures line { MatchOption result (first_line (kept.now ++ rest.now) ≡ None)
-        (λ end. first_line (kept.now ++ rest.now) ≡ Some (record { line = kept.now ++ take end rest.now; rest = drop end rest.now })) }
-{
-    line_end(kept.as_slice(), rest)
-}
-
-// Whether a line has no room for so many octets behind those that were kept.
-fn is_too_long(kept: &Octets, more: usize) -> bool
-    requires { length kept.now ≤ LINE_MAX }
-    ensures long { result ≡ true → LINE_MAX - length kept.now < more }
-    ensures short { result ≡ false → more ≤ LINE_MAX - length kept.now }
-{
-    LINE_MAX - kept.len() < more
-}
-
 // The next piece of a session that has not ended.
-fn feed_open<W: Wire>(
+fn feed_open<W: Wire, J: Keeper>(
     reading: Reading,
     piece: &[u8],
-    store: &Store,
+    store: &mut Store,
     cache: &mut Cache,
     wire: &mut W,
+    keeper: &mut J,
 ) -> Result<PopSession, Fault>
-    requires { IsReady (PopSession.Open reading) store.now }
+    requires works { store.old.failed ≡ false }
+    requires ready { IsReady (PopSession.Open reading) store.old }
     ensures gives { WithMeanings (λ meanings. GivesOrFails (W.tells wire.old) (W.tells wire.new) result
-        (reply_octets meanings (turns_of meanings (machine_of (PopSession.Open reading) store.now) (reading.kept ++ piece.now)).parts)) }
+        (given_by meanings (turns_of meanings (machine_of (PopSession.Open reading) store.old) (reading.kept ++ piece.now)).parts)) }
     ensures fit { IfOk result (λ _. WithMeanings (λ meanings.
-        AreFit meanings (turns_of meanings (machine_of (PopSession.Open reading) store.now) (reading.kept ++ piece.now)).parts)) }
+        AreFitActs meanings (turns_of meanings (machine_of (PopSession.Open reading) store.old) (reading.kept ++ piece.now)).parts)) }
     ensures stands { IfOk result (λ session. WithMeanings (λ meanings.
-        StandsFor session store.now (turns_of meanings (machine_of (PopSession.Open reading) store.now) (reading.kept ++ piece.now)))) }
-    ensures ready { IfOk result (λ session. IsReady session store.now) }
+        StandsFor session store.new (turns_of meanings (machine_of (PopSession.Open reading) store.old) (reading.kept ++ piece.now)))) }
+    ensures leaves { WithMeanings (λ meanings. Leaves store.old store.new (J.tells keeper.old).octets (J.tells keeper.new).octets result
+        (changes_in (turns_of meanings (machine_of (PopSession.Open reading) store.old) (reading.kept ++ piece.now)).parts)) }
+    ensures ready { IfOk result (λ session. IsReady session store.new) }
+    ensures works { ¬ (result ≡ Err Fault.Keeper) → store.new.failed ≡ false }
+    ensures limit { store.new.message_max ≡ store.old.message_max }
     ensures cause { HasWireCause (W.tells wire.old) (W.tells wire.new) result Fault.Wire }
-    ensures keeper { ¬ (result ≡ Err Fault.Keeper) }
+    ensures keeper { HasKeeperCause (J.tells keeper.old) (J.tells keeper.new) result Fault.Keeper }
 {
     let Reading {
         alloc,
@@ -287,26 +399,29 @@ fn feed_open<W: Wire>(
         mut state,
     } = reading;
     let mut rest = piece;
-    while let Some(end) = next_end(&kept, rest) {
-        if is_too_long(&kept, end) {
-            give_all(wire, TOO_LONG)?;
-            return Ok(PopSession::Ended);
+    loop {
+        match find_line(kept.as_slice(), rest) {
+            FoundLine::Whole(end) => {
+                let (front, others) = rest.split_at(end);
+                kept.push_slice(front)?;
+                let next = answer(alloc, state, kept.as_slice(), store, cache, wire, keeper)?;
+                let Some(next) = next else {
+                    return Ok(PopSession::Ended);
+                };
+                state = next;
+                kept.clear();
+                rest = others;
+            }
+            FoundLine::TooLong => {
+                give_all(wire, TOO_LONG)?;
+                return Ok(PopSession::Ended);
+            }
+            FoundLine::Waiting => {
+                kept.push_slice(rest)?;
+                return Ok(PopSession::Open(Reading { alloc, kept, state }));
+            }
         }
-        let (front, others) = rest.split_at(end);
-        kept.push_slice(front)?;
-        let Some(next) = answer(alloc, state, kept.as_slice(), store, cache, wire)? else {
-            return Ok(PopSession::Ended);
-        };
-        state = next;
-        kept.clear();
-        rest = others;
     }
-    if is_too_long(&kept, rest.len()) {
-        give_all(wire, TOO_LONG)?;
-        return Ok(PopSession::Ended);
-    }
-    kept.push_slice(rest)?;
-    Ok(PopSession::Open(Reading { alloc, kept, state }))
 }
 
 impl PopSession {
@@ -332,8 +447,8 @@ impl PopSession {
     /// Where a line ends is sought in the piece alone; of what came before only the last octet is looked at. A line of more
     /// than `LINE_MAX` octets ends the session with a reply. After the end pieces are taken and bring nothing.
     ///
-    /// An `Err` takes the session away, and no reply says so. No command changes the store yet, so `Fault::Keeper` never
-    /// comes.
+    /// An `Err` takes the session away, and no reply says so. `Fault::Keeper` comes where the marked messages couldn't be
+    /// taken out of the journal; then the store has failed.
     pub fn feed<W: Wire, J: Keeper>(
         self,
         piece: &[u8],
@@ -342,28 +457,35 @@ impl PopSession {
         wire: &mut W,
         keeper: &mut J,
     ) -> Result<PopSession, Fault>
-        requires { IsReady self store.old }
+        requires works { store.old.failed ≡ false }
+        requires ready { IsReady self store.old }
 
         // Whatever the rest is that the session stands for: the machine's turns over it and the piece are what is given,
         // and after a fault a prefix of that. The session that is left stands for what follows.
         ensures gives { WithMeanings (λ meanings. (rest : List ℕ) → HasRest self rest →
             GivesOrFails (W.tells wire.old) (W.tells wire.new) result
-            (reply_octets meanings (turns_of meanings (machine_of self store.old) (rest ++ piece.now)).parts)) }
+            (given_by meanings (turns_of meanings (machine_of self store.old) (rest ++ piece.now)).parts)) }
         ensures stands { IfOk result (λ session. WithMeanings (λ meanings. (rest : List ℕ) → HasRest self rest →
             StandsFor session store.new (turns_of meanings (machine_of self store.old) (rest ++ piece.now)))) }
         ensures ready { IfOk result (λ session. IsReady session store.new) }
 
+        // The changes of these turns are made in the store and in the journal; after a fault the first of them, and after
+        // one of the keeper a prefix of the next one's records is in the journal.
+        ensures leaves { WithMeanings (λ meanings. (rest : List ℕ) → HasRest self rest →
+            Leaves store.old store.new (J.tells keeper.old).octets (J.tells keeper.new).octets result
+            (changes_in (turns_of meanings (machine_of self store.old) (rest ++ piece.now)).parts)) }
+        ensures works { ¬ (result ≡ Err Fault.Keeper) → store.new.failed ≡ false }
+        ensures limit { store.new.message_max ≡ store.old.message_max }
+
         // Each line is ASCII, and to a legacy session each header is.
         ensures fit { IfOk result (λ _. WithMeanings (λ meanings. (rest : List ℕ) → HasRest self rest →
-            AreFit meanings (turns_of meanings (machine_of self store.old) (rest ++ piece.now)).parts)) }
+            AreFitActs meanings (turns_of meanings (machine_of self store.old) (rest ++ piece.now)).parts)) }
 
         ensures cause { HasWireCause (W.tells wire.old) (W.tells wire.new) result Fault.Wire }
-        ensures keeper { ¬ (result ≡ Err Fault.Keeper) }
-        ensures store { store.new ≡ store.old }
-        ensures kept { J.tells keeper.new ≡ J.tells keeper.old }
+        ensures keeper { HasKeeperCause (J.tells keeper.old) (J.tells keeper.new) result Fault.Keeper }
     {
         match self {
-            PopSession::Open(reading) => feed_open(reading, piece, store, cache, wire),
+            PopSession::Open(reading) => feed_open(reading, piece, store, cache, wire, keeper),
             PopSession::Ended => Ok(PopSession::Ended),
         }
     }

@@ -1,11 +1,16 @@
 //! The states of a session (RFC 1939, 4 to 6), each a type of its own.
-ghost use Rattle.std.specs.Prelude.{◌≡◌, None, Some, IfOk, ◌++◌, string_bytes, MatchResult, List, ℕ, Option};
+ghost use Rattle.std.specs.Prelude.{◌≡◌, ◌<◌, None, Some, IfOk, List, ℕ, Option, length, map, true, false};
+ghost use Rattle.mail_wire.specs.Keeping.{HasKeeperCause};
+ghost use Rattle.mail_store.specs.Changing.{Changes, IsRefusedAs, expunged};
+ghost use Rattle.mail_store.specs.Kept.{change_at};
 ghost use Rattle.surrogate_cache.specs.Served.{legacy, enabled, WithMeanings};
-ghost use Rattle.pop_session.specs.Machine.{State, authorization, transaction};
-ghost use Rattle.pop_session.specs.States.{state_of, IsLogin, KnowsLogin};
+ghost use Rattle.pop_session.specs.Machine.{State, authorization, transaction, unmarked, marked, deleted_ids as deleted_ids_of};
+ghost use Rattle.pop_session.specs.States.{state_of, IsLogin, Knows, KnowsLogin};
 
+use mail_store::changing::StoreFault;
 use mail_store::kept::Listed;
 use mail_store::storing::Store;
+use mail_wire::keeping::Keeper;
 use mail_wire::values::{Memory, Octets};
 use std::alloc::Global;
 use std::marker::PhantomData;
@@ -17,19 +22,29 @@ pub struct Authorization {
     pub user: Option<Octets>,
 }
 
+/// A message of the maildrop (RFC 1939, 5), and whether it is marked as deleted.
+#[derive(Clone, Copy, Debug, PartialEq, Eq)]
+pub struct MaildropMessage {
+    pub listed: Listed,
+    pub deleted: bool,
+}
+
 /// After login, with the messages of INBOX at that time.
 #[derive(Debug, Drop)]
 pub struct Transaction {
-    pub inbox: Vec<Listed>,
+    pub maildrop: Vec<MaildropMessage>,
 }
 
-/// After QUIT. No message is marked as yet, so nothing is left to do.
-#[derive(Clone, Copy, Debug)]
-pub struct Update;
+/// After QUIT: the messages that are marked go.
+#[derive(Debug, Drop)]
+pub struct Update {
+    pub maildrop: Vec<MaildropMessage>,
+}
 
 // AUTHORIZATION --PASS--> TRANSACTION --QUIT--> UPDATE --> the end
 //       |  ^                  |   ^
-//       +--+ UTF8, USER       +---+ STAT, LIST, RETR
+//       +--+ UTF8, USER,      +---+ STAT, LIST, UIDL, RETR, TOP, DELE, RSET, NOOP, CAPA
+//            CAPA
 //
 /// A session in a state, of a kind. It has the commands of that state alone.
 #[derive(Debug, Drop)]
@@ -47,13 +62,40 @@ pub enum PopState {
     EnabledTransaction(Pop<Transaction, Enabled>),
 }
 
+// A maildrop of these messages, none of which is marked.
+fn maildrop_of(alloc: Global, listing: &[Listed]) -> Result<Vec<MaildropMessage>, Memory>
+    ensures { IfOk result (λ maildrop. maildrop.items ≡ map unmarked listing.now) }
+{
+    let mut maildrop = Vec::new(alloc);
+    for listed in listing {
+        maildrop.push(MaildropMessage {
+            listed: *listed,
+            deleted: false,
+        })?;
+    }
+    Ok(maildrop)
+}
+
+// The numbers in the store of the messages that are marked.
+fn deleted_ids(alloc: Global, maildrop: &[MaildropMessage]) -> Result<Vec<u32>, Memory>
+    ensures { IfOk result (λ ids. ids.items ≡ deleted_ids_of maildrop.now) }
+{
+    let mut ids = Vec::new(alloc);
+    for one in maildrop {
+        if one.deleted {
+            ids.push(one.listed.id)?;
+        }
+    }
+    Ok(ids)
+}
+
 /// A kind of session, as a part of all.
 pub trait Kind: View {
     fn in_authorization(pop: Pop<Authorization, Self>) -> PopState
         ensures { state_of result ≡ authorization Self.mode pop.state.user };
 
     fn in_transaction(pop: Pop<Transaction, Self>) -> PopState
-        ensures { state_of result ≡ transaction Self.mode pop.state.inbox.items };
+        ensures { state_of result ≡ transaction Self.mode pop.state.maildrop.items };
 }
 
 impl Kind for Legacy {
@@ -64,7 +106,7 @@ impl Kind for Legacy {
     }
 
     fn in_transaction(pop: Pop<Transaction, Legacy>) -> PopState
-        ensures { state_of result ≡ transaction legacy pop.state.inbox.items }
+        ensures { state_of result ≡ transaction legacy pop.state.maildrop.items }
     {
         PopState::Transaction(pop)
     }
@@ -78,7 +120,7 @@ impl Kind for Enabled {
     }
 
     fn in_transaction(pop: Pop<Transaction, Enabled>) -> PopState
-        ensures { state_of result ≡ transaction enabled pop.state.inbox.items }
+        ensures { state_of result ≡ transaction enabled pop.state.maildrop.items }
     {
         PopState::EnabledTransaction(pop)
     }
@@ -127,7 +169,7 @@ impl<V: Kind> Pop<Authorization, V> {
     }
 
     /// One try with the name that USER gave; after it there is no name.
-    pub fn pass(self, password: &[u8], store: &Store) -> Result<Login<V>, Memory>
+    pub fn pass(self, alloc: Global, password: &[u8], store: &Store) -> Result<Login<V>, Memory>
         ensures login { IfOk result (λ login. WithMeanings (λ meanings. IsLogin meanings login self.state.user password.now store.now)) }
         ensures known { IfOk result (KnowsLogin store.now) }
     {
@@ -139,9 +181,11 @@ impl<V: Kind> Pop<Authorization, V> {
         };
         match store.login(name.as_slice(), password)? {
             Some(account) => {
-                let inbox = store.list(store.inbox(account))?;
+                let listing = store.list(store.inbox(account))?;
                 Ok(Login::Open(Pop {
-                    state: Transaction { inbox },
+                    state: Transaction {
+                        maildrop: maildrop_of(alloc, &listing)?,
+                    },
                     view: PhantomData,
                 }))
             }
@@ -154,10 +198,54 @@ impl<V: Kind> Pop<Authorization, V> {
 }
 
 impl<V: Kind> Pop<Transaction, V> {
-    pub fn quit(self) -> Pop<Update, V> {
+    /// Marks the message at a place of the maildrop.
+    pub fn dele(mut self, place: usize) -> Self
+        requires { place < length self.state.maildrop.items }
+        ensures { result.state.maildrop.items ≡ change_at (marked true) self.state.maildrop.items place }
+    {
+        self.state.maildrop[place].deleted = true;
+        self
+    }
+
+    /// Takes all marks away.
+    pub fn rset(mut self) -> Self
+        ensures { result.state.maildrop.items ≡ map (marked false) self.state.maildrop.items }
+    {
+        for one in self.state.maildrop.iter_mut() {
+            one.deleted = false;
+        }
+        self
+    }
+
+    /// Nothing more is asked for.
+    pub fn quit(self) -> Pop<Update, V>
+        ensures { result.state.maildrop.items ≡ self.state.maildrop.items }
+    {
         Pop {
-            state: Update,
+            state: Update {
+                maildrop: self.state.maildrop,
+            },
             view: PhantomData,
         }
+    }
+}
+
+impl<V: Kind> Pop<Update, V> {
+    /// Takes the marked messages out of the store, by one call.
+    pub fn update<J: Keeper>(
+        self,
+        alloc: Global,
+        store: &mut Store,
+        keeper: &mut J,
+    ) -> Result<(), StoreFault>
+        requires works { store.old.failed ≡ false }
+        requires known { Knows store.old self.state.maildrop.items }
+        ensures changes { Changes store.old store.new (J.tells keeper.old).octets (J.tells keeper.new).octets result
+            (expunged (deleted_ids_of self.state.maildrop.items)) }
+        ensures refusal { IsRefusedAs result None }
+        ensures cause { HasKeeperCause (J.tells keeper.old) (J.tells keeper.new) result StoreFault.Keeper }
+    {
+        let ids = deleted_ids(alloc, &self.state.maildrop)?;
+        store.expunge(keeper, &ids)
     }
 }

@@ -1,5 +1,5 @@
 //! Gives what is shown of a message as a reply of many lines.
-ghost use Rattle.std.specs.Prelude.{◌≡◌, ◌++◌, IfOk, OnOk, OnErr, [], if◌then◌else◌, Err, codes};
+ghost use Rattle.std.specs.Prelude.{◌≡◌, ◌≤◌, ◌++◌, length, take, IfOk, OnOk, OnErr, [], if◌then◌else◌, Err, codes};
 ghost use Rattle.mail_wire.specs.Lines.{crlf};
 ghost use Rattle.mail_wire.specs.Moves.{GivesOrFails, GivesPrefix, HasWireCause};
 ghost use Rattle.surrogate_rope.specs.Served.{IsShownOf, shown_octets};
@@ -26,7 +26,8 @@ fn needs_dot(place: Place, octet: u8) -> bool
     matches!(place, Place::LineStart) && octet == b'.'
 }
 
-fn next_place(place: Place, octet: u8) -> Place
+/// The place behind an octet.
+pub fn next_place(place: Place, octet: u8) -> Place
     ensures { result ≡ place_behind place octet }
 {
     match octet {
@@ -92,16 +93,19 @@ fn give_end<W: Wire>(mut pending: Octets, place: Place, wire: &mut W) -> Result<
     give_all(wire, pending.as_slice())
 }
 
-/// Gives what is shown of a message as the lines of a reply: each stuffed, and the last one complete.
+/// Gives the first octets, so many, of what is shown of a message as the lines of a reply: each stuffed, and the last one
+/// complete.
 pub fn give_message<W: Wire>(
     alloc: Global,
     shown: &Shown,
     msg: &[u8],
+    len: usize,
     wire: &mut W,
 ) -> Result<(), Fault>
-    requires { IsShownOf msg.now shown.now }
+    requires shown { IsShownOf msg.now shown.now }
+    requires len { len ≤ length (shown_octets msg.now shown.now) }
     ensures gives { GivesOrFails (W.tells wire.old) (W.tells wire.new) result
-        (codes "+OK\r\n" ++ (multi_line (shown_octets msg.now shown.now) ++ codes ".\r\n")) }
+        (codes "+OK\r\n" ++ (multi_line (take len (shown_octets msg.now shown.now)) ++ codes ".\r\n")) }
     ensures cause { HasWireCause (W.tells wire.old) (W.tells wire.new) result Fault.Wire }
     ensures keeper { ¬ (result ≡ Err Fault.Keeper) }
 {
@@ -109,9 +113,8 @@ pub fn give_message<W: Wire>(
     let mut place = Place::LineStart;
     let mut at = 0;
     let mut piece = [0; PIECE];
-    let size = shown.size(msg);
-    while at < size {
-        let count = shown.read_at(msg, at, &mut piece);
+    while at < len {
+        let count = shown.read_at(msg, at, &mut piece).min(len - at);
         place = push_stuffed(&mut pending, place, &piece[..count])?;
         give_piece(&mut pending, wire)?;
         at += count;

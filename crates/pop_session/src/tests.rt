@@ -61,6 +61,10 @@ fn serve(
     let mut cache = Cache::plain();
     let mut session = PopSession::start(alloc, wire)?;
     for piece in pieces {
+        // one that failed serves nobody
+        if store.failed() {
+            return Err(Fault::Keeper);
+        }
         session = session.feed(piece, store, &mut cache, wire, &mut keeper)?;
     }
     Ok(())
@@ -198,6 +202,30 @@ fn commands_without_an_end_and_empty_mailboxes(rt: HostRuntime) -> Result<(), Fa
         b"+OK ready\r\n-ERR out of order\r\n-ERR out of order\r\n-ERR syntax\r\n+OK\r\n-ERR no\r\n-ERR out of order\r\n+OK\r\n+OK\r\n+OK 0 0\r\n-ERR syntax\r\n+OK\r\n.\r\n",
     );
     assert!(rt; matches!(empty, Ok(true)));
+    Ok(())
+}
+
+#[test]
+fn marked_messages_go_at_quit(rt: HostRuntime) -> Result<(), Fail> {
+    let alloc = rt.alloc();
+    let mut store = store_of(alloc, &[b"A: 1\r\n\r\n.x\r\ny\r\n", &CAFE, b"A: 3\r\n"])?;
+    let marked = given(
+        alloc,
+        &mut store,
+        &[
+            b"USER ann@example.org\r\nPASS pw\r\nDELE 2\r\nUIDL\r\nTOP 1 1\r\nLIST 2\r\nRSET\r\nSTAT\r\nDELE 1\r\nNOOP\r\nCAPA\r\nQUIT\r\n",
+        ],
+    );
+    let want =
+        b"+OK ready\r\n+OK\r\n+OK\r\n+OK\r\n+OK\r\n1 1\r\n3 3\r\n.\r\n+OK\r\nA: 1\r\n\r\n..x\r\n.\r\n-ERR no such message\r\n+OK\r\n+OK 3 65\r\n+OK\r\n+OK\r\n+OK\r\nUTF8 USER\r\nTOP\r\nUIDL\r\nUSER\r\n.\r\n+OK bye\r\n";
+    assert!(rt; marked.is_ok_and(|octets| octets.as_slice() == want.as_slice()));
+    let left = is_answered(
+        alloc,
+        &mut store,
+        b"USER ann@example.org\r\nPASS pw\r\nLIST\r\nUIDL\r\nTOP 2 0\r\n",
+        b"+OK ready\r\n+OK\r\n+OK\r\n+OK\r\n1 44\r\n2 6\r\n.\r\n+OK\r\n1 2\r\n2 3\r\n.\r\n+OK\r\nA: 3\r\n.\r\n",
+    );
+    assert!(rt; matches!(left, Ok(true)));
     Ok(())
 }
 

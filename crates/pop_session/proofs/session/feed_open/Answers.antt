@@ -1,216 +1,224 @@
-use Rattle.std.proofs.Common.{◌≡◌, ◌++◌, length, take, drop, arith, sym, ◌∙◌, ap, refl}
+use Rattle.std.proofs.Common.{◌++◌, drop, Option, refl, sym, ◌∙◌}
 use Rattle.std.proofs.lemmas.Result.{err_from_is_err_and}
+use Rattle.mail_wire.specs.declared.framing.TheConstants.{LINE_MAX}
 use Rattle.mail_wire.specs.declared.outside.Fault.TheVariants as fault
 use Rattle.mail_wire.proofs.Moving.{GoesOn-nil, GoesOn-of, GoesOn-trans}
-use Rattle.mail_wire.proofs.Feeding.{FedSoFar-start, FedSoFar-fails, FedSoFar-ends, FedSoFar-more, FedSoFar-all}
-use Rattle.mail_wire.specs.declared.framing.TheConstants.{LINE_MAX}
-use Rattle.pop_session.specs.Session.{line_too_long}
-use Rattle.pop_session.specs.Machine.{ended}
-use Rattle.mail_wire.proofs.FramingLemmas.{waits}
-use Rattle.pop_session.proofs.FeedLemmas.{feed_of, machine_at, stepped, LineEndsAt, long_line, short_line, line_has_end, line_goes, line_ends, long_rest, kept_waits, turns_of-waiting, first_line-nil}
+use Rattle.pop_session.proofs.FeedLemmas.{Surroundings, TakesStep, stepped, found_line, line_has_end, Served-start, line_goes, line_ends, line_given, line_leaves, found_long, long_ends, long_given, found_waiting, all_served, KeepsOn-nil, KeepsOn-more, waiting-nil}
+use Rattle.pop_session.specs.declared.session.PopSession.{PopSession}
+use Rattle.pop_session.specs.declared.states.PopState.{PopState}
 use Rattle.pop_session.proofs.session.feed_open.Goals as goal
 
 pub loop-end-init : goal.loop-end-init
 loop-end-init g c =
-    let waiting = waits c.args.reading.kept c.requires.0 in
+    let a : Surroundings = record { wire = g.W.Wire.tells c.args.wire.now; store = c.args.store.now; journal = (g.J.Keeper.tells c.args.keeper.now).octets } in
     record {
-      fed = λ meanings gives. FedSoFar-start (feed_of meanings) (g.W.Wire.tells c.args.wire.now) (machine_at c.args.reading.state c.args.store.now) (c.args.reading.kept ++ c.args.piece.now);
+      served = λ meanings are. Served-start meanings a c.args.reading.state (c.args.reading.kept ++ c.args.piece.now);
       on = GoesOn-nil (g.W.Wire.tells c.args.wire.now);
-      none = waiting.none;
-      short = waiting.short;
-      known = c.requires.1;
+      keeps_on = KeepsOn-nil (g.J.Keeper.tells c.args.keeper.now);
+      waits = c.requires.ready.0;
+      known = c.requires.ready.1;
+      works = c.requires.works;
+      limit = refl;
     }
-
-pub returns-in_err-give_all-clause-gives : goal.returns-in_err-give_all-clause-gives
-returns-in_err-give_all-clause-gives g c =
-    let failed = err_from_is_err_and c.from_residual.result c.from_residual.ensures.1 in
-    rw failed.1 (λ meanings gives.
-    let ends : LineEndsAt c.loop-end.kept c.loop-end.rest.now c.in-Some.end = record { fits = c.in-Some.ensures.bound.1; line = c.in-Some.ensures.line } in
-    let turn = long_line meanings c.loop-end.state c.args.store.now c.loop-end.kept c.loop-end.kept c.loop-end.rest.now c.in-Some.end (length c.loop-end.kept)
-    refl ends refl c.loop-end.invariant.short (c.is_too_long.ensures.long c.if-is_too_long.true) in
-    FedSoFar-fails (feed_of meanings) (g.W.Wire.tells c.args.wire.now) (g.W.Wire.tells c.loop-end.wire) (g.W.Wire.tells c.give_all.new.wire) (machine_at c.args.reading.state c.args.store.now) (machine_at c.loop-end.state c.args.store.now) (c.args.reading.kept ++ c.args.piece.now) (c.loop-end.kept ++ c.loop-end.rest.now) line_too_long _
-    (c.loop-end.invariant.fed meanings gives) turn c.in_err-give_all.ensures.gives)
-
-pub returns-then-is_too_long-clause-gives : goal.returns-then-is_too_long-clause-gives
-returns-then-is_too_long-clause-gives g c =
-    λ meanings gives.
-    let ends : LineEndsAt c.loop-end.kept c.loop-end.rest.now c.in-Some.end = record { fits = c.in-Some.ensures.bound.1; line = c.in-Some.ensures.line } in
-    let turn = long_line meanings c.loop-end.state c.args.store.now c.loop-end.kept c.loop-end.kept c.loop-end.rest.now c.in-Some.end (length c.loop-end.kept)
-    refl ends refl c.loop-end.invariant.short (c.is_too_long.ensures.long c.if-is_too_long.true) in
-    let on = GoesOn-of (g.W.Wire.tells c.loop-end.wire) (g.W.Wire.tells c.give_all.new.wire) c.give_all.result fault.Wire c.give_all.ensures.cause in
-    let all = FedSoFar-ends (feed_of meanings) (g.W.Wire.tells c.args.wire.now) (g.W.Wire.tells c.loop-end.wire) (g.W.Wire.tells c.give_all.new.wire) (machine_at c.args.reading.state c.args.store.now) (machine_at c.loop-end.state c.args.store.now) (record { state = ended; store = c.args.store.now }) (c.args.reading.kept ++ c.args.piece.now) (c.loop-end.kept ++ c.loop-end.rest.now)
-    (drop LINE_MAX (c.loop-end.kept ++ c.loop-end.rest.now)) line_too_long (c.loop-end.invariant.fed meanings gives) turn c.in_ok-give_all.ensures.gives (refl, tt) on in
-    all.gives
-
-pub returns-then-is_too_long-clause-fit : goal.returns-then-is_too_long-clause-fit
-returns-then-is_too_long-clause-fit g c =
-    λ meanings gives.
-    let ends : LineEndsAt c.loop-end.kept c.loop-end.rest.now c.in-Some.end = record { fits = c.in-Some.ensures.bound.1; line = c.in-Some.ensures.line } in
-    let turn = long_line meanings c.loop-end.state c.args.store.now c.loop-end.kept c.loop-end.kept c.loop-end.rest.now c.in-Some.end (length c.loop-end.kept)
-    refl ends refl c.loop-end.invariant.short (c.is_too_long.ensures.long c.if-is_too_long.true) in
-    let on = GoesOn-of (g.W.Wire.tells c.loop-end.wire) (g.W.Wire.tells c.give_all.new.wire) c.give_all.result fault.Wire c.give_all.ensures.cause in
-    let all = FedSoFar-ends (feed_of meanings) (g.W.Wire.tells c.args.wire.now) (g.W.Wire.tells c.loop-end.wire) (g.W.Wire.tells c.give_all.new.wire) (machine_at c.args.reading.state c.args.store.now) (machine_at c.loop-end.state c.args.store.now) (record { state = ended; store = c.args.store.now }) (c.args.reading.kept ++ c.args.piece.now) (c.loop-end.kept ++ c.loop-end.rest.now)
-    (drop LINE_MAX (c.loop-end.kept ++ c.loop-end.rest.now)) line_too_long (c.loop-end.invariant.fed meanings gives) turn c.in_ok-give_all.ensures.gives (refl, tt) on in
-    all.fit
-
-pub returns-then-is_too_long-clause-stands : goal.returns-then-is_too_long-clause-stands
-returns-then-is_too_long-clause-stands g c =
-    λ meanings gives.
-    let ends : LineEndsAt c.loop-end.kept c.loop-end.rest.now c.in-Some.end = record { fits = c.in-Some.ensures.bound.1; line = c.in-Some.ensures.line } in
-    let turn = long_line meanings c.loop-end.state c.args.store.now c.loop-end.kept c.loop-end.kept c.loop-end.rest.now c.in-Some.end (length c.loop-end.kept)
-    refl ends refl c.loop-end.invariant.short (c.is_too_long.ensures.long c.if-is_too_long.true) in
-    let on = GoesOn-of (g.W.Wire.tells c.loop-end.wire) (g.W.Wire.tells c.give_all.new.wire) c.give_all.result fault.Wire c.give_all.ensures.cause in
-    let all = FedSoFar-ends (feed_of meanings) (g.W.Wire.tells c.args.wire.now) (g.W.Wire.tells c.loop-end.wire) (g.W.Wire.tells c.give_all.new.wire) (machine_at c.args.reading.state c.args.store.now) (machine_at c.loop-end.state c.args.store.now) (record { state = ended; store = c.args.store.now }) (c.args.reading.kept ++ c.args.piece.now) (c.loop-end.kept ++ c.loop-end.rest.now)
-    (drop LINE_MAX (c.loop-end.kept ++ c.loop-end.rest.now)) line_too_long (c.loop-end.invariant.fed meanings gives) turn c.in_ok-give_all.ensures.gives (refl, tt) on in
-    record { machine = all.state_is; rest = tt }
 
 pub answer-requires-clause-line : goal.answer-requires-clause-line
 answer-requires-clause-line g c =
-    let ends : LineEndsAt c.loop-end.kept c.loop-end.rest.now c.in-Some.end = record { fits = c.in-Some.ensures.bound.1; line = c.in-Some.ensures.line } in
-    let line_is : c.as_slice.result.now ≡ c.loop-end.kept ++ take c.in-Some.end c.loop-end.rest.now =
-    c.as_slice.ensures ∙ c.in_ok-push_slice.ensures.ok ∙ ap (λ front. c.loop-end.kept ++ front) c.split_at.ensures.front in
-    line_has_end c.loop-end.kept c.loop-end.kept c.loop-end.rest.now c.as_slice.result.now c.in-Some.end refl ends line_is
+    let is = found_line c.find_line.result c.as_slice.result.now c.loop-end.kept c.loop-end.rest.now c.split_at.result.0.now c.split_at.result.1.now c.as_slice-in-Whole.result.now c.push_slice.new.self
+    c.in-Whole.end c.find_line.ensures.line c.in-Whole.is c.as_slice.ensures c.split_at.ensures.front c.split_at.ensures.back c.as_slice-in-Whole.ensures c.in_ok-push_slice-in-Whole.ensures.ok in
+    line_has_end (c.loop-end.kept ++ c.loop-end.rest.now) c.as_slice-in-Whole.result.now c.split_at.result.1.now is
 
-pub returns-in_err-next-clause-gives : goal.returns-in_err-next-clause-gives
-returns-in_err-next-clause-gives g c =
-    let failed = err_from_is_err_and c.from_residual-in_err-next.result c.from_residual-in_err-next.ensures.1 in
-    rw failed.1 (λ meanings gives.
-    let ends : LineEndsAt c.loop-end.kept c.loop-end.rest.now c.in-Some.end = record { fits = c.in-Some.ensures.bound.1; line = c.in-Some.ensures.line } in
-    let line_is : c.as_slice.result.now ≡ c.loop-end.kept ++ take c.in-Some.end c.loop-end.rest.now =
-    c.as_slice.ensures ∙ c.in_ok-push_slice.ensures.ok ∙ ap (λ front. c.loop-end.kept ++ front) c.split_at.ensures.front in
-    let turn = short_line meanings c.loop-end.state c.args.store.now c.loop-end.kept c.loop-end.kept c.loop-end.rest.now c.as_slice.result.now c.in-Some.end (length c.loop-end.kept)
-    refl ends refl c.loop-end.invariant.short (c.is_too_long.ensures.short c.if-is_too_long.false) line_is in
-    FedSoFar-fails (feed_of meanings) (g.W.Wire.tells c.args.wire.now) (g.W.Wire.tells c.loop-end.wire) (g.W.Wire.tells c.answer.new.wire) (machine_at c.args.reading.state c.args.store.now) (machine_at c.loop-end.state c.args.store.now) (c.args.reading.kept ++ c.args.piece.now) (c.loop-end.kept ++ c.loop-end.rest.now)
-    (stepped meanings c.loop-end.state c.args.store.now c.as_slice.result.now).reply _ (c.loop-end.invariant.fed meanings gives) turn (c.in_err-next.ensures.gives meanings gives))
+pub returns-in_err-next-in-Whole-clause-gives : goal.returns-in_err-next-in-Whole-clause-gives
+returns-in_err-next-in-Whole-clause-gives g c =
+    let a : Surroundings = record { wire = g.W.Wire.tells c.args.wire.now; store = c.args.store.now; journal = (g.J.Keeper.tells c.args.keeper.now).octets } in
+    let b : Surroundings = record { wire = g.W.Wire.tells c.loop-end.wire; store = c.loop-end.store; journal = (g.J.Keeper.tells c.loop-end.keeper).octets } in
+    let d : Surroundings = record { wire = g.W.Wire.tells c.answer.new.wire; store = c.answer.new.store; journal = (g.J.Keeper.tells c.answer.new.keeper).octets } in
+    let is = found_line c.find_line.result c.as_slice.result.now c.loop-end.kept c.loop-end.rest.now c.split_at.result.0.now c.split_at.result.1.now c.as_slice-in-Whole.result.now c.push_slice.new.self
+    c.in-Whole.end c.find_line.ensures.line c.in-Whole.is c.as_slice.ensures c.split_at.ensures.front c.split_at.ensures.back c.as_slice-in-Whole.ensures c.in_ok-push_slice-in-Whole.ensures.ok in
+    let failed = err_from_is_err_and c.from_residual-in_err-next-in-Whole.result c.from_residual-in_err-next-in-Whole.ensures.1 in
+    rw failed.1 (λ meanings are. line_given meanings a b d c.args.reading.state c.loop-end.state (c.args.reading.kept ++ c.args.piece.now) (c.loop-end.kept ++ c.loop-end.rest.now) c.as_slice-in-Whole.result.now c.split_at.result.1.now (c.loop-end.invariant.served meanings are) is (c.in_err-next-in-Whole.ensures.gives meanings are))
 
-pub returns-in_default-2-clause-gives : goal.returns-in_default-2-clause-gives
-returns-in_default-2-clause-gives g c =
-    λ meanings gives.
-    let ends : LineEndsAt c.loop-end.kept c.loop-end.rest.now c.in-Some.end = record { fits = c.in-Some.ensures.bound.1; line = c.in-Some.ensures.line } in
-    let line_is : c.as_slice.result.now ≡ c.loop-end.kept ++ take c.in-Some.end c.loop-end.rest.now =
-    c.as_slice.ensures ∙ c.in_ok-push_slice.ensures.ok ∙ ap (λ front. c.loop-end.kept ++ front) c.split_at.ensures.front in
-    let turn = short_line meanings c.loop-end.state c.args.store.now c.loop-end.kept c.loop-end.kept c.loop-end.rest.now c.as_slice.result.now c.in-Some.end (length c.loop-end.kept)
-    refl ends refl c.loop-end.invariant.short (c.is_too_long.ensures.short c.if-is_too_long.false) line_is in
-    let last = line_ends meanings c.loop-end.state c.args.store.now c.loop-end.kept c.loop-end.rest.now c.as_slice.result.now c.in-Some.end _ turn
-    (c.in_ok-next.ensures.next meanings gives) c.in_default-2.is in
+pub returns-in_err-next-in-Whole-clause-leaves : goal.returns-in_err-next-in-Whole-clause-leaves
+returns-in_err-next-in-Whole-clause-leaves g c =
+    let a : Surroundings = record { wire = g.W.Wire.tells c.args.wire.now; store = c.args.store.now; journal = (g.J.Keeper.tells c.args.keeper.now).octets } in
+    let b : Surroundings = record { wire = g.W.Wire.tells c.loop-end.wire; store = c.loop-end.store; journal = (g.J.Keeper.tells c.loop-end.keeper).octets } in
+    let d : Surroundings = record { wire = g.W.Wire.tells c.answer.new.wire; store = c.answer.new.store; journal = (g.J.Keeper.tells c.answer.new.keeper).octets } in
+    let is = found_line c.find_line.result c.as_slice.result.now c.loop-end.kept c.loop-end.rest.now c.split_at.result.0.now c.split_at.result.1.now c.as_slice-in-Whole.result.now c.push_slice.new.self
+    c.in-Whole.end c.find_line.ensures.line c.in-Whole.is c.as_slice.ensures c.split_at.ensures.front c.split_at.ensures.back c.as_slice-in-Whole.ensures c.in_ok-push_slice-in-Whole.ensures.ok in
+    let failed = err_from_is_err_and c.from_residual-in_err-next-in-Whole.result c.from_residual-in_err-next-in-Whole.ensures.1 in
+    rw (failed.1, failed.2) (λ meanings are. line_leaves (Option PopState) PopSession meanings a b d c.args.reading.state c.loop-end.state (c.args.reading.kept ++ c.args.piece.now) (c.loop-end.kept ++ c.loop-end.rest.now) c.as_slice-in-Whole.result.now c.split_at.result.1.now c.in_err-next-in-Whole.field-0.0 (c.loop-end.invariant.served meanings are) is (c.in_err-next-in-Whole.ensures.leaves meanings are))
+
+pub returns-in_default-clause-gives : goal.returns-in_default-clause-gives
+returns-in_default-clause-gives g c meanings are =
+    let a : Surroundings = record { wire = g.W.Wire.tells c.args.wire.now; store = c.args.store.now; journal = (g.J.Keeper.tells c.args.keeper.now).octets } in
+    let b : Surroundings = record { wire = g.W.Wire.tells c.loop-end.wire; store = c.loop-end.store; journal = (g.J.Keeper.tells c.loop-end.keeper).octets } in
+    let d : Surroundings = record { wire = g.W.Wire.tells c.answer.new.wire; store = c.answer.new.store; journal = (g.J.Keeper.tells c.answer.new.keeper).octets } in
+    let is = found_line c.find_line.result c.as_slice.result.now c.loop-end.kept c.loop-end.rest.now c.split_at.result.0.now c.split_at.result.1.now c.as_slice-in-Whole.result.now c.push_slice.new.self
+    c.in-Whole.end c.find_line.ensures.line c.in-Whole.is c.as_slice.ensures c.split_at.ensures.front c.split_at.ensures.back c.as_slice-in-Whole.ensures c.in_ok-push_slice-in-Whole.ensures.ok in
     let on = GoesOn-of (g.W.Wire.tells c.loop-end.wire) (g.W.Wire.tells c.answer.new.wire) c.answer.result fault.Wire c.answer.ensures.cause in
-    let all = FedSoFar-ends (feed_of meanings) (g.W.Wire.tells c.args.wire.now) (g.W.Wire.tells c.loop-end.wire) (g.W.Wire.tells c.answer.new.wire) (machine_at c.args.reading.state c.args.store.now) (machine_at c.loop-end.state c.args.store.now) (record { state = ended; store = c.args.store.now }) (c.args.reading.kept ++ c.args.piece.now) (c.loop-end.kept ++ c.loop-end.rest.now)
-    (drop c.in-Some.end c.loop-end.rest.now) (stepped meanings c.loop-end.state c.args.store.now c.as_slice.result.now).reply (c.loop-end.invariant.fed meanings gives) last (c.in_ok-next.ensures.gives meanings gives) (c.in_ok-next.ensures.fit meanings gives) on in
-    all.gives
+    let takes : TakesStep meanings b d (stepped meanings c.loop-end.state c.loop-end.store c.as_slice-in-Whole.result.now) c.in_ok-next-in-Whole.next = record {
+      gives = c.in_ok-next-in-Whole.ensures.gives meanings are;
+      fit = c.in_ok-next-in-Whole.ensures.fit meanings are;
+      next = c.in_ok-next-in-Whole.ensures.next meanings are;
+      follows = c.in_ok-next-in-Whole.ensures.leaves meanings are;
+      on = on;
+    } in
+    let all = line_ends meanings a b d c.args.reading.state c.loop-end.state (c.args.reading.kept ++ c.args.piece.now) (c.loop-end.kept ++ c.loop-end.rest.now) c.as_slice-in-Whole.result.now c.split_at.result.1.now c.in_ok-next-in-Whole.next (c.loop-end.invariant.served meanings are) is takes c.in_default.is in
+    all.fed.gives
 
-pub returns-in_default-2-clause-fit : goal.returns-in_default-2-clause-fit
-returns-in_default-2-clause-fit g c =
-    λ meanings gives.
-    let ends : LineEndsAt c.loop-end.kept c.loop-end.rest.now c.in-Some.end = record { fits = c.in-Some.ensures.bound.1; line = c.in-Some.ensures.line } in
-    let line_is : c.as_slice.result.now ≡ c.loop-end.kept ++ take c.in-Some.end c.loop-end.rest.now =
-    c.as_slice.ensures ∙ c.in_ok-push_slice.ensures.ok ∙ ap (λ front. c.loop-end.kept ++ front) c.split_at.ensures.front in
-    let turn = short_line meanings c.loop-end.state c.args.store.now c.loop-end.kept c.loop-end.kept c.loop-end.rest.now c.as_slice.result.now c.in-Some.end (length c.loop-end.kept)
-    refl ends refl c.loop-end.invariant.short (c.is_too_long.ensures.short c.if-is_too_long.false) line_is in
-    let last = line_ends meanings c.loop-end.state c.args.store.now c.loop-end.kept c.loop-end.rest.now c.as_slice.result.now c.in-Some.end _ turn
-    (c.in_ok-next.ensures.next meanings gives) c.in_default-2.is in
+pub returns-in_default-clause-fit : goal.returns-in_default-clause-fit
+returns-in_default-clause-fit g c meanings are =
+    let a : Surroundings = record { wire = g.W.Wire.tells c.args.wire.now; store = c.args.store.now; journal = (g.J.Keeper.tells c.args.keeper.now).octets } in
+    let b : Surroundings = record { wire = g.W.Wire.tells c.loop-end.wire; store = c.loop-end.store; journal = (g.J.Keeper.tells c.loop-end.keeper).octets } in
+    let d : Surroundings = record { wire = g.W.Wire.tells c.answer.new.wire; store = c.answer.new.store; journal = (g.J.Keeper.tells c.answer.new.keeper).octets } in
+    let is = found_line c.find_line.result c.as_slice.result.now c.loop-end.kept c.loop-end.rest.now c.split_at.result.0.now c.split_at.result.1.now c.as_slice-in-Whole.result.now c.push_slice.new.self
+    c.in-Whole.end c.find_line.ensures.line c.in-Whole.is c.as_slice.ensures c.split_at.ensures.front c.split_at.ensures.back c.as_slice-in-Whole.ensures c.in_ok-push_slice-in-Whole.ensures.ok in
     let on = GoesOn-of (g.W.Wire.tells c.loop-end.wire) (g.W.Wire.tells c.answer.new.wire) c.answer.result fault.Wire c.answer.ensures.cause in
-    let all = FedSoFar-ends (feed_of meanings) (g.W.Wire.tells c.args.wire.now) (g.W.Wire.tells c.loop-end.wire) (g.W.Wire.tells c.answer.new.wire) (machine_at c.args.reading.state c.args.store.now) (machine_at c.loop-end.state c.args.store.now) (record { state = ended; store = c.args.store.now }) (c.args.reading.kept ++ c.args.piece.now) (c.loop-end.kept ++ c.loop-end.rest.now)
-    (drop c.in-Some.end c.loop-end.rest.now) (stepped meanings c.loop-end.state c.args.store.now c.as_slice.result.now).reply (c.loop-end.invariant.fed meanings gives) last (c.in_ok-next.ensures.gives meanings gives) (c.in_ok-next.ensures.fit meanings gives) on in
-    all.fit
+    let takes : TakesStep meanings b d (stepped meanings c.loop-end.state c.loop-end.store c.as_slice-in-Whole.result.now) c.in_ok-next-in-Whole.next = record {
+      gives = c.in_ok-next-in-Whole.ensures.gives meanings are;
+      fit = c.in_ok-next-in-Whole.ensures.fit meanings are;
+      next = c.in_ok-next-in-Whole.ensures.next meanings are;
+      follows = c.in_ok-next-in-Whole.ensures.leaves meanings are;
+      on = on;
+    } in
+    let all = line_ends meanings a b d c.args.reading.state c.loop-end.state (c.args.reading.kept ++ c.args.piece.now) (c.loop-end.kept ++ c.loop-end.rest.now) c.as_slice-in-Whole.result.now c.split_at.result.1.now c.in_ok-next-in-Whole.next (c.loop-end.invariant.served meanings are) is takes c.in_default.is in
+    all.fed.fit
 
-pub returns-in_default-2-clause-stands : goal.returns-in_default-2-clause-stands
-returns-in_default-2-clause-stands g c =
-    λ meanings gives.
-    let ends : LineEndsAt c.loop-end.kept c.loop-end.rest.now c.in-Some.end = record { fits = c.in-Some.ensures.bound.1; line = c.in-Some.ensures.line } in
-    let line_is : c.as_slice.result.now ≡ c.loop-end.kept ++ take c.in-Some.end c.loop-end.rest.now =
-    c.as_slice.ensures ∙ c.in_ok-push_slice.ensures.ok ∙ ap (λ front. c.loop-end.kept ++ front) c.split_at.ensures.front in
-    let turn = short_line meanings c.loop-end.state c.args.store.now c.loop-end.kept c.loop-end.kept c.loop-end.rest.now c.as_slice.result.now c.in-Some.end (length c.loop-end.kept)
-    refl ends refl c.loop-end.invariant.short (c.is_too_long.ensures.short c.if-is_too_long.false) line_is in
-    let last = line_ends meanings c.loop-end.state c.args.store.now c.loop-end.kept c.loop-end.rest.now c.as_slice.result.now c.in-Some.end _ turn
-    (c.in_ok-next.ensures.next meanings gives) c.in_default-2.is in
+pub returns-in_default-clause-stands : goal.returns-in_default-clause-stands
+returns-in_default-clause-stands g c meanings are =
+    let a : Surroundings = record { wire = g.W.Wire.tells c.args.wire.now; store = c.args.store.now; journal = (g.J.Keeper.tells c.args.keeper.now).octets } in
+    let b : Surroundings = record { wire = g.W.Wire.tells c.loop-end.wire; store = c.loop-end.store; journal = (g.J.Keeper.tells c.loop-end.keeper).octets } in
+    let d : Surroundings = record { wire = g.W.Wire.tells c.answer.new.wire; store = c.answer.new.store; journal = (g.J.Keeper.tells c.answer.new.keeper).octets } in
+    let is = found_line c.find_line.result c.as_slice.result.now c.loop-end.kept c.loop-end.rest.now c.split_at.result.0.now c.split_at.result.1.now c.as_slice-in-Whole.result.now c.push_slice.new.self
+    c.in-Whole.end c.find_line.ensures.line c.in-Whole.is c.as_slice.ensures c.split_at.ensures.front c.split_at.ensures.back c.as_slice-in-Whole.ensures c.in_ok-push_slice-in-Whole.ensures.ok in
     let on = GoesOn-of (g.W.Wire.tells c.loop-end.wire) (g.W.Wire.tells c.answer.new.wire) c.answer.result fault.Wire c.answer.ensures.cause in
-    let all = FedSoFar-ends (feed_of meanings) (g.W.Wire.tells c.args.wire.now) (g.W.Wire.tells c.loop-end.wire) (g.W.Wire.tells c.answer.new.wire) (machine_at c.args.reading.state c.args.store.now) (machine_at c.loop-end.state c.args.store.now) (record { state = ended; store = c.args.store.now }) (c.args.reading.kept ++ c.args.piece.now) (c.loop-end.kept ++ c.loop-end.rest.now)
-    (drop c.in-Some.end c.loop-end.rest.now) (stepped meanings c.loop-end.state c.args.store.now c.as_slice.result.now).reply (c.loop-end.invariant.fed meanings gives) last (c.in_ok-next.ensures.gives meanings gives) (c.in_ok-next.ensures.fit meanings gives) on in
-    record { machine = all.state_is; rest = tt }
+    let takes : TakesStep meanings b d (stepped meanings c.loop-end.state c.loop-end.store c.as_slice-in-Whole.result.now) c.in_ok-next-in-Whole.next = record {
+      gives = c.in_ok-next-in-Whole.ensures.gives meanings are;
+      fit = c.in_ok-next-in-Whole.ensures.fit meanings are;
+      next = c.in_ok-next-in-Whole.ensures.next meanings are;
+      follows = c.in_ok-next-in-Whole.ensures.leaves meanings are;
+      on = on;
+    } in
+    let all = line_ends meanings a b d c.args.reading.state c.loop-end.state (c.args.reading.kept ++ c.args.piece.now) (c.loop-end.kept ++ c.loop-end.rest.now) c.as_slice-in-Whole.result.now c.split_at.result.1.now c.in_ok-next-in-Whole.next (c.loop-end.invariant.served meanings are) is takes c.in_default.is in
+    record { machine = all.fed.state_is; rest = tt }
+
+pub returns-in_default-clause-leaves : goal.returns-in_default-clause-leaves
+returns-in_default-clause-leaves g c meanings are =
+    let a : Surroundings = record { wire = g.W.Wire.tells c.args.wire.now; store = c.args.store.now; journal = (g.J.Keeper.tells c.args.keeper.now).octets } in
+    let b : Surroundings = record { wire = g.W.Wire.tells c.loop-end.wire; store = c.loop-end.store; journal = (g.J.Keeper.tells c.loop-end.keeper).octets } in
+    let d : Surroundings = record { wire = g.W.Wire.tells c.answer.new.wire; store = c.answer.new.store; journal = (g.J.Keeper.tells c.answer.new.keeper).octets } in
+    let is = found_line c.find_line.result c.as_slice.result.now c.loop-end.kept c.loop-end.rest.now c.split_at.result.0.now c.split_at.result.1.now c.as_slice-in-Whole.result.now c.push_slice.new.self
+    c.in-Whole.end c.find_line.ensures.line c.in-Whole.is c.as_slice.ensures c.split_at.ensures.front c.split_at.ensures.back c.as_slice-in-Whole.ensures c.in_ok-push_slice-in-Whole.ensures.ok in
+    let on = GoesOn-of (g.W.Wire.tells c.loop-end.wire) (g.W.Wire.tells c.answer.new.wire) c.answer.result fault.Wire c.answer.ensures.cause in
+    let takes : TakesStep meanings b d (stepped meanings c.loop-end.state c.loop-end.store c.as_slice-in-Whole.result.now) c.in_ok-next-in-Whole.next = record {
+      gives = c.in_ok-next-in-Whole.ensures.gives meanings are;
+      fit = c.in_ok-next-in-Whole.ensures.fit meanings are;
+      next = c.in_ok-next-in-Whole.ensures.next meanings are;
+      follows = c.in_ok-next-in-Whole.ensures.leaves meanings are;
+      on = on;
+    } in
+    let all = line_ends meanings a b d c.args.reading.state c.loop-end.state (c.args.reading.kept ++ c.args.piece.now) (c.loop-end.kept ++ c.loop-end.rest.now) c.as_slice-in-Whole.result.now c.split_at.result.1.now c.in_ok-next-in-Whole.next (c.loop-end.invariant.served meanings are) is takes c.in_default.is in
+    all.follows
 
 pub loop-end-preserved : goal.loop-end-preserved
 loop-end-preserved g c =
+    let a : Surroundings = record { wire = g.W.Wire.tells c.args.wire.now; store = c.args.store.now; journal = (g.J.Keeper.tells c.args.keeper.now).octets } in
+    let b : Surroundings = record { wire = g.W.Wire.tells c.loop-end.wire; store = c.loop-end.store; journal = (g.J.Keeper.tells c.loop-end.keeper).octets } in
+    let d : Surroundings = record { wire = g.W.Wire.tells c.answer.new.wire; store = c.answer.new.store; journal = (g.J.Keeper.tells c.answer.new.keeper).octets } in
+    let is = found_line c.find_line.result c.as_slice.result.now c.loop-end.kept c.loop-end.rest.now c.split_at.result.0.now c.split_at.result.1.now c.as_slice-in-Whole.result.now c.push_slice.new.self
+    c.in-Whole.end c.find_line.ensures.line c.in-Whole.is c.as_slice.ensures c.split_at.ensures.front c.split_at.ensures.back c.as_slice-in-Whole.ensures c.in_ok-push_slice-in-Whole.ensures.ok in
     let on = GoesOn-of (g.W.Wire.tells c.loop-end.wire) (g.W.Wire.tells c.answer.new.wire) c.answer.result fault.Wire c.answer.ensures.cause in
     rw c.clear.ensures
     (record {
-      fed = λ meanings gives.
-          let ends : LineEndsAt c.loop-end.kept c.loop-end.rest.now c.in-Some.end = record { fits = c.in-Some.ensures.bound.1; line = c.in-Some.ensures.line } in
-          let line_is : c.as_slice.result.now ≡ c.loop-end.kept ++ take c.in-Some.end c.loop-end.rest.now =
-          c.as_slice.ensures ∙ c.in_ok-push_slice.ensures.ok ∙ ap (λ front. c.loop-end.kept ++ front) c.split_at.ensures.front in
-          let turn = short_line meanings c.loop-end.state c.args.store.now c.loop-end.kept c.loop-end.kept c.loop-end.rest.now c.as_slice.result.now c.in-Some.end (length c.loop-end.kept)
-          refl ends refl c.loop-end.invariant.short (c.is_too_long.ensures.short c.if-is_too_long.false) line_is in
-          let goes = line_goes meanings c.loop-end.state c.in-Some-2.next c.args.store.now c.loop-end.kept c.loop-end.rest.now c.as_slice.result.now c.split_at.result.1.now c.in-Some.end _ turn
-          (c.in_ok-next.ensures.next meanings gives) c.in-Some-2.is c.split_at.ensures.back in
-          FedSoFar-more (feed_of meanings) (g.W.Wire.tells c.args.wire.now) (g.W.Wire.tells c.loop-end.wire) (g.W.Wire.tells c.answer.new.wire) (machine_at c.args.reading.state c.args.store.now) (machine_at c.loop-end.state c.args.store.now) (machine_at c.in-Some-2.next c.args.store.now) (c.args.reading.kept ++ c.args.piece.now) (c.loop-end.kept ++ c.loop-end.rest.now)
-          c.split_at.result.1.now (stepped meanings c.loop-end.state c.args.store.now c.as_slice.result.now).reply (c.loop-end.invariant.fed meanings gives) goes (c.in_ok-next.ensures.gives meanings gives) (c.in_ok-next.ensures.fit meanings gives) on;
+      served = λ meanings are.
+          let takes : TakesStep meanings b d (stepped meanings c.loop-end.state c.loop-end.store c.as_slice-in-Whole.result.now) c.in_ok-next-in-Whole.next = record {
+            gives = c.in_ok-next-in-Whole.ensures.gives meanings are;
+            fit = c.in_ok-next-in-Whole.ensures.fit meanings are;
+            next = c.in_ok-next-in-Whole.ensures.next meanings are;
+            follows = c.in_ok-next-in-Whole.ensures.leaves meanings are;
+            on = on;
+          } in
+          line_goes meanings a b d c.args.reading.state c.loop-end.state c.in-Some.next (c.args.reading.kept ++ c.args.piece.now) (c.loop-end.kept ++ c.loop-end.rest.now) c.as_slice-in-Whole.result.now c.split_at.result.1.now
+          c.in_ok-next-in-Whole.next (c.loop-end.invariant.served meanings are) is takes c.in-Some.is;
       on = GoesOn-trans (g.W.Wire.tells c.args.wire.now) (g.W.Wire.tells c.loop-end.wire) (g.W.Wire.tells c.answer.new.wire) c.loop-end.invariant.on on;
-      none = first_line-nil;
-      short = omega arith;
-      known = rw c.in-Some-2.is at c.in_ok-next.ensures.known;
+      keeps_on = KeepsOn-more (g.J.Keeper.tells c.args.keeper.now) (g.J.Keeper.tells c.loop-end.keeper) (g.J.Keeper.tells c.answer.new.keeper) c.answer.result fault.Keeper c.loop-end.invariant.keeps_on c.answer.ensures.keeper;
+      waits = waiting-nil;
+      known = rw c.in-Some.is at c.in_ok-next-in-Whole.ensures.known;
+      works = c.in_ok-next-in-Whole.ensures.works (λ e. cc);
+      limit = c.answer.ensures.limit ∙ c.loop-end.invariant.limit;
     })
 
-pub returns-in_err-give_all-2-clause-gives : goal.returns-in_err-give_all-2-clause-gives
-returns-in_err-give_all-2-clause-gives g c =
-    let failed = err_from_is_err_and c.from_residual-in_err-give_all-2.result c.from_residual-in_err-give_all-2.ensures.1 in
-    rw failed.1 (λ meanings gives.
-    let turn = long_rest meanings c.loop-end.state c.args.store.now c.loop-end.kept c.loop-end.kept c.loop-end.rest.now (length c.loop-end.kept) refl c.in_default.ensures.line refl
-    c.loop-end.invariant.short (c.is_too_long-2.ensures.long c.if-is_too_long-2.true) in
-    FedSoFar-fails (feed_of meanings) (g.W.Wire.tells c.args.wire.now) (g.W.Wire.tells c.loop-end.wire) (g.W.Wire.tells c.give_all-then-is_too_long-2.new.wire) (machine_at c.args.reading.state c.args.store.now) (machine_at c.loop-end.state c.args.store.now) (c.args.reading.kept ++ c.args.piece.now) (c.loop-end.kept ++ c.loop-end.rest.now) line_too_long _
-    (c.loop-end.invariant.fed meanings gives) turn c.in_err-give_all-2.ensures.gives)
+pub returns-in_err-give_all-in-TooLong-clause-gives : goal.returns-in_err-give_all-in-TooLong-clause-gives
+returns-in_err-give_all-in-TooLong-clause-gives g c =
+    let a : Surroundings = record { wire = g.W.Wire.tells c.args.wire.now; store = c.args.store.now; journal = (g.J.Keeper.tells c.args.keeper.now).octets } in
+    let b : Surroundings = record { wire = g.W.Wire.tells c.loop-end.wire; store = c.loop-end.store; journal = (g.J.Keeper.tells c.loop-end.keeper).octets } in
+    let is = found_long c.find_line.result c.as_slice.result.now c.loop-end.kept c.loop-end.rest.now c.find_line.ensures.line c.in-TooLong.is c.as_slice.ensures in
+    let failed = err_from_is_err_and c.from_residual-in_err-give_all-in-TooLong.result c.from_residual-in_err-give_all-in-TooLong.ensures.1 in
+    rw failed.1 (λ meanings are. long_given meanings a b (g.W.Wire.tells c.give_all.new.wire) c.args.reading.state c.loop-end.state (c.args.reading.kept ++ c.args.piece.now) (c.loop-end.kept ++ c.loop-end.rest.now) (drop LINE_MAX (c.loop-end.kept ++ c.loop-end.rest.now)) (c.loop-end.invariant.served meanings are) is c.in_err-give_all-in-TooLong.ensures.gives)
 
-pub returns-then-is_too_long-2-clause-gives : goal.returns-then-is_too_long-2-clause-gives
-returns-then-is_too_long-2-clause-gives g c =
-    λ meanings gives.
-    let turn = long_rest meanings c.loop-end.state c.args.store.now c.loop-end.kept c.loop-end.kept c.loop-end.rest.now (length c.loop-end.kept) refl c.in_default.ensures.line refl
-    c.loop-end.invariant.short (c.is_too_long-2.ensures.long c.if-is_too_long-2.true) in
-    let on = GoesOn-of (g.W.Wire.tells c.loop-end.wire) (g.W.Wire.tells c.give_all-then-is_too_long-2.new.wire) c.give_all-then-is_too_long-2.result fault.Wire c.give_all-then-is_too_long-2.ensures.cause in
-    let all = FedSoFar-ends (feed_of meanings) (g.W.Wire.tells c.args.wire.now) (g.W.Wire.tells c.loop-end.wire) (g.W.Wire.tells c.give_all-then-is_too_long-2.new.wire) (machine_at c.args.reading.state c.args.store.now) (machine_at c.loop-end.state c.args.store.now) (record { state = ended; store = c.args.store.now }) (c.args.reading.kept ++ c.args.piece.now) (c.loop-end.kept ++ c.loop-end.rest.now)
-    (drop LINE_MAX (c.loop-end.kept ++ c.loop-end.rest.now)) line_too_long (c.loop-end.invariant.fed meanings gives) turn c.in_ok-give_all-2.ensures.gives (refl, tt) on in
-    all.gives
+pub returns-in-TooLong-clause-gives : goal.returns-in-TooLong-clause-gives
+returns-in-TooLong-clause-gives g c meanings are =
+    let a : Surroundings = record { wire = g.W.Wire.tells c.args.wire.now; store = c.args.store.now; journal = (g.J.Keeper.tells c.args.keeper.now).octets } in
+    let b : Surroundings = record { wire = g.W.Wire.tells c.loop-end.wire; store = c.loop-end.store; journal = (g.J.Keeper.tells c.loop-end.keeper).octets } in
+    let is = found_long c.find_line.result c.as_slice.result.now c.loop-end.kept c.loop-end.rest.now c.find_line.ensures.line c.in-TooLong.is c.as_slice.ensures in
+    let on = GoesOn-of (g.W.Wire.tells c.loop-end.wire) (g.W.Wire.tells c.give_all.new.wire) c.give_all.result fault.Wire c.give_all.ensures.cause in
+    let all = long_ends meanings a b (g.W.Wire.tells c.give_all.new.wire) c.args.reading.state c.loop-end.state (c.args.reading.kept ++ c.args.piece.now) (c.loop-end.kept ++ c.loop-end.rest.now) (drop LINE_MAX (c.loop-end.kept ++ c.loop-end.rest.now)) (c.loop-end.invariant.served meanings are) is c.in_ok-give_all-in-TooLong.ensures.gives on in
+    all.fed.gives
 
-pub returns-then-is_too_long-2-clause-fit : goal.returns-then-is_too_long-2-clause-fit
-returns-then-is_too_long-2-clause-fit g c =
-    λ meanings gives.
-    let turn = long_rest meanings c.loop-end.state c.args.store.now c.loop-end.kept c.loop-end.kept c.loop-end.rest.now (length c.loop-end.kept) refl c.in_default.ensures.line refl
-    c.loop-end.invariant.short (c.is_too_long-2.ensures.long c.if-is_too_long-2.true) in
-    let on = GoesOn-of (g.W.Wire.tells c.loop-end.wire) (g.W.Wire.tells c.give_all-then-is_too_long-2.new.wire) c.give_all-then-is_too_long-2.result fault.Wire c.give_all-then-is_too_long-2.ensures.cause in
-    let all = FedSoFar-ends (feed_of meanings) (g.W.Wire.tells c.args.wire.now) (g.W.Wire.tells c.loop-end.wire) (g.W.Wire.tells c.give_all-then-is_too_long-2.new.wire) (machine_at c.args.reading.state c.args.store.now) (machine_at c.loop-end.state c.args.store.now) (record { state = ended; store = c.args.store.now }) (c.args.reading.kept ++ c.args.piece.now) (c.loop-end.kept ++ c.loop-end.rest.now)
-    (drop LINE_MAX (c.loop-end.kept ++ c.loop-end.rest.now)) line_too_long (c.loop-end.invariant.fed meanings gives) turn c.in_ok-give_all-2.ensures.gives (refl, tt) on in
-    all.fit
+pub returns-in-TooLong-clause-fit : goal.returns-in-TooLong-clause-fit
+returns-in-TooLong-clause-fit g c meanings are =
+    let a : Surroundings = record { wire = g.W.Wire.tells c.args.wire.now; store = c.args.store.now; journal = (g.J.Keeper.tells c.args.keeper.now).octets } in
+    let b : Surroundings = record { wire = g.W.Wire.tells c.loop-end.wire; store = c.loop-end.store; journal = (g.J.Keeper.tells c.loop-end.keeper).octets } in
+    let is = found_long c.find_line.result c.as_slice.result.now c.loop-end.kept c.loop-end.rest.now c.find_line.ensures.line c.in-TooLong.is c.as_slice.ensures in
+    let on = GoesOn-of (g.W.Wire.tells c.loop-end.wire) (g.W.Wire.tells c.give_all.new.wire) c.give_all.result fault.Wire c.give_all.ensures.cause in
+    let all = long_ends meanings a b (g.W.Wire.tells c.give_all.new.wire) c.args.reading.state c.loop-end.state (c.args.reading.kept ++ c.args.piece.now) (c.loop-end.kept ++ c.loop-end.rest.now) (drop LINE_MAX (c.loop-end.kept ++ c.loop-end.rest.now)) (c.loop-end.invariant.served meanings are) is c.in_ok-give_all-in-TooLong.ensures.gives on in
+    all.fed.fit
 
-pub returns-then-is_too_long-2-clause-stands : goal.returns-then-is_too_long-2-clause-stands
-returns-then-is_too_long-2-clause-stands g c =
-    λ meanings gives.
-    let turn = long_rest meanings c.loop-end.state c.args.store.now c.loop-end.kept c.loop-end.kept c.loop-end.rest.now (length c.loop-end.kept) refl c.in_default.ensures.line refl
-    c.loop-end.invariant.short (c.is_too_long-2.ensures.long c.if-is_too_long-2.true) in
-    let on = GoesOn-of (g.W.Wire.tells c.loop-end.wire) (g.W.Wire.tells c.give_all-then-is_too_long-2.new.wire) c.give_all-then-is_too_long-2.result fault.Wire c.give_all-then-is_too_long-2.ensures.cause in
-    let all = FedSoFar-ends (feed_of meanings) (g.W.Wire.tells c.args.wire.now) (g.W.Wire.tells c.loop-end.wire) (g.W.Wire.tells c.give_all-then-is_too_long-2.new.wire) (machine_at c.args.reading.state c.args.store.now) (machine_at c.loop-end.state c.args.store.now) (record { state = ended; store = c.args.store.now }) (c.args.reading.kept ++ c.args.piece.now) (c.loop-end.kept ++ c.loop-end.rest.now)
-    (drop LINE_MAX (c.loop-end.kept ++ c.loop-end.rest.now)) line_too_long (c.loop-end.invariant.fed meanings gives) turn c.in_ok-give_all-2.ensures.gives (refl, tt) on in
-    record { machine = all.state_is; rest = tt }
+pub returns-in-TooLong-clause-stands : goal.returns-in-TooLong-clause-stands
+returns-in-TooLong-clause-stands g c meanings are =
+    let a : Surroundings = record { wire = g.W.Wire.tells c.args.wire.now; store = c.args.store.now; journal = (g.J.Keeper.tells c.args.keeper.now).octets } in
+    let b : Surroundings = record { wire = g.W.Wire.tells c.loop-end.wire; store = c.loop-end.store; journal = (g.J.Keeper.tells c.loop-end.keeper).octets } in
+    let is = found_long c.find_line.result c.as_slice.result.now c.loop-end.kept c.loop-end.rest.now c.find_line.ensures.line c.in-TooLong.is c.as_slice.ensures in
+    let on = GoesOn-of (g.W.Wire.tells c.loop-end.wire) (g.W.Wire.tells c.give_all.new.wire) c.give_all.result fault.Wire c.give_all.ensures.cause in
+    let all = long_ends meanings a b (g.W.Wire.tells c.give_all.new.wire) c.args.reading.state c.loop-end.state (c.args.reading.kept ++ c.args.piece.now) (c.loop-end.kept ++ c.loop-end.rest.now) (drop LINE_MAX (c.loop-end.kept ++ c.loop-end.rest.now)) (c.loop-end.invariant.served meanings are) is c.in_ok-give_all-in-TooLong.ensures.gives on in
+    record { machine = all.fed.state_is; rest = tt }
 
-pub returns-clause-gives : goal.returns-clause-gives
-returns-clause-gives g c =
-    λ meanings gives.
-    let waiting = kept_waits c.loop-end.kept c.loop-end.kept c.loop-end.rest.now (length c.loop-end.kept) refl c.in_default.ensures.line refl
-    c.loop-end.invariant.short (c.is_too_long-2.ensures.short c.if-is_too_long-2.false) in
-    let all = FedSoFar-all (feed_of meanings) (g.W.Wire.tells c.args.wire.now) (g.W.Wire.tells c.loop-end.wire) (machine_at c.args.reading.state c.args.store.now) (machine_at c.loop-end.state c.args.store.now) (c.args.reading.kept ++ c.args.piece.now) (c.loop-end.kept ++ c.loop-end.rest.now) (c.loop-end.invariant.fed meanings gives)
-    (turns_of-waiting meanings c.loop-end.state c.args.store.now _ waiting) in
-    all.gives
+pub returns-in-TooLong-clause-leaves : goal.returns-in-TooLong-clause-leaves
+returns-in-TooLong-clause-leaves g c meanings are =
+    let a : Surroundings = record { wire = g.W.Wire.tells c.args.wire.now; store = c.args.store.now; journal = (g.J.Keeper.tells c.args.keeper.now).octets } in
+    let b : Surroundings = record { wire = g.W.Wire.tells c.loop-end.wire; store = c.loop-end.store; journal = (g.J.Keeper.tells c.loop-end.keeper).octets } in
+    let is = found_long c.find_line.result c.as_slice.result.now c.loop-end.kept c.loop-end.rest.now c.find_line.ensures.line c.in-TooLong.is c.as_slice.ensures in
+    let on = GoesOn-of (g.W.Wire.tells c.loop-end.wire) (g.W.Wire.tells c.give_all.new.wire) c.give_all.result fault.Wire c.give_all.ensures.cause in
+    let all = long_ends meanings a b (g.W.Wire.tells c.give_all.new.wire) c.args.reading.state c.loop-end.state (c.args.reading.kept ++ c.args.piece.now) (c.loop-end.kept ++ c.loop-end.rest.now) (drop LINE_MAX (c.loop-end.kept ++ c.loop-end.rest.now)) (c.loop-end.invariant.served meanings are) is c.in_ok-give_all-in-TooLong.ensures.gives on in
+    all.follows
 
-pub returns-clause-fit : goal.returns-clause-fit
-returns-clause-fit g c =
-    λ meanings gives.
-    let waiting = kept_waits c.loop-end.kept c.loop-end.kept c.loop-end.rest.now (length c.loop-end.kept) refl c.in_default.ensures.line refl
-    c.loop-end.invariant.short (c.is_too_long-2.ensures.short c.if-is_too_long-2.false) in
-    let all = FedSoFar-all (feed_of meanings) (g.W.Wire.tells c.args.wire.now) (g.W.Wire.tells c.loop-end.wire) (machine_at c.args.reading.state c.args.store.now) (machine_at c.loop-end.state c.args.store.now) (c.args.reading.kept ++ c.args.piece.now) (c.loop-end.kept ++ c.loop-end.rest.now) (c.loop-end.invariant.fed meanings gives)
-    (turns_of-waiting meanings c.loop-end.state c.args.store.now _ waiting) in
-    all.fit
+pub returns-in-Waiting-clause-gives : goal.returns-in-Waiting-clause-gives
+returns-in-Waiting-clause-gives g c meanings are =
+    let a : Surroundings = record { wire = g.W.Wire.tells c.args.wire.now; store = c.args.store.now; journal = (g.J.Keeper.tells c.args.keeper.now).octets } in
+    let b : Surroundings = record { wire = g.W.Wire.tells c.loop-end.wire; store = c.loop-end.store; journal = (g.J.Keeper.tells c.loop-end.keeper).octets } in
+    let is = found_waiting c.find_line.result c.as_slice.result.now c.loop-end.kept c.loop-end.rest.now c.find_line.ensures.line c.in-Waiting.is c.as_slice.ensures in
+    let all = all_served meanings a b c.args.reading.state c.loop-end.state (c.args.reading.kept ++ c.args.piece.now) (c.loop-end.kept ++ c.loop-end.rest.now) (c.loop-end.invariant.served meanings are) is in
+    all.fed.gives
 
-pub returns-clause-stands : goal.returns-clause-stands
-returns-clause-stands g c =
-    λ meanings gives.
-    let waiting = kept_waits c.loop-end.kept c.loop-end.kept c.loop-end.rest.now (length c.loop-end.kept) refl c.in_default.ensures.line refl
-    c.loop-end.invariant.short (c.is_too_long-2.ensures.short c.if-is_too_long-2.false) in
-    let all = FedSoFar-all (feed_of meanings) (g.W.Wire.tells c.args.wire.now) (g.W.Wire.tells c.loop-end.wire) (machine_at c.args.reading.state c.args.store.now) (machine_at c.loop-end.state c.args.store.now) (c.args.reading.kept ++ c.args.piece.now) (c.loop-end.kept ++ c.loop-end.rest.now) (c.loop-end.invariant.fed meanings gives)
-    (turns_of-waiting meanings c.loop-end.state c.args.store.now _ waiting) in
-    record { machine = all.state_is; rest = sym all.rest_is ∙ sym c.in_ok-push_slice-2.ensures.ok }
+pub returns-in-Waiting-clause-fit : goal.returns-in-Waiting-clause-fit
+returns-in-Waiting-clause-fit g c meanings are =
+    let a : Surroundings = record { wire = g.W.Wire.tells c.args.wire.now; store = c.args.store.now; journal = (g.J.Keeper.tells c.args.keeper.now).octets } in
+    let b : Surroundings = record { wire = g.W.Wire.tells c.loop-end.wire; store = c.loop-end.store; journal = (g.J.Keeper.tells c.loop-end.keeper).octets } in
+    let is = found_waiting c.find_line.result c.as_slice.result.now c.loop-end.kept c.loop-end.rest.now c.find_line.ensures.line c.in-Waiting.is c.as_slice.ensures in
+    let all = all_served meanings a b c.args.reading.state c.loop-end.state (c.args.reading.kept ++ c.args.piece.now) (c.loop-end.kept ++ c.loop-end.rest.now) (c.loop-end.invariant.served meanings are) is in
+    all.fed.fit
+
+pub returns-in-Waiting-clause-stands : goal.returns-in-Waiting-clause-stands
+returns-in-Waiting-clause-stands g c meanings are =
+    let a : Surroundings = record { wire = g.W.Wire.tells c.args.wire.now; store = c.args.store.now; journal = (g.J.Keeper.tells c.args.keeper.now).octets } in
+    let b : Surroundings = record { wire = g.W.Wire.tells c.loop-end.wire; store = c.loop-end.store; journal = (g.J.Keeper.tells c.loop-end.keeper).octets } in
+    let is = found_waiting c.find_line.result c.as_slice.result.now c.loop-end.kept c.loop-end.rest.now c.find_line.ensures.line c.in-Waiting.is c.as_slice.ensures in
+    let all = all_served meanings a b c.args.reading.state c.loop-end.state (c.args.reading.kept ++ c.args.piece.now) (c.loop-end.kept ++ c.loop-end.rest.now) (c.loop-end.invariant.served meanings are) is in
+    record { machine = all.fed.state_is; rest = sym all.fed.rest_is ∙ sym c.in_ok-push_slice-in-Waiting.ensures.ok }
+
+pub returns-in-Waiting-clause-leaves : goal.returns-in-Waiting-clause-leaves
+returns-in-Waiting-clause-leaves g c meanings are =
+    let a : Surroundings = record { wire = g.W.Wire.tells c.args.wire.now; store = c.args.store.now; journal = (g.J.Keeper.tells c.args.keeper.now).octets } in
+    let b : Surroundings = record { wire = g.W.Wire.tells c.loop-end.wire; store = c.loop-end.store; journal = (g.J.Keeper.tells c.loop-end.keeper).octets } in
+    let is = found_waiting c.find_line.result c.as_slice.result.now c.loop-end.kept c.loop-end.rest.now c.find_line.ensures.line c.in-Waiting.is c.as_slice.ensures in
+    let all = all_served meanings a b c.args.reading.state c.loop-end.state (c.args.reading.kept ++ c.args.piece.now) (c.loop-end.kept ++ c.loop-end.rest.now) (c.loop-end.invariant.served meanings are) is in
+    all.follows
