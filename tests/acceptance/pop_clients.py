@@ -13,6 +13,7 @@ from harness import differs
 from journal import mailbox
 from mailbox import messages
 from oracle import outcome
+from pop_oracle import first_lines
 from talk import place_journal
 
 COUNT = 200
@@ -31,6 +32,40 @@ def fetched(port, is_enabled):
     octets = [b"".join(line + b"\r\n" for line in client.retr(number)[1]) for number in range(1, COUNT + 1)]
     goodbye = client.quit()
     return totals, [tuple(map(int, line.split())) for line in lines], one, octets, goodbye
+
+
+def tops(port):
+    """What poplib gets of the first messages by TOP with one line, of UIDL, and of STAT once every other message is deleted; then they go."""
+    client = poplib.POP3("127.0.0.1", port, timeout=SECONDS)
+    client.user(ADDRESS)
+    client.pass_(PASSWORD)
+    capabilities, uids = sorted(client.capa()), [line.split() for line in client.uidl()[1]]
+    first = [b"".join(line + b"\r\n" for line in client.top(number, 1)[1]) for number in range(1, 21)]
+    for number in range(2, COUNT + 1, 2):
+        client.dele(number)
+    left = client.stat()
+    client.quit()
+    return capabilities, uids, first, left
+
+
+def top_faults(told, octets, listed):
+    """What is wrong with these, by what RETR gave, and with the listing of a session behind them."""
+    capabilities, uids, first, left = told
+    wanted = [first_lines(it, 1) for it in octets[:20]]
+    kept = octets[::2]
+    faults = differs("CAPA", capabilities, ["TOP", "UIDL", "USER", "UTF8"]) + differs("UIDL", uids, [[b"%d" % n, b"%d" % n] for n in range(1, COUNT + 1)])
+    faults += differs("TOP", first, wanted) + differs("STAT", left, (len(kept), sum(map(len, kept))))
+    return faults + differs("UIDL of the next session", listed, [b"%d %d" % (number, 2 * number - 1) for number in range(1, len(kept) + 1)])
+
+
+def uids_left(port):
+    """The lines of UIDL."""
+    client = poplib.POP3("127.0.0.1", port, timeout=SECONDS)
+    client.user(ADDRESS)
+    client.pass_(PASSWORD)
+    lines = client.uidl()[1]
+    client.quit()
+    return lines
 
 
 def size_faults(got):
@@ -85,6 +120,8 @@ def check(program, tally):
         with Bridge(program.path, folder) as bridge:
             legacy, enabled = fetched(bridge.port, False), fetched(bridge.port, True)
             check_curl(bridge.port, tally, legacy[3])
+            told, listed = tops(bridge.port), uids_left(bridge.port)
+    tally.note("poplib: TOP, UIDL, and every other message deleted", top_faults(told, legacy[3], listed))
     tally.note("each connection's run ended with status 0", differs("statuses", set(bridge.statuses), {0}))
     tally.note("poplib, legacy: sizes", size_faults(legacy))
     tally.note("poplib, enabled: sizes", size_faults(enabled))

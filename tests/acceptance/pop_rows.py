@@ -9,6 +9,7 @@ from rows import CAFE, MIXED
 from talk import all_cuts, answer_faults, joined
 
 READY = ["+OK ready"]
+CAPABILITIES = ["+OK", "UTF8 USER", "TOP", "UIDL", "USER", "."]
 LOGIN = ["USER ann@example.org", "PASS pw"]
 LOGGED_IN = ["+OK ready", "+OK", "+OK"]
 ANN = mailbox([])
@@ -112,16 +113,52 @@ def of_commands():
         ("what stands behind QUIT", ANN, [*LOGIN, "QUIT", "STAT", "x" * 70_000], [*LOGGED_IN, "+OK bye"]),
         ("keywords in any case", ANN, ["uSer ann@example.org", "pass pw", "stAT", "list", "qUIt"],
             [*LOGGED_IN, "+OK 0 0", "+OK", ".", "+OK bye"]),
-        ("before the login", cafe, ["STAT", "LIST", "LIST 1", "RETR 1", "PASS pw", "STAT x", "RETR", "QUIT"],
-            [*READY, *["-ERR out of order"] * 7, "+OK bye"]),
+        ("before the login", cafe, ["STAT", "LIST", "LIST 1", "RETR 1", "PASS pw", "STAT x", "RETR", "UIDL", "TOP 1 1", "DELE 1", "RSET", "NOOP", "QUIT"],
+            [*READY, *["-ERR out of order"] * 12, "+OK bye"]),
+        ("what the server can do", cafe, ["CAPA", *LOGIN, "capa"], [*READY, *CAPABILITIES, "+OK", "+OK", *CAPABILITIES]),
         ("behind the login", cafe, [*LOGIN, *LOGIN, "UTF8", "USER", "PASS", "UTF8 x"], [*LOGGED_IN, *["-ERR out of order"] * 6]),
-        ("commands that aren't built", ANN, ["CAPA", "NOOP", "", " ", "APOP a b", *LOGIN, "TOP 1 0", "DELE 1", "UIDL", "RSET", "NOOP"],
-            [*READY, *["-ERR syntax"] * 5, "+OK", "+OK", *["-ERR syntax"] * 5]),
+        ("unknown commands", ANN, ["", " ", "APOP a b", "AUTH", "CAPA x", *LOGIN, "APOP", "XTND x"],
+            [*READY, *["-ERR syntax"] * 5, "+OK", "+OK", "-ERR syntax", "-ERR syntax"]),
         ("arguments that are wrong", cafe, ["USER", "USER ", "PASS", "UTF8 ", "UTF8 x", "QUIT ", "QUIT x", *LOGIN, "STAT ", "STAT 1",
-            "LIST ", "LIST x", "LIST 1 ", "LIST  1", "LIST -1", "RETR", "RETR ", "RETR +1", "RETR 1 1", "RETR\t1", "QUIT 1"],
-            [*READY, *["-ERR syntax"] * 7, "+OK", "+OK", *["-ERR syntax"] * 13]),
+            "LIST ", "LIST x", "LIST 1 ", "LIST  1", "LIST -1", "RETR", "RETR ", "RETR +1", "RETR 1 1", "RETR\t1", "QUIT 1", "UIDL ", "UIDL 1 1",
+            "TOP", "TOP 1", "TOP 1 ", "TOP  1", "TOP 1  1", "TOP 1 -1", "TOP x 1", "DELE", "DELE ", "DELE x", "RSET 1", "NOOP ", "CAPA "],
+            [*READY, *["-ERR syntax"] * 7, "+OK", "+OK", *["-ERR syntax"] * 28]),
         ("a line of 65,536 octets", ANN, ["x" * (LINE_MAX - 2), "QUIT"], [*READY, "-ERR syntax", "+OK bye"]),
         ("a line of 65,537 octets", ANN, ["x" * (LINE_MAX - 1), "QUIT"], [*READY, "-ERR line too long"]),
+    ]
+
+
+def of_tops():
+    """How much TOP shows: the header, its empty line, and so many lines."""
+    long, headers = mailbox([b"A: b\r\n\r\n.1\r\n2\r\n\r\n4"]), mailbox(["Subject: é\r\nA: b".encode(), b"\r\nx\r\n", b""])
+    return [
+        ("TOP", long, [*LOGIN, *(f"TOP 1 {count}" for count in (0, 1, 3, "0004", 5, "9" * 400)), "TOP 2 1", "TOP 0 0"],
+            [*LOGGED_IN, "+OK", "A: b", "", ".", "+OK", "A: b", "", "..1", ".", "+OK", "A: b", "", "..1", "2", "", ".",
+                *["+OK", "A: b", "", "..1", "2", "", "4", "."] * 3, "-ERR no such message", "-ERR no such message"]),
+        ("TOP of a message that is a header alone, or a body", headers, [*LOGIN, "TOP 1 0", "TOP 2 0", "TOP 2 1", "TOP 3 7"],
+            [*LOGGED_IN, "+OK", *HIGH_MADE, "A: b", ".", "+OK", "", ".", "+OK", "", "x", ".", "+OK", "."]),
+        ("TOP to an enabled client", headers, ["UTF8", *LOGIN, "TOP 1 0"], ["+OK ready", "+OK", "+OK", "+OK", "+OK", "Subject: é", "A: b", "."]),
+    ]
+
+
+def of_marks():
+    """Marks: name, journal, lines, replies, and the records that the session brings."""
+    three = mailbox([b"A: 1\r\n", b"A: 12\r\n", b"A: 123\r\n"])
+    listed = ["+OK", "1 6", "3 8", "."]
+    marked = [*LOGIN, "DELE 2", "STAT", "LIST", "UIDL"]
+    told = [*LOGGED_IN, "+OK", "+OK 2 14", *listed, "+OK", "1 1", "3 3", "."]
+    none = "-ERR no such message"
+    return [
+        ("a marked message", three, [*marked, "LIST 2", "UIDL 2", "RETR 2", "TOP 2 0", "DELE 2", "UIDL 3", "NOOP", "QUIT"],
+            [*told, *[none] * 5, "+OK 3 3", "+OK", "+OK bye"], expunge(1)),
+        ("marks without QUIT", three, marked, told, b""),
+        ("QUIT with an argument leaves the marks", three, [*marked, "QUIT x"], [*told, "-ERR syntax"], b""),
+        ("RSET takes the marks away", three, [*LOGIN, "DELE 1", "DELE 3", "RSET", "STAT", "DELE 3", "QUIT"],
+            [*LOGGED_IN, "+OK", "+OK", "+OK", "+OK 3 21", "+OK", "+OK bye"], expunge(2)),
+        ("marks go in the order of the messages", three, [*LOGIN, "DELE 3", "DELE 1", "DELE 2", "STAT", "LIST", "QUIT"],
+            [*LOGGED_IN, *["+OK"] * 3, "+OK 0 0", "+OK", ".", "+OK bye"], expunge(0) + expunge(1) + expunge(2)),
+        ("what was expunged keeps its UID", three + expunge(0), [*LOGIN, "UIDL", "UIDL 1", "DELE 1", "QUIT"],
+            [*LOGGED_IN, "+OK", "1 2", "2 3", ".", "+OK 1 2", "+OK", "+OK bye"], expunge(1)),
     ]
 
 
@@ -142,8 +179,10 @@ def of_octets():
 
 def rows():
     """Name, journal, input, and what is wanted: status, octets and journal."""
-    for name, octets, lines, replies in [*of_mail(), *of_logins(), *of_mailboxes(), *of_names(), *of_commands()]:
+    for name, octets, lines, replies in [*of_mail(), *of_logins(), *of_mailboxes(), *of_names(), *of_commands(), *of_tops()]:
         yield name, octets, octets_of(lines), (0, octets_of(replies), octets)
+    for name, octets, lines, replies, records in of_marks():
+        yield name, octets, octets_of(lines), (0, octets_of(replies), octets + records)
     for name, octets, given, wanted in of_octets():
         yield name, octets, given, (0, wanted, octets)
     for name, octets, status, line, after in journal_rows.rows():

@@ -39,7 +39,7 @@ MAKERS = [
     generated_fields.subject, generated_fields.keywords, generated_fields.date, generated_addresses.certain_list,
     generated_parameters.certain_disposition, generated_traces.certain_trace, generated_traces.certain_recipient, generated_traces.identifier,
 ]
-WORDS = [b"USER", b"PASS", b"UTF8", b"STAT", b"LIST", b"RETR", b"QUIT", b"CAPA", b"NOOP", b"TOP", b"DELE", b"", b"LISTS", b"RET"]
+WORDS = [b"USER", b"PASS", b"UTF8", b"STAT", b"LIST", b"RETR", b"QUIT", b"CAPA", b"NOOP", b"TOP", b"DELE", b"UIDL", b"RSET", b"", b"LISTS", b"RET"]
 ARGUMENTS = [None, None, b"", b" ", b"1", b"01", b"2", b"3", b"7", b"0", b"99999999999999999999", b"1 ", b"-1", b"x", b"\xe9", b"1 2"]
 SIZES = [1, 1, 1, 2, 3, 7, 64, 512]
 RECORDS = [
@@ -105,8 +105,8 @@ def some_input(rng, accounts):
         name, password = rng.choice(accounts)
         lines += [b"USER " + some_spelling(rng, name), b"PASS " + password]
     for _ in range(rng.randint(0, 12)):
-        numbered = rng.choice([b"RETR %d", b"LIST %d", b"retr %d"]) % rng.randint(0, 9)
-        lines.append(rng.choice([numbered, numbered, b"STAT", b"LIST", some_line(rng)]))
+        numbered = rng.choice([b"RETR %d", b"LIST %d", b"retr %d", b"UIDL %d", b"TOP %d 0", b"top %d 2", b"DELE %d", b"dele %d"]) % rng.randint(0, 9)
+        lines.append(rng.choice([numbered, numbered, numbered, b"STAT", b"LIST", b"UIDL", b"RSET", some_line(rng)]))
     if rng.random() < 0.02:
         lines.append(b"y" * rng.choice([65_534, 65_535]))
     octets = b"".join(line + b"\r\n" for line in lines)

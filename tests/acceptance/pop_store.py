@@ -62,9 +62,10 @@ class Store:
         return None
 
     def inbox(self, account):
-        """The octets of each message in the account's first folder that is still there."""
+        """Number, UID and octets of each message in the account's first folder that is still there."""
         inbox = self.folders.index(account)
-        return [octets for (folder, octets), is_live in zip(self.messages, self.live) if is_live and folder == inbox]
+        had = [(place, octets) for place, (folder, octets) in enumerate(self.messages) if folder == inbox]
+        return [(place, uid, octets) for uid, (place, octets) in enumerate(had, 1) if self.live[place]]
 
 
 def open_journal(octets):

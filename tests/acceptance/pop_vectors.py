@@ -8,8 +8,8 @@ entities: they say of a journal with such a record or message that it isn't buil
 in the same octets alone. What such a case says of status, replies and journal is replaced by what our oracle says today
 (pop_oracle.py); its journal, its input and its cuts stay.
 
-One file is newer than the program: a case that uses a command which isn't built yet is left out. Where the oracle can't tell the
-form of a domain or of a name, the case alone is held to the answer."""
+A command that came later is answered there as an unknown one, which the oracle's answer replaces too. Where the oracle can't tell
+the form of a domain or of a name, the case alone is held to the answer."""
 
 import os
 
@@ -50,8 +50,9 @@ def commands(case):
 
 
 def is_older(case):
-    """Whether a case of the older files says what isn't so today: nothing was built, or a name has capitals."""
-    return int(case["status"]) == NOT_BUILT or any(keyword == b"USER" and name != name.lower() for keyword, name in commands(case))
+    """Whether a case of the older files says what isn't so today: nothing was built, a name has capitals, or a command came later."""
+    lines = commands(case)
+    return int(case["status"]) == NOT_BUILT or any(keyword in LATER or keyword == b"USER" and name != name.lower() for keyword, name in lines)
 
 
 def wanted_of(case):
@@ -90,13 +91,11 @@ def check(program, tally, folder):
     there = [name for name in FILES if os.path.exists(os.path.join(folder, name))]
     cases = [(name, case) for name in there for case in cases_of(os.path.join(folder, name))]
     sessions = [(name, case) for name, case in cases if case["words"] == "pop"]
-    built = [(name, case) for name, case in sessions if name in OLDER or not any(keyword in LATER for keyword, _ in commands(case))]
-    answers = in_lanes(lambda it: one_case(program, *it), built)
-    for (name, case), (_, faults) in zip(built, answers):
+    answers = in_lanes(lambda it: one_case(program, *it), sessions)
+    for (name, case), (_, faults) in zip(sessions, answers):
         tally.note(f"{name}, vector {case['case']}", faults)
     stands = [it for it, _ in answers]
-    print(f"vectors of POP3: {len(built)} of {len(cases)} were run, each whole, as it is cut, and command by command")
-    print(f"vectors of POP3: {len(sessions) - len(built)} use a command that isn't built, and were left out")
+    print(f"vectors of POP3: {len(sessions)} of {len(cases)} were run, each whole, as it is cut, and command by command")
     print(f"vectors of POP3: {stands.count('oracle')} are older than what is built, and say what the oracle doesn't; that was asked instead")
     print(f"vectors of POP3: {stands.count('vector')} have a domain or a name that the oracle can't tell, and the vector alone was asked")
     print(f"vectors of POP3: {stands.count('none')} of the older ones have such a one, and were left out")
