@@ -6,7 +6,7 @@ use Rattle.std.proofs.Math.Seq.{take-append-add}
 use Rattle.mail_wire.specs.Keeping.{with_last}
 use Rattle.mail_store.specs.declared.records.Record.{Record}
 use Rattle.mail_store.specs.Changing.{IsStoreOf, HoldsFirst}
-use Rattle.mail_store.specs.Following.{records_of, Follows, FollowsSome, FailsIn}
+use Rattle.mail_store.specs.Following.{records_of, Follows, Breaks}
 use Rattle.mail_store.specs.Kept.{Kept}
 use Rattle.mail_store.specs.Records.{AreRecords}
 use Rattle.mail_store.specs.Spelling.{record_text}
@@ -46,43 +46,21 @@ Follows-more old mid new had has having all more first second = record {
       ∙ with_last-twice had (flat_map record_text all) (flat_map record_text more) ∙ ap (with_last had) (sym (flat_map-append record_text all more));
 }
 
--- ---- changes that are due behind those that were made
-
-pub FollowsSome-more : (old mid new : StoreState) (had has having : Option (List ℕ)) (made due more : List (List Record)) → Follows old mid had has (records_of made)
-    → FollowsSome mid new has having due → FollowsSome old new had having (made ++ (due ++ more))
-FollowsSome-more old mid new had has having made due more first some = record {
-  made = made ++ some.made;
-  left = some.left ++ more;
-  due_is = ap (λ (l : List (List Record)). made ++ (l ++ more)) some.due_is ∙ ap (λ (l : List (List Record)). made ++ l) (append_assoc some.made some.left more)
-      ∙ sym (append_assoc made some.made (some.left ++ more));
-  follows = rw (records_of-append made some.made) (Follows-more old mid new had has having (records_of made) (records_of some.made) first some.follows);
-}
-
--- the records of a call behind those of others
-records_behind : (made some : List (List Record)) (failing : List Record) → records_of made ++ (records_of some ++ failing) ≡ records_of (made ++ some) ++ failing
-records_behind made some failing =
-    sym (append_assoc (records_of made) (records_of some) failing) ∙ ap (λ (l : List Record). l ++ failing) (sym (records_of-append made some))
-
-pub FailsIn-more : (old mid new : StoreState) (had has having : Option (List ℕ)) (made due more : List (List Record)) → Follows old mid had has (records_of made)
-    → FailsIn mid new has having due → FailsIn old new had having (made ++ (due ++ more))
-FailsIn-more old mid new had has having made due more first fails =
-    let front = flat_map record_text (records_of made) in
-    let text = flat_map record_text (records_of fails.made) in
-    let cut = take fails.count (flat_map record_text fails.failing) in
-    let joined : front ++ (text ++ cut) ≡ flat_map record_text (records_of (made ++ fails.made)) ++ cut =
-    sym (append_assoc front text cut) ∙ ap (λ (l : List ℕ). l ++ cut) (sym (flat_map-append record_text (records_of made) (records_of fails.made)) ∙ ap (flat_map record_text) (sym (records_of-append made fails.made))) in
+-- calls, and a failure of the keeper in a later one
+pub Breaks-more : (old mid new : StoreState) (had has having : Option (List ℕ)) (all made failing : List Record) → Follows old mid had has all → Breaks mid new has having made failing
+    → Breaks old new had having (all ++ made) failing
+Breaks-more old mid new had has having all made failing first breaks =
+    let front = flat_map record_text all in
+    let text = flat_map record_text made in
+    let cut = take breaks.count (flat_map record_text failing) in
+    let joined : front ++ (text ++ cut) ≡ flat_map record_text (all ++ made) ++ cut =
+    sym (append_assoc front text cut) ∙ ap (λ (l : List ℕ). l ++ cut) (sym (flat_map-append record_text all made)) in
     record {
-      made = made ++ fails.made;
-      failing = fails.failing;
-      left = fails.left ++ more;
-      due_is = ap (λ (l : List (List Record)). made ++ (l ++ more)) fails.due_is ∙ ap (λ (l : List (List Record)). made ++ l) (append_assoc fails.made (fails.failing ∷ fails.left) more)
-          ∙ sym (append_assoc made fails.made (fails.failing ∷ (fails.left ++ more)));
-      records = subst (AreRecords old.kept) (records_behind made fails.made fails.failing)
-          (records_on old mid (records_of made) (records_of fails.made ++ fails.failing) first.store first.records fails.records);
-      store = fails.store ∙ ap (λ (s : StoreState). (let broken : StoreState = record (with_records s (records_of fails.made)) { failed = true } in broken)) first.store
-          ∙ ap (λ (s : StoreState). (let broken : StoreState = record s { failed = true } in broken)) (with_records-append old (records_of made) (records_of fails.made) ∙ ap (with_records old) (sym (records_of-append made fails.made)));
-      count = fails.count;
-      journal = fails.journal ∙ ap (λ (o : Option (List ℕ)). with_last o (text ++ cut)) first.journal ∙ with_last-twice had front (text ++ cut) ∙ ap (with_last had) joined;
+      records = subst (AreRecords old.kept) (sym (append_assoc all made failing)) (records_on old mid all (made ++ failing) first.store first.records breaks.records);
+      store = breaks.store ∙ ap (λ (s : StoreState). (let broken : StoreState = record (with_records s made) { failed = true } in broken)) first.store
+          ∙ ap (λ (s : StoreState). (let broken : StoreState = record s { failed = true } in broken)) (with_records-append old all made);
+      count = breaks.count;
+      journal = breaks.journal ∙ ap (λ (o : Option (List ℕ)). with_last o (text ++ cut)) first.journal ∙ with_last-twice had front (text ++ cut) ∙ ap (with_last had) joined;
     }
 
 -- ---- one call
@@ -91,28 +69,18 @@ pub Follows-one : (old new : StoreState) (had has : Option (List ℕ)) (all : Li
     → AreRecords old.kept all × (new ≡ with_records old all) × (has ≡ with_last had (flat_map record_text all)) → Follows old new had has (records_of (all ∷ []))
 Follows-one old new had has all (records, store, journal) = rw (records_of-one [] all) (record { records = records; store = store; journal = journal })
 
--- the call wasn't made
-pub FollowsSome-none : (old : StoreState) (had : Option (List ℕ)) (due : List (List Record)) → FollowsSome old old had had due
-FollowsSome-none old had due = record { made = []; left = due; due_is = refl; follows = Follows-nil old had }
-
--- it was, and what follows failed
-pub FollowsSome-all : (old new : StoreState) (had has : Option (List ℕ)) (due : List (List Record)) → Follows old new had has (records_of due) → FollowsSome old new had has due
-FollowsSome-all old new had has due follows = record { made = due; left = []; due_is = sym (append-nil due); follows = follows }
-
-pub FailsIn-one : (old new : StoreState) (had has : Option (List ℕ)) (failing : List Record)
-    → AreRecords old.kept failing × (new ≡ record old { failed = true }) × (n : ℕ) × (has ≡ with_last had (take n (flat_map record_text failing))) → FailsIn old new had has (failing ∷ [])
-FailsIn-one old new had has failing (records, store, n, journal) =
-    record { made = []; failing = failing; left = []; due_is = refl; records = records; store = store; count = n; journal = journal }
+pub Breaks-one : (old new : StoreState) (had has : Option (List ℕ)) (failing : List Record)
+    → AreRecords old.kept failing × (new ≡ record old { failed = true }) × (n : ℕ) × (has ≡ with_last had (take n (flat_map record_text failing))) → Breaks old new had has [] failing
+Breaks-one old new had has failing (records, store, n, journal) = record { records = records; store = store; count = n; journal = journal }
 
 -- ---- the laws
 
 pub followed : (old new : StoreState) (had has : Option (List ℕ)) (all more : List Record) → IsStoreOf old had all → Follows old new had has more → IsStoreOf new has (all ++ more)
 followed old new had has all more s f = grown {T = Unit {0}} old new had has all more (tt {0}) s (f.records, f.store, f.journal)
 
-pub failed_in : (old new : StoreState) (had has : Option (List ℕ)) (all : List Record) (due : List (List Record)) → IsStoreOf old had all → (fails : FailsIn old new had has due)
-    → HoldsFirst has all (records_of fails.made ++ fails.failing)
-failed_in old new had has all due s fails =
-    let front = flat_map record_text (records_of fails.made) in
-    let whole : front ++ take fails.count (flat_map record_text fails.failing) ≡ take (length front + fails.count) (flat_map record_text (records_of fails.made ++ fails.failing)) =
-    sym (take-append-add front (flat_map record_text fails.failing) fails.count) ∙ ap (take (length front + fails.count)) (sym (flat_map-append record_text (records_of fails.made) fails.failing)) in
-    left_behind old new had has all (records_of fails.made ++ fails.failing) (length front + fails.count) s fails.records (fails.journal ∙ ap (with_last had) whole)
+pub broken : (old new : StoreState) (had has : Option (List ℕ)) (all made failing : List Record) → IsStoreOf old had all → Breaks old new had has made failing → HoldsFirst has all (made ++ failing)
+broken old new had has all made failing s breaks =
+    let front = flat_map record_text made in
+    let whole : front ++ take breaks.count (flat_map record_text failing) ≡ take (length front + breaks.count) (flat_map record_text (made ++ failing)) =
+    sym (take-append-add front (flat_map record_text failing) breaks.count) ∙ ap (take (length front + breaks.count)) (sym (flat_map-append record_text made failing)) in
+    left_behind old new had has all (made ++ failing) (length front + breaks.count) s breaks.records (breaks.journal ∙ ap (with_last had) whole)

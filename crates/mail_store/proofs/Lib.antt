@@ -19,6 +19,7 @@ pub mod LawLemmas
 pub mod FollowLemmas
 pub mod ListedLemmas
 pub mod ActLemmas
+pub mod DoingLemmas
 pub mod ReplayLemmas
 pub mod WritingLemmas
 pub mod ChangeLemmas

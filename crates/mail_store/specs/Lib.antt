@@ -17,4 +17,5 @@ pub mod Chains
 pub mod Changing
 pub mod Following
 pub mod Acts
+pub mod Doing
 pub mod Delivering

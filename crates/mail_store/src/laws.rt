@@ -5,7 +5,7 @@ ghost use Rattle.mail_store.specs.declared.changing.StoreFault.{StoreFault};
 ghost use Rattle.mail_store.specs.declared.kept.Listed.{Listed as ListedValue};
 ghost use Rattle.mail_store.specs.declared.records.Record.{Record};
 ghost use Rattle.mail_store.specs.Changing.{IsStoreOf, Changes, HoldsFirst};
-ghost use Rattle.mail_store.specs.Following.{Follows, FailsIn, records_of};
+ghost use Rattle.mail_store.specs.Following.{Follows, Breaks};
 ghost use Rattle.mail_store.specs.Kept.{Kept, listed};
 ghost use Rattle.mail_store.specs.Opening.{HasRecords, IsBadAt};
 ghost use Rattle.mail_store.specs.Records.{IsLive};
@@ -32,8 +32,8 @@ pub fn one_more_change()
 pub fn changes_follow()
     ensures made { (old new : StoreState) (had has : Option (List ℕ)) (all more : List Record) → IsStoreOf old had all
         → Follows old new had has more → IsStoreOf new has (all ++ more) }
-    ensures fails { (old new : StoreState) (had has : Option (List ℕ)) (all : List Record) (due : List (List Record)) → IsStoreOf old had all
-        → (fails : FailsIn old new had has due) → HoldsFirst has all (records_of fails.made ++ fails.failing) }
+    ensures fails { (old new : StoreState) (had has : Option (List ℕ)) (all made failing : List Record) → IsStoreOf old had all
+        → Breaks old new had has made failing → HoldsFirst has all (made ++ failing) }
 {}
 
 /// The messages of a listing aren't expunged, and their numbers differ.

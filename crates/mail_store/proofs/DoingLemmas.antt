@@ -1,0 +1,180 @@
+-- What calls do by acts that are due.
+use Rattle.std.proofs.Common.{◌≡◌, ℕ, List, [], ◌∷◌, ◌++◌, Option, Result, Ok, Err, refl, sym, ap, ◌∙◌, append-nil, append_assoc}
+use Rattle.std.specs.Prelude.{map}
+use Rattle.std.specs.List.{flat_map}
+use Rattle.std.proofs.lemmas.List.Concat.{flat_map-append}
+use Rattle.mail_wire.specs.Moves.{Gives, GivesOrFails}
+use Rattle.mail_wire.specs.Telling.{Telling}
+use Rattle.mail_wire.specs.declared.outside.Fault.{Fault}
+use Rattle.mail_wire.specs.declared.outside.Fault.TheVariants as fault
+use Rattle.mail_wire.proofs.Moving.{Gives-nil, Gives-trans}
+use Rattle.mail_store.specs.Acts.{Act, gives, changes, acts_of, changes_in, act_octets}
+use Rattle.mail_store.specs.Doing.{given_by, StopsIn, FailsIn, IsDone, Does}
+use Rattle.mail_store.specs.Following.{records_of, Follows, Breaks}
+use Rattle.mail_store.specs.StoreState.{StoreState}
+use Rattle.mail_store.specs.declared.records.Record.{Record}
+use Rattle.mail_store.proofs.FollowLemmas.{Follows-nil, Follows-more, Breaks-more, records_of-append}
+
+-- ---- acts
+
+pub changes_in-append : {P : Type 0} (xs ys : List (Act P)) → changes_in (xs ++ ys) ≡ changes_in xs ++ changes_in ys
+changes_in-append [] ys = refl
+changes_in-append (gives part ∷ xs) ys = changes_in-append xs ys
+changes_in-append (changes records ∷ xs) ys = ap (λ l. records ∷ l) (changes_in-append xs ys)
+
+of_reply : {P : Type 0} (reply : List P) → changes_in (map gives reply) ≡ []
+of_reply [] = refl
+of_reply (part ∷ reply) = of_reply reply
+
+pub changes_in-acts : {P : Type 0} (made : List (List Record)) (reply : List P) → changes_in (acts_of made reply) ≡ made
+changes_in-acts [] reply = of_reply reply
+changes_in-acts (records ∷ made) reply = ap (λ l. records ∷ l) (changes_in-acts made reply)
+
+changes_alone : (P : Type 0) (made : List (List Record)) → changes_in {P = P} (map changes made) ≡ made
+changes_alone P [] = refl
+changes_alone P (records ∷ made) = ap (λ l. records ∷ l) (changes_alone P made)
+
+-- changes give nothing
+nothing_given : {P : Type 0} (spelled : P → List ℕ) (made : List (List Record)) → given_by spelled (map changes made) ≡ []
+nothing_given spelled [] = refl
+nothing_given spelled (records ∷ made) = nothing_given spelled made
+
+octets_of_reply : {P : Type 0} (spelled : P → List ℕ) (reply : List P) → given_by spelled (map gives reply) ≡ flat_map spelled reply
+octets_of_reply spelled [] = refl
+octets_of_reply spelled (part ∷ reply) = ap (λ l. spelled part ++ l) (octets_of_reply spelled reply)
+
+pub octets_of_acts : {P : Type 0} (spelled : P → List ℕ) (made : List (List Record)) (reply : List P) → given_by spelled (acts_of made reply) ≡ flat_map spelled reply
+octets_of_acts spelled [] reply = octets_of_reply spelled reply
+octets_of_acts spelled (records ∷ made) reply = octets_of_acts spelled made reply
+
+pub given_by-append : {P : Type 0} (spelled : P → List ℕ) (xs ys : List (Act P)) → given_by spelled (xs ++ ys) ≡ given_by spelled xs ++ given_by spelled ys
+given_by-append spelled xs ys = flat_map-append (act_octets spelled) xs ys
+
+-- the records of acts behind others
+pub records_in-append : {P : Type 0} (xs ys : List (Act P)) → records_of (changes_in (xs ++ ys)) ≡ records_of (changes_in xs) ++ records_of (changes_in ys)
+records_in-append xs ys = ap (λ (l : List (List Record)). records_of l) (changes_in-append xs ys) ∙ records_of-append (changes_in xs) (changes_in ys)
+
+-- ---- one call
+
+-- nothing was done
+pub StopsIn-none : {P : Type 0} (spelled : P → List ℕ) (old : StoreState) (had : Option (List ℕ)) (acts : List (Act P)) → StopsIn spelled old old had had acts []
+StopsIn-none spelled old had acts =
+    record { done = []; parts = []; left = acts; acts_are = refl; begun = []; missing = []; parts_are = refl; given_is = refl; follows = Follows-nil old had }
+
+-- a fault before anything was done
+pub Does-none : {P T : Type 0} (spelled : P → List ℕ) (a : Telling) (old : StoreState) (had : Option (List ℕ)) (met : Fault) (acts : List (Act P)) → (met ≡ fault.Keeper → ⊥)
+    → Does {T = T} spelled a a old old had had (Err met) acts
+Does-none spelled a old had fault.Keeper acts fine = absurd (fine refl)
+Does-none spelled a old had fault.Wire acts fine = record { given = []; gives = Gives-nil a; done = StopsIn-none spelled old had acts }
+Does-none spelled a old had fault.Memory acts fine = record { given = []; gives = Gives-nil a; done = StopsIn-none spelled old had acts }
+
+-- the changes were made, and of the reply a prefix was given
+stops_in_reply : {P : Type 0} (spelled : P → List ℕ) (old new : StoreState) (had has : Option (List ℕ)) (made : List (List Record)) (reply : List P) (given missing : List ℕ)
+    → Follows old new had has (records_of made) → given ++ missing ≡ flat_map spelled reply → StopsIn spelled old new had has (acts_of made reply) given
+stops_in_reply {P = P} spelled old new had has made reply given missing follows whole = record {
+  done = map changes made;
+  parts = reply;
+  left = [];
+  acts_are = ap (λ l. map changes made ++ l) (sym (append-nil (map gives reply)));
+  begun = given;
+  missing = missing;
+  parts_are = sym whole;
+  given_is = ap (λ l. l ++ given) (sym (nothing_given spelled made));
+  follows = rw (changes_alone P made) follows;
+}
+
+-- the changes were made, and then the reply was given, or a prefix of it
+pub Does-made : {P T : Type 0} (spelled : P → List ℕ) (a b : Telling) (old new : StoreState) (had has : Option (List ℕ)) (result : Result T Fault) (made : List (List Record)) (reply : List P)
+    → Follows old new had has (records_of made) → GivesOrFails a b result (flat_map spelled reply) → (result ≡ Err fault.Keeper → ⊥) → Does spelled a b old new had has result (acts_of made reply)
+Does-made spelled a b old new had has (Ok done) made reply follows gave fine = record {
+  given = flat_map spelled reply;
+  gives = gave;
+  done = (sym (octets_of_acts spelled made reply), rw (changes_in-acts made reply) follows);
+}
+Does-made spelled a b old new had has (Err fault.Keeper) made reply follows gave fine = absurd (fine refl)
+Does-made spelled a b old new had has (Err fault.Wire) made reply follows gave fine =
+    record { given = gave.given; gives = gave.gives; done = stops_in_reply spelled old new had has made reply gave.given gave.missing follows gave.whole }
+Does-made spelled a b old new had has (Err fault.Memory) made reply follows gave fine =
+    record { given = gave.given; gives = gave.gives; done = stops_in_reply spelled old new had has made reply gave.given gave.missing follows gave.whole }
+
+-- nothing is due but the reply
+pub Does-reply : {P T : Type 0} (spelled : P → List ℕ) (a b : Telling) (old : StoreState) (had : Option (List ℕ)) (result : Result T Fault) (made : List (List Record)) (reply : List P) → made ≡ []
+    → GivesOrFails a b result (flat_map spelled reply) → (result ≡ Err fault.Keeper → ⊥) → Does spelled a b old old had had result (acts_of made reply)
+Does-reply spelled a b old had result made reply none gave fine = rw none (Does-made spelled a b old old had had result [] reply (Follows-nil old had) gave fine)
+
+-- the keeper failed in the one change
+pub Does-broken : {P T : Type 0} (spelled : P → List ℕ) (a : Telling) (old new : StoreState) (had has : Option (List ℕ)) (failing : List Record) (reply : List P)
+    → Breaks old new had has [] failing → Does {T = T} spelled a a old new had has (Err fault.Keeper) (acts_of (failing ∷ []) reply)
+Does-broken spelled a old new had has failing reply breaks = record {
+  given = [];
+  gives = Gives-nil a;
+  done = record { done = []; failing = failing; left = map gives reply; acts_are = refl; given_is = refl; breaks = breaks };
+}
+
+-- ---- acts behind others, and before others
+
+behind_and_before : {A : Type 0} (front done mid left more : List A) → front ++ ((done ++ (mid ++ left)) ++ more) ≡ (front ++ done) ++ (mid ++ (left ++ more))
+behind_and_before front done mid left more =
+    ap (λ l. front ++ l) (append_assoc done (mid ++ left) more ∙ ap (λ l. done ++ l) (append_assoc mid left more)) ∙ sym (append_assoc front done (mid ++ (left ++ more)))
+
+front_given : {P : Type 0} (spelled : P → List ℕ) (front done : List (Act P)) (begun : List ℕ) → given_by spelled front ++ (given_by spelled done ++ begun) ≡ given_by spelled (front ++ done) ++ begun
+front_given spelled front done begun =
+    sym (append_assoc (given_by spelled front) (given_by spelled done) begun) ∙ ap (λ l. l ++ begun) (sym (given_by-append spelled front done))
+
+StopsIn-more : {P : Type 0} (spelled : P → List ℕ) (old mid new : StoreState) (had has having : Option (List ℕ)) (front acts more : List (Act P)) (given : List ℕ)
+    → Follows old mid had has (records_of (changes_in front)) → StopsIn spelled mid new has having acts given
+    → StopsIn spelled old new had having (front ++ (acts ++ more)) (given_by spelled front ++ given)
+StopsIn-more spelled old mid new had has having front acts more given first stops = record {
+  done = front ++ stops.done;
+  parts = stops.parts;
+  left = stops.left ++ more;
+  acts_are = ap (λ l. front ++ (l ++ more)) stops.acts_are ∙ behind_and_before front stops.done (map gives stops.parts) stops.left more;
+  begun = stops.begun;
+  missing = stops.missing;
+  parts_are = stops.parts_are;
+  given_is = ap (λ l. given_by spelled front ++ l) stops.given_is ∙ front_given spelled front stops.done stops.begun;
+  follows = rw (records_in-append front stops.done)
+      (Follows-more old mid new had has having (records_of (changes_in front)) (records_of (changes_in stops.done)) first stops.follows);
+}
+
+FailsIn-more : {P : Type 0} (spelled : P → List ℕ) (old mid new : StoreState) (had has having : Option (List ℕ)) (front acts more : List (Act P)) (given : List ℕ)
+    → Follows old mid had has (records_of (changes_in front)) → FailsIn spelled mid new has having acts given
+    → FailsIn spelled old new had having (front ++ (acts ++ more)) (given_by spelled front ++ given)
+FailsIn-more spelled old mid new had has having front acts more given first fails = record {
+  done = front ++ fails.done;
+  failing = fails.failing;
+  left = fails.left ++ more;
+  acts_are = ap (λ l. front ++ (l ++ more)) fails.acts_are ∙ behind_and_before front fails.done (changes fails.failing ∷ []) fails.left more;
+  given_is = ap (λ l. given_by spelled front ++ l) fails.given_is ∙ sym (given_by-append spelled front fails.done);
+  breaks = rw (records_in-append front fails.done)
+      (Breaks-more old mid new had has having (records_of (changes_in front)) (records_of (changes_in fails.done)) fails.failing first fails.breaks);
+}
+
+-- what a fault leaves of acts that stand between others, the first of which were done
+pub IsDone-more : (P T U : Type 0) (spelled : P → List ℕ) (old mid new : StoreState) (had has having : Option (List ℕ)) (met : Fault) (front acts more : List (Act P)) (given : List ℕ)
+    → Follows old mid had has (records_of (changes_in front)) → IsDone {T = T} spelled mid new has having (Err met) acts given
+    → IsDone {T = U} spelled old new had having (Err met) (front ++ (acts ++ more)) (given_by spelled front ++ given)
+IsDone-more P T U spelled old mid new had has having fault.Keeper front acts more given first done = FailsIn-more spelled old mid new had has having front acts more given first done
+IsDone-more P T U spelled old mid new had has having fault.Wire front acts more given first done = StopsIn-more spelled old mid new had has having front acts more given first done
+IsDone-more P T U spelled old mid new had has having fault.Memory front acts more given first done = StopsIn-more spelled old mid new had has having front acts more given first done
+
+pub Does-more : (P T U : Type 0) (spelled : P → List ℕ) (a b c : Telling) (old mid new : StoreState) (had has having : Option (List ℕ)) (met : Fault) (front acts more : List (Act P))
+    → Gives a b (given_by spelled front) → Follows old mid had has (records_of (changes_in front)) → Does {T = T} spelled b c mid new has having (Err met) acts
+    → Does {T = U} spelled a c old new had having (Err met) (front ++ (acts ++ more))
+Does-more P T U spelled a b c old mid new had has having met front acts more gave first does = record {
+  given = given_by spelled front ++ does.given;
+  gives = Gives-trans a b c (given_by spelled front) does.given gave does.gives;
+  done = IsDone-more P T U spelled old mid new had has having met front acts more does.given first does.done;
+}
+
+-- ---- the same of another answer
+
+pub Does-ok : {P T U : Type 0} (spelled : P → List ℕ) (a b : Telling) (old new : StoreState) (had has : Option (List ℕ)) (x : T) (y : U) (acts : List (Act P))
+    → Does spelled a b old new had has (Ok x) acts → Does spelled a b old new had has (Ok y) acts
+Does-ok spelled a b old new had has x y acts does = record { given = does.given; gives = does.gives; done = does.done }
+
+pub Does-err : {P : Type 0} (T U : Type 0) (spelled : P → List ℕ) (a b : Telling) (old new : StoreState) (had has : Option (List ℕ)) (met : Fault) (acts : List (Act P))
+    → Does {T = T} spelled a b old new had has (Err met) acts → Does {T = U} spelled a b old new had has (Err met) acts
+Does-err T U spelled a b old new had has fault.Keeper acts does = record { given = does.given; gives = does.gives; done = does.done }
+Does-err T U spelled a b old new had has fault.Wire acts does = record { given = does.given; gives = does.gives; done = does.done }
+Does-err T U spelled a b old new had has fault.Memory acts does = record { given = does.given; gives = does.gives; done = does.done }

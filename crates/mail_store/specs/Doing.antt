@@ -1,0 +1,49 @@
+-- What a call does by the acts that are due, to its wire, its store and its keeper: always the first of them, in their order.
+use Rattle.std.specs.Prelude.{◌≡◌, ℕ, List, ◌∷◌, ◌++◌, map, Option, Result, Ok, Err}
+use Rattle.std.specs.List.{flat_map}
+use Rattle.mail_wire.specs.Moves.{Gives}
+use Rattle.mail_wire.specs.Telling.{Telling}
+use Rattle.mail_wire.specs.declared.outside.Fault.{Fault}
+use Rattle.mail_wire.specs.declared.outside.Fault.TheVariants as fault
+use Rattle.mail_store.specs.Acts.{Act, gives, changes, changes_in, act_octets}
+use Rattle.mail_store.specs.Following.{records_of, Follows, Breaks}
+use Rattle.mail_store.specs.StoreState.{StoreState}
+use Rattle.mail_store.specs.declared.records.Record.{Record}
+
+-- the octets that acts give, where this tells those of a part
+abbrev pub given_by : {P : Type 0} → (P → List ℕ) → List (Act P) → List ℕ
+given_by spelled acts = flat_map (act_octets spelled) acts
+
+-- These acts were done. Of the parts behind them, which have no change between them, a prefix was given, and nothing of what is left was done.
+pub record StopsIn {P : Type 0} (spelled : P → List ℕ) (old new : StoreState) (had has : Option (List ℕ)) (acts : List (Act P)) (given : List ℕ) : Type 0 where
+  pub done : List (Act P)
+  pub parts : List P
+  pub left : List (Act P)
+  pub acts_are : acts ≡ done ++ (map gives parts ++ left)
+  pub begun : List ℕ
+  pub missing : List ℕ
+  pub parts_are : flat_map spelled parts ≡ begun ++ missing
+  pub given_is : given ≡ given_by spelled done ++ begun
+  pub follows : Follows old new had has (records_of (changes_in done))
+
+-- These acts were done. In the change behind them the keeper failed, and nothing of what is left was done.
+pub record FailsIn {P : Type 0} (spelled : P → List ℕ) (old new : StoreState) (had has : Option (List ℕ)) (acts : List (Act P)) (given : List ℕ) : Type 0 where
+  pub done : List (Act P)
+  pub failing : List Record
+  pub left : List (Act P)
+  pub acts_are : acts ≡ done ++ changes failing ∷ left
+  pub given_is : given ≡ given_by spelled done
+  pub breaks : Breaks old new had has (records_of (changes_in done)) failing
+
+-- what was given and changed of these acts, by the answer
+abbrev pub IsDone : {P T : Type 0} → (P → List ℕ) → StoreState → StoreState → Option (List ℕ) → Option (List ℕ) → Result T Fault → List (Act P) → List ℕ → Type 0
+IsDone spelled old new had has (Ok done) acts given = (given ≡ given_by spelled acts) × Follows old new had has (records_of (changes_in acts))
+IsDone spelled old new had has (Err fault.Keeper) acts given = FailsIn spelled old new had has acts given
+IsDone spelled old new had has (Err fault.Wire) acts given = StopsIn spelled old new had has acts given
+IsDone spelled old new had has (Err fault.Memory) acts given = StopsIn spelled old new had has acts given
+
+-- A call takes nothing, and does these acts; after a fault the first of them.
+pub record Does {P T : Type 0} (spelled : P → List ℕ) (before now : Telling) (old new : StoreState) (had has : Option (List ℕ)) (result : Result T Fault) (acts : List (Act P)) : Type 0 where
+  pub given : List ℕ
+  pub gives : Gives before now given
+  pub done : IsDone spelled old new had has result acts given
