@@ -1,7 +1,6 @@
 -- The turns of a stream that comes in pieces, and what a session has done by then.
 use Rattle.std.proofs.Common.{◌≡◌, ℕ, ◌+◌, ◌<◌, ◌≤◌, List, [], ◌++◌, length, arith, refl, sym, ap, subst, ◌∙◌, Bool, true, false, Some, None, Option, Ok, Err, Result}
 use Rattle.std.specs.Prelude.{nat_le, take, drop, IsTrue}
-use Rattle.std.specs.List.{AllByRecursion}
 use Rattle.mail_wire.specs.Framing.{Framed, waiting, whole, too_long, next_line, framed_as}
 use Rattle.mail_wire.specs.Keeping.{HasKeeperCause}
 use Rattle.mail_wire.specs.KeeperTelling.{KeeperTelling}
@@ -17,17 +16,18 @@ use Rattle.mail_wire.specs.declared.outside.Fault.TheVariants as fault
 use Rattle.mail_wire.proofs.FirstLineLemmas.{first_line-cut}
 use Rattle.mail_wire.proofs.FramingLemmas.{IsSteady, steady, next_line-line, next_line-long_line, next_line-waiting, next_line-long}
 use Rattle.mail_wire.proofs.TurnsLemmas.{all_turns-stop, all_turns-go}
-use Rattle.mail_store.specs.Acts.{Act, acts_of, changes_in}
-use Rattle.mail_store.specs.Following.{records_of, Follows, Leaves}
-use Rattle.mail_store.specs.StoreState.{StoreState, with_records}
-use Rattle.mail_store.proofs.ActLemmas.{Serving, ServedSoFar, ServedSoFar-start, ServedSoFar-more, ServedSoFar-broken, ServedSoFar-fails, ServedSoFar-given, ServedAll, ServedSoFar-all, ServedSoFar-ends}
-use Rattle.mail_store.proofs.FollowLemmas.{Follows-nil}
-use Rattle.surrogate_cache.specs.Served.{Meanings, WithMeanings}
+use Rattle.mail_store.specs.Acts.{Act, acts_of}
+use Rattle.mail_store.specs.Doing.{Does}
+use Rattle.mail_store.specs.StoreState.{StoreState}
+use Rattle.mail_store.proofs.ActLemmas.{Serving, ServedSoFar, ServedSoFar-start, ServedSoFar-more, ServedSoFar-fails, ServedAll, ServedAll-does, ServedSoFar-all, ServedSoFar-ends, fit_acts}
+use Rattle.mail_store.proofs.DoingLemmas.{Does-none, Does-reply, changes_in-acts}
+use Rattle.pop_session.specs.declared.session.PopSession.{PopSession}
+use Rattle.surrogate_cache.specs.Served.{Meanings}
 use Rattle.pop_session.specs.declared.states.PopState.{PopState}
 use Rattle.pop_session.specs.declared.states.PopState.TheVariants as pop
 use Rattle.pop_session.specs.Commands.{command_of}
-use Rattle.pop_session.specs.Machine.{Part, State, authorization, transaction, ended, Step, step}
-use Rattle.pop_session.specs.Replies.{part_octets, reply_octets, given_by, IsFit, AreFit}
+use Rattle.pop_session.specs.Machine.{Part, State, authorization, transaction, ended, Step, acts_in, step}
+use Rattle.pop_session.specs.Replies.{part_octets, reply_octets, IsFit, AreFit}
 use Rattle.pop_session.specs.States.{state_of, state_or_ended}
 use Rattle.pop_session.specs.Session.{Machine, line_too_long, after_step, turn_by, turn_in, next_turn, turns_of}
 
@@ -99,7 +99,7 @@ stepped meanings state store line = step meanings (state_of state) store (comman
 
 turns_of-line : (meanings : Meanings) (state : PopState) (store : StoreState) (octets line rest : List ℕ) → next_line octets ≡ whole line rest
     → turns_of meanings (machine_at state store) octets
-    ≡ behind (acts_of (stepped meanings state store line).changes (stepped meanings state store line).reply) (turns_of meanings (after_step store (stepped meanings state store line)) rest)
+    ≡ behind (acts_in (stepped meanings state store line)) (turns_of meanings (after_step store (stepped meanings state store line)) rest)
 turns_of-line meanings state store octets line rest is =
     all_turns-go (next_turn meanings) (next_turn-framed meanings) (machine_at state store) octets _ (reads meanings state store octets ∙ ap (turn_by meanings (machine_at state store)) is)
 
@@ -172,21 +172,27 @@ ServedWhole meanings before now first octets state rest =
 abbrev pub due_by : Meanings → Surroundings → PopState → List ℕ → Turn Machine (Act Part)
 due_by meanings before first octets = turns_of meanings (machine_at first before.store) octets
 
+-- what a call does by these acts
+abbrev pub Done : {T : Type 0} → Meanings → Surroundings → Surroundings → Result T Fault → List (Act Part) → Type 0
+Done meanings before now result acts = Does (part_octets meanings) before.wire now.wire before.store now.store before.journal now.journal result acts
+
+err_is : (T : Type 0) (met other : Fault) (result : Result T Fault) → result ≡ Err met → result ≡ Err other → met ≡ other
+err_is T met other result h k = cc
+
 pub Served-start : (meanings : Meanings) (now : Surroundings) (state : PopState) (octets : List ℕ) → Served meanings now now state octets state octets
 Served-start meanings now state octets = ServedSoFar-start (serving_of meanings) now.wire now.store now.journal (machine_at state now.store) octets
 
 -- Between these the step was carried out, and this state was found.
 pub record TakesStep (meanings : Meanings) (before now : Surroundings) (taken : Step) (found : Option PopState) : Type 0 where
-  pub gives : Gives before.wire now.wire (reply_octets meanings taken.reply)
+  pub does : Does (part_octets meanings) before.wire now.wire before.store now.store before.journal now.journal (Ok found) (acts_in taken)
   pub fit : AreFit meanings taken.reply
   pub next : state_or_ended found ≡ taken.state
-  pub follows : Follows before.store now.store before.journal now.journal (records_of taken.changes)
   pub on : GoesOn before.wire now.wire
 
 -- the machine behind a step
 behind_step : (meanings : Meanings) (before now : Surroundings) (taken : Step) (found : Option PopState) → TakesStep meanings before now taken found
     → after_step before.store taken ≡ record { state = state_or_ended found; store = now.store }
-behind_step meanings before now taken found takes = rw (takes.next, takes.follows.store) refl
+behind_step meanings before now taken found takes = rw (takes.next, takes.does.done.1.store, changes_in-acts {P = Part} taken.changes taken.reply) refl
 
 -- a line after which the session goes on
 pub line_goes : (meanings : Meanings) (a b c : Surroundings) (first state next : PopState) (octets left line rest : List ℕ) (found : Option PopState)
@@ -196,9 +202,10 @@ line_goes meanings a b c first state next octets left line rest found served is 
     let taken = stepped meanings state b.store line in
     let machine : after_step b.store taken ≡ machine_at next c.store =
     behind_step meanings b c taken found takes ∙ ap (λ (f : Option PopState). (let m : Machine = record { state = state_or_ended f; store = c.store } in m)) found_is in
-    ServedSoFar-more (serving_of meanings) a.wire b.wire c.wire a.store b.store c.store a.journal b.journal c.journal (machine_at first a.store) (machine_at state b.store) (machine_at next c.store)
-    octets left rest taken.changes taken.reply served
-    (turns_of-line meanings state b.store left line rest is ∙ ap (λ (m : Machine). behind (acts_of taken.changes taken.reply) (turns_of meanings m rest)) machine) takes.follows takes.gives takes.fit takes.on
+    ServedSoFar-more (serving_of meanings) a.wire b.wire c.wire a.store b.store c.store a.journal b.journal c.journal found (machine_at first a.store) (machine_at state b.store) (machine_at next c.store)
+    octets left rest (acts_in taken) served
+    (turns_of-line meanings state b.store left line rest is ∙ ap (λ (m : Machine). behind (acts_in taken) (turns_of meanings m rest)) machine) takes.does
+    (fit_acts (IsFit meanings) taken.changes taken.reply takes.fit) takes.on
 
 -- a line that ends the session
 pub line_ends : (meanings : Meanings) (a b c : Surroundings) (first state : PopState) (octets left line rest : List ℕ) (found : Option PopState)
@@ -208,45 +215,42 @@ line_ends meanings a b c first state octets left line rest found served is takes
     let taken = stepped meanings state b.store line in
     let machine : after_step b.store taken ≡ record { state = ended; store = c.store } =
     behind_step meanings b c taken found takes ∙ ap (λ (f : Option PopState). (let m : Machine = record { state = state_or_ended f; store = c.store } in m)) found_is in
-    ServedSoFar-ends (serving_of meanings) a.wire b.wire c.wire a.store b.store c.store a.journal b.journal c.journal (machine_at first a.store) (machine_at state b.store) (record { state = ended; store = c.store })
-    octets left rest taken.changes taken.reply served
-    (turns_of-line meanings state b.store left line rest is ∙ ap (λ (m : Machine). behind (acts_of taken.changes taken.reply) (turns_of meanings m rest)) machine
-    ∙ ap (behind (acts_of taken.changes taken.reply)) (turns_of-ended meanings c.store rest)) takes.follows takes.gives takes.fit takes.on
+    ServedSoFar-ends (serving_of meanings) a.wire b.wire c.wire a.store b.store c.store a.journal b.journal c.journal found (machine_at first a.store) (machine_at state b.store) (record { state = ended; store = c.store })
+    octets left rest (acts_in taken) served
+    (turns_of-line meanings state b.store left line rest is ∙ ap (λ (m : Machine). behind (acts_in taken) (turns_of meanings m rest)) machine
+    ∙ ap (behind (acts_in taken)) (turns_of-ended meanings c.store rest)) takes.does (fit_acts (IsFit meanings) taken.changes taken.reply takes.fit) takes.on
 
--- what was given by a failure in a line's step
-pub line_given : (meanings : Meanings) (a b c : Surroundings) (first state : PopState) (octets left line rest : List ℕ) → Served meanings a b first octets state left → next_line left ≡ whole line rest
-    → GivesPrefix b.wire c.wire (reply_octets meanings (stepped meanings state b.store line).reply) → GivesPrefix a.wire c.wire (given_by meanings (due_by meanings a first octets).parts)
-line_given meanings a b c first state octets left line rest served is gives =
-    ServedSoFar-given (serving_of meanings) a.wire b.wire c.wire a.store b.store a.journal b.journal (machine_at first a.store) (machine_at state b.store) octets left
-    (stepped meanings state b.store line).changes (stepped meanings state b.store line).reply _ served (turns_of-line meanings state b.store left line rest is) gives
+-- a failure in a line's step
+pub line_fails : (meanings : Meanings) (a b c : Surroundings) (first state : PopState) (octets left line rest : List ℕ) (met : Fault) → Served meanings a b first octets state left
+    → next_line left ≡ whole line rest → Done {T = Option PopState} meanings b c (Err met) (acts_in (stepped meanings state b.store line))
+    → Done {T = PopSession} meanings a c (Err met) (due_by meanings a first octets).parts
+line_fails meanings a b c first state octets left line rest met served is does =
+    ServedSoFar-fails (Option PopState) PopSession (serving_of meanings) a.wire b.wire c.wire a.store b.store c.store a.journal b.journal c.journal met (machine_at first a.store) (machine_at state b.store) octets left
+    (acts_in (stepped meanings state b.store line)) _ served (turns_of-line meanings state b.store left line rest is) does
 
--- what a failure in a line's step leaves
-pub line_leaves : (T U : Type 0) (meanings : Meanings) (a b c : Surroundings) (first state : PopState) (octets left line rest : List ℕ) (met : Fault) → Served meanings a b first octets state left
-    → next_line left ≡ whole line rest → Leaves {T = T} b.store c.store b.journal c.journal (Err met) (stepped meanings state b.store line).changes
-    → Leaves {T = U} a.store c.store a.journal c.journal (Err met) (changes_in (due_by meanings a first octets).parts)
-line_leaves T U meanings a b c first state octets left line rest fault.Keeper served is leaves =
-    ServedSoFar-fails (serving_of meanings) a.wire b.wire a.store b.store c.store a.journal b.journal c.journal (machine_at first a.store) (machine_at state b.store) octets left
-    (stepped meanings state b.store line).changes (stepped meanings state b.store line).reply _ served (turns_of-line meanings state b.store left line rest is) leaves
-line_leaves T U meanings a b c first state octets left line rest fault.Wire served is leaves =
-    ServedSoFar-broken (serving_of meanings) a.wire b.wire a.store b.store c.store a.journal b.journal c.journal (machine_at first a.store) (machine_at state b.store) octets left
-    (stepped meanings state b.store line).changes (stepped meanings state b.store line).reply _ served (turns_of-line meanings state b.store left line rest is) leaves
-line_leaves T U meanings a b c first state octets left line rest fault.Memory served is leaves =
-    ServedSoFar-broken (serving_of meanings) a.wire b.wire a.store b.store c.store a.journal b.journal c.journal (machine_at first a.store) (machine_at state b.store) octets left
-    (stepped meanings state b.store line).changes (stepped meanings state b.store line).reply _ served (turns_of-line meanings state b.store left line rest is) leaves
+-- a failure between two lines
+pub between_fails : (meanings : Meanings) (a b : Surroundings) (first state : PopState) (octets left : List ℕ) (met : Fault) → Served meanings a b first octets state left → (met ≡ fault.Keeper → ⊥)
+    → Done {T = PopSession} meanings a b (Err met) (due_by meanings a first octets).parts
+between_fails meanings a b first state octets left met served fine =
+    ServedSoFar-fails PopSession PopSession (serving_of meanings) a.wire b.wire b.wire a.store b.store b.store a.journal b.journal b.journal met (machine_at first a.store) (machine_at state b.store) octets left
+    [] (turns_of meanings (machine_at state b.store) left) served refl (Does-none (part_octets meanings) b.wire b.store b.journal met [] fine)
 
 -- a line that is too long
 pub long_ends : (meanings : Meanings) (a b : Surroundings) (wire : Telling) (first state : PopState) (octets left rest : List ℕ) → Served meanings a b first octets state left
     → next_line left ≡ too_long rest → Gives b.wire wire (reply_octets meanings line_too_long) → GoesOn b.wire wire
     → ServedWhole meanings a (record b { wire = wire }) first octets ended rest
 long_ends meanings a b wire first state octets left rest served is gives on =
-    ServedSoFar-ends (serving_of meanings) a.wire b.wire wire a.store b.store b.store a.journal b.journal b.journal (machine_at first a.store) (machine_at state b.store) (record { state = ended; store = b.store })
-    octets left rest [] line_too_long served (turns_of-too_long meanings state b.store left rest is) (Follows-nil b.store b.journal) gives (refl, tt) on
+    ServedSoFar-ends (serving_of meanings) a.wire b.wire wire a.store b.store b.store a.journal b.journal b.journal tt (machine_at first a.store) (machine_at state b.store) (record { state = ended; store = b.store })
+    octets left rest (acts_of [] line_too_long) served (turns_of-too_long meanings state b.store left rest is)
+    (Does-reply {T = Unit {0}} (part_octets meanings) b.wire wire b.store b.journal (Ok tt) [] line_too_long refl gives (λ bad. cc)) (refl, tt) on
 
-pub long_given : (meanings : Meanings) (a b : Surroundings) (wire : Telling) (first state : PopState) (octets left rest : List ℕ) → Served meanings a b first octets state left
-    → next_line left ≡ too_long rest → GivesPrefix b.wire wire (reply_octets meanings line_too_long) → GivesPrefix a.wire wire (given_by meanings (due_by meanings a first octets).parts)
-long_given meanings a b wire first state octets left rest served is gives =
-    ServedSoFar-given (serving_of meanings) a.wire b.wire wire a.store b.store a.journal b.journal (machine_at first a.store) (machine_at state b.store) octets left [] line_too_long _ served
-    (turns_of-too_long meanings state b.store left rest is) gives
+pub long_fails : (meanings : Meanings) (a b : Surroundings) (wire : Telling) (first state : PopState) (octets left rest : List ℕ) (met : Fault) → Served meanings a b first octets state left
+    → next_line left ≡ too_long rest → GivesPrefix b.wire wire (reply_octets meanings line_too_long) → (met ≡ fault.Keeper → ⊥)
+    → Done {T = PopSession} meanings a (record b { wire = wire }) (Err met) (due_by meanings a first octets).parts
+long_fails meanings a b wire first state octets left rest met served is gives fine =
+    ServedSoFar-fails PopSession PopSession (serving_of meanings) a.wire b.wire wire a.store b.store b.store a.journal b.journal b.journal met (machine_at first a.store) (machine_at state b.store) octets left
+    (acts_of [] line_too_long) _ served (turns_of-too_long meanings state b.store left rest is)
+    (Does-reply (part_octets meanings) b.wire wire b.store b.journal (Err met) [] line_too_long refl gives (λ bad. fine (err_is PopSession met fault.Keeper (Err met) refl bad)))
 
 -- no whole line is left
 pub all_served : (meanings : Meanings) (a b : Surroundings) (first state : PopState) (octets left : List ℕ) → Served meanings a b first octets state left → next_line left ≡ waiting
@@ -254,6 +258,12 @@ pub all_served : (meanings : Meanings) (a b : Surroundings) (first state : PopSt
 all_served meanings a b first state octets left served is =
     ServedSoFar-all (serving_of meanings) a.wire b.wire a.store b.store a.journal b.journal (machine_at first a.store) (machine_at state b.store) octets left served
     (turns_of-waiting meanings state b.store left is)
+
+-- all of it was done
+pub whole_done : (meanings : Meanings) (a b : Surroundings) (first : PopState) (octets : List ℕ) (state : State) (rest : List ℕ) (session : PopSession) → ServedWhole meanings a b first octets state rest
+    → Done meanings a b (Ok session) (due_by meanings a first octets).parts
+whole_done meanings a b first octets state rest session all =
+    ServedAll-does (serving_of meanings) a.wire b.wire a.store b.store a.journal b.journal session (machine_at first a.store) (record { state = state; store = b.store }) octets rest all
 
 -- ---- the keeper over several calls
 

@@ -1,14 +1,15 @@
 -- The messages of a maildrop, with marks put on and taken away.
 use Rattle.std.proofs.Common.{◌≡◌, ℕ, zero, suc, ◌+◌, ◌<◌, List, [], ◌∷◌, ◌++◌, length, length-append, take, drop, get_or, set, sum_by, Bool, true, false, arith, refl, ap, sym, ◌∙◌, Some, None, Option}
-use Rattle.std.specs.Prelude.{◌==◌, map, slice_get, if◌then◌else◌}
+use Rattle.std.specs.Prelude.{◌==◌, codes, map, slice_get, slice_index_or, if◌then◌else◌}
 use Rattle.std.specs.List.{AllByRecursion, IsDistinct, list_all}
 use Rattle.std.specs.Option.{option_map_or}
 use Rattle.std.proofs.lemmas.List.Sums.{sum_by-append, sum_by-cons}
-use Rattle.mail_store.specs.Changing.{is_live, expunge_refusal}
-use Rattle.mail_store.specs.Kept.{Kept, change_at, listed}
+use Rattle.mail_store.specs.Changing.{is_live, expunged, expunge_refusal}
+use Rattle.mail_store.specs.Kept.{Kept, after, after_all, change_at, listed, name_of}
 use Rattle.mail_store.specs.Records.{IsLive}
-use Rattle.mail_store.specs.StoreState.{StoreState}
+use Rattle.mail_store.specs.StoreState.{StoreState, with_records}
 use Rattle.mail_store.specs.declared.kept.Listed.{Listed}
+use Rattle.mail_store.specs.declared.records.Record.TheVariants as records
 use Rattle.mail_store.proofs.ListedLemmas.{listed_live, listed_distinct}
 use Rattle.mail_store.specs.declared.kept.Message.{Message}
 use Rattle.pop_session.specs.declared.states.MaildropMessage.{MaildropMessage}
@@ -193,3 +194,14 @@ sum-kept row maildrop place d n value inside kept value_is is =
     let all = sum_by-append row (left_of (take place maildrop)) ((get_or maildrop place d).listed ∷ []) in
     let one = sum_by-cons row (get_or maildrop place d).listed [] in
     rw (is, value_is, left-kept maildrop place d inside kept, all, one) (omega arith)
+
+-- ---- the name of the store
+
+expunged_domains : (kept : Kept) (ids : List ℕ) → (after_all kept (expunged ids)).domains ≡ kept.domains
+expunged_domains kept [] = refl
+expunged_domains kept (id ∷ ids) = expunged_domains (after kept (records.Expunge id)) ids
+
+-- messages that go leave the name as it is
+pub expunged_name : (old new : StoreState) (ids : List ℕ) → new ≡ with_records old (expunged ids) → name_of new.kept ≡ name_of old.kept
+expunged_name old new ids is =
+    ap (λ (s : StoreState). name_of s.kept) is ∙ ap (λ (l : List (List ℕ)). slice_index_or l 0 (codes "localhost")) (expunged_domains old.kept ids)

@@ -5,22 +5,23 @@ use Rattle.std.specs.Option.{option_map}
 use Rattle.std.proofs.Math.Nat.{min-eq_left}
 use Rattle.std.proofs.lemmas.Bool.Decides.{nat_tests}
 use Rattle.std.proofs.lemmas.Option.{slice_get_past}
+use Rattle.mail_wire.specs.Moves.{Gives, GivesPrefix}
+use Rattle.mail_wire.specs.Telling.{Telling}
 use Rattle.mail_wire.specs.declared.outside.Fault.{Fault}
 use Rattle.mail_wire.specs.declared.outside.Fault.TheVariants as fault
-use Rattle.mail_store.specs.declared.records.Record.{Record}
-use Rattle.mail_store.specs.Following.{records_of, Follows, Leaves}
+use Rattle.mail_store.specs.Doing.{Does}
 use Rattle.mail_store.specs.Kept.{logged_in}
-use Rattle.mail_store.proofs.FollowLemmas.{Follows-nil, FollowsSome-none, FollowsSome-all}
 use Rattle.mail_store.specs.StoreState.{StoreState}
+use Rattle.mail_store.proofs.DoingLemmas.{Does-reply, Does-err}
 use Rattle.surrogate_cache.specs.Served.{Mode, legacy, enabled, Meanings}
-use Rattle.pop_session.specs.Replies.{AreFit}
+use Rattle.pop_session.specs.Replies.{AreFit, part_octets, reply_octets}
 use Rattle.mail_store.specs.declared.kept.Listed.{Listed}
 use Rattle.pop_session.specs.Commands.{saturated}
 use Rattle.pop_session.specs.declared.command.TopNumbers.{TopNumbers}
 use Rattle.pop_session.specs.declared.command.Keyword.{Keyword}
 use Rattle.pop_session.specs.declared.command.Keyword.TheVariants as keyword
 use Rattle.pop_session.specs.declared.states.MaildropMessage.{MaildropMessage}
-use Rattle.pop_session.specs.Machine.{Part, answers, message_at, no_such_message, of_top, top_reply, transaction, authorization_step, pass_step, transaction_step, transaction_reply}
+use Rattle.pop_session.specs.Machine.{Part, Step, acts_in, answers, dele_message, dele_step, message_at, no_such_message, of_top, top_reply, transaction, authorization_step, pass_step, transaction_step, transaction_reply}
 
 -- the rows that change the state
 abbrev pub is_changing : Keyword → Option (List ℕ) → Bool
@@ -79,25 +80,25 @@ authorization_changes meanings mode (Some name) store keyword.Pass (Some passwor
 authorization_changes meanings mode user store keyword.Quit None = refl
 authorization_changes meanings mode user store keyword.Quit (Some text) = refl
 
--- a failure that isn't one of the keeper, where nothing was changed
-pub failed-leaves : {T : Type 0} (U : Type 0) (store : StoreState) (had : Option (List ℕ)) (result : Result T Fault) (met : Fault) (due : List (List Record)) → result ≡ Err met
-    → (result ≡ Err fault.Keeper → ⊥) → Leaves {T = U} store store had had (Err met) due
-failed-leaves U store had result fault.Keeper due is fine = absurd (fine is)
-failed-leaves U store had result fault.Wire due is fine = FollowsSome-none store had due
-failed-leaves U store had result fault.Memory due is fine = FollowsSome-none store had due
+message_changes : (mode : Mode) (maildrop : List MaildropMessage) (number : ℕ) (found : Option Listed) → (dele_message mode maildrop number found).changes ≡ []
+message_changes mode maildrop number None = refl
+message_changes mode maildrop number (Some one) = refl
 
--- the changes were made, and what follows them may fail
-pub made-leaves : {T : Type 0} (old new : StoreState) (had has : Option (List ℕ)) (result : Result T Fault) (due : List (List Record)) → Follows old new had has (records_of due)
-    → (result ≡ Err fault.Keeper → ⊥) → Leaves old new had has result due
-made-leaves old new had has (Ok done) due follows fine = follows
-made-leaves old new had has (Err fault.Keeper) due follows fine = absurd (fine refl)
-made-leaves old new had has (Err fault.Wire) due follows fine = FollowsSome-all old new had has due follows
-made-leaves old new had has (Err fault.Memory) due follows fine = FollowsSome-all old new had has due follows
+-- nor does DELE
+pub dele_changes : (mode : Mode) (maildrop : List MaildropMessage) (number : Option ℕ) → (dele_step mode maildrop number).changes ≡ []
+dele_changes mode maildrop None = refl
+dele_changes mode maildrop (Some number) = message_changes mode maildrop number (message_at maildrop number)
 
--- nothing is due
-pub nothing-leaves : {T : Type 0} (store : StoreState) (had : Option (List ℕ)) (result : Result T Fault) (due : List (List Record)) → due ≡ [] → (result ≡ Err fault.Keeper → ⊥)
-    → Leaves store store had had result due
-nothing-leaves store had result due none fine = rw none (made-leaves store store had had result [] (Follows-nil store had) fine)
+-- a step that gives its reply, and changes nothing
+pub reply_given : {T : Type 0} (meanings : Meanings) (a b : Telling) (old : StoreState) (had : Option (List ℕ)) (x : T) (taken : Step) → taken.changes ≡ [] → Gives a b (reply_octets meanings taken.reply)
+    → Does (part_octets meanings) a b old old had had (Ok x) (acts_in taken)
+reply_given meanings a b old had x taken none gave = Does-reply (part_octets meanings) a b old had (Ok x) taken.changes taken.reply none gave (λ bad. cc)
+
+-- or fails in it
+pub reply_fails : (T U : Type 0) (meanings : Meanings) (a b : Telling) (old : StoreState) (had : Option (List ℕ)) (result : Result T Fault) (met : Fault) (taken : Step) → taken.changes ≡ []
+    → GivesPrefix a b (reply_octets meanings taken.reply) → result ≡ Err met → (result ≡ Err fault.Keeper → ⊥) → Does {T = U} (part_octets meanings) a b old old had had (Err met) (acts_in taken)
+reply_fails T U meanings a b old had result met taken none gave was fine = Does-err T U (part_octets meanings) a b old old had had met (acts_in taken)
+    (Does-reply {T = T} (part_octets meanings) a b old had (Err met) taken.changes taken.reply none gave (λ bad. fine (was ∙ bad)))
 
 -- the keyword that is left of the three that ask for one message
 pub is_list : (word : Keyword) → (word ≡ keyword.List) ⊎ (word ≡ keyword.Uidl) ⊎ (word ≡ keyword.Retr) → (word ≡ keyword.Retr → ⊥) → (word ≡ keyword.Uidl → ⊥) → word ≡ keyword.List

@@ -3,7 +3,7 @@ use Rattle.std.specs.Prelude.{◌≡◌, ℕ, ◌++◌, ◌==◌, List, [], ◌�
 use Rattle.std.specs.List.{flat_map, list_all, AllByRecursion}
 use Rattle.mail_wire.specs.Lines.{crlf, lines_of, is_crlf}
 use Rattle.mail_wire.specs.Octets.{is_ascii}
-use Rattle.mail_store.specs.Acts.{Act, act_octets, IsFitAct}
+use Rattle.mail_store.specs.Acts.{Act, IsFitAct}
 use Rattle.surrogate_rope.specs.Layout.{HasSurrogate, HasAsciiBlocks}
 use Rattle.surrogate_cache.specs.Served.{legacy, enabled, served_by, Meanings}
 use Rattle.pop_session.specs.Machine.{Part, line, shown}
@@ -49,10 +49,6 @@ IsFit meanings (shown msg enabled at len) = Unit {0}
 
 abbrev pub AreFit : Meanings → List Part → Type 0
 AreFit meanings parts = AllByRecursion (IsFit meanings) parts
-
--- the octets of what a session does
-abbrev pub given_by : Meanings → List (Act Part) → List ℕ
-given_by meanings acts = flat_map (act_octets (part_octets meanings)) acts
 
 -- what it gives may be sent
 abbrev pub AreFitActs : Meanings → List (Act Part) → Type 0

@@ -1,14 +1,13 @@
 -- A session (RFC 1939, 3): the machine over a stream, and what a session value stands for.
 use Rattle.std.specs.Prelude.{◌≡◌, ℕ, List, [], ◌∷◌, codes, Option, None, Some}
 use Rattle.mail_wire.specs.Turns.{Turn, all_turns}
-use Rattle.mail_store.specs.Acts.{Act, gives, acts_of, changes_in}
+use Rattle.mail_store.specs.Acts.{Act, gives, acts_of}
 use Rattle.mail_store.specs.Following.{records_of}
 use Rattle.mail_store.specs.StoreState.{StoreState, with_records}
-use Rattle.mail_store.specs.declared.records.Record.{Record}
 use Rattle.surrogate_cache.specs.Served.{legacy, Meanings}
 use Rattle.mail_wire.specs.Framing.{Framed, waiting, whole, too_long, next_line}
 use Rattle.pop_session.specs.Commands.{command_of}
-use Rattle.pop_session.specs.Machine.{Part, line, State, authorization, transaction, ended, says, Step, step}
+use Rattle.pop_session.specs.Machine.{Part, line, State, authorization, transaction, ended, says, Step, acts_in, step}
 use Rattle.pop_session.specs.States.{state_of, KnowsState}
 use Rattle.pop_session.specs.declared.session.PopSession.{PopSession}
 use Rattle.pop_session.specs.declared.session.PopSession.TheVariants as variant
@@ -30,7 +29,7 @@ abbrev pub turn_by : Meanings → Machine → Framed → Option (Turn Machine (A
 turn_by meanings machine waiting = None
 turn_by meanings machine (whole text rest) =
     let taken = step meanings machine.state machine.store (command_of text) in
-    Some (record { parts = acts_of taken.changes taken.reply; after = after_step machine.store taken; rest = rest })
+    Some (record { parts = acts_in taken; after = after_step machine.store taken; rest = rest })
 turn_by meanings machine (too_long rest) =
     Some (record { parts = acts_of [] line_too_long; after = record machine { state = ended }; rest = rest })
 

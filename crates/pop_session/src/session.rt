@@ -3,13 +3,13 @@ ghost use Rattle.std.specs.Prelude.{◌≡◌, ℕ, ◌++◌, List, None, Some, 
 ghost use Rattle.std.specs.Option.{option_copied};
 ghost use Rattle.mail_wire.specs.Keeping.{HasKeeperCause};
 ghost use Rattle.mail_wire.specs.Moves.{GivesOrFails, HasWireCause};
-ghost use Rattle.mail_store.specs.Acts.{changes_in};
-ghost use Rattle.mail_store.specs.Following.{Leaves};
+ghost use Rattle.mail_store.specs.Doing.{Does};
+ghost use Rattle.mail_store.specs.Kept.{name_of};
 ghost use Rattle.mail_store.specs.StoreState.{StoreState};
 ghost use Rattle.surrogate_cache.specs.Served.{Meanings, WithMeanings};
 ghost use Rattle.pop_session.specs.Commands.{command_of, number_of};
-ghost use Rattle.pop_session.specs.Machine.{transaction, ended, authorization_step, transaction_step, transaction_reply, dele_step, quit_step, step};
-ghost use Rattle.pop_session.specs.Replies.{reply_octets, AreFit, given_by, AreFitActs};
+ghost use Rattle.pop_session.specs.Machine.{transaction, ended, authorization_step, transaction_step, transaction_reply, dele_step, quit_step, step, acts_in};
+ghost use Rattle.pop_session.specs.Replies.{part_octets, reply_octets, AreFit, AreFitActs};
 ghost use Rattle.pop_session.specs.Session.{machine_of, turns_of, StandsFor, IsReady, HasRest, greeting, start_of, session_state};
 ghost use Rattle.pop_session.specs.States.{state_or_ended, state_of, KnowsState, Knows};
 
@@ -254,10 +254,11 @@ fn quit<V: Kind, W: Wire, J: Keeper>(
 ) -> Result<(), Fault>
     requires works { store.old.failed ≡ false }
     requires known { Knows store.old pop.state.maildrop.items }
-    ensures gives { (meanings : Meanings) → GivesOrFails (W.tells wire.old) (W.tells wire.new) result (reply_octets meanings (quit_step pop.state.maildrop.items).reply) }
-    ensures leaves { Leaves store.old store.new (J.tells keeper.old).octets (J.tells keeper.new).octets result (quit_step pop.state.maildrop.items).changes }
+    ensures does { (meanings : Meanings) → Does (part_octets meanings) (W.tells wire.old) (W.tells wire.new) store.old store.new
+        (J.tells keeper.old).octets (J.tells keeper.new).octets result (acts_in (quit_step pop.state.maildrop.items)) }
     ensures works { ¬ (result ≡ Err Fault.Keeper) → store.new.failed ≡ false }
     ensures limit { store.new.message_max ≡ store.old.message_max }
+    ensures name { name_of store.new.kept ≡ name_of store.old.kept }
     ensures cause { HasWireCause (W.tells wire.old) (W.tells wire.new) result Fault.Wire }
     ensures keeper { HasKeeperCause (J.tells keeper.old) (J.tells keeper.new) result Fault.Keeper }
 {
@@ -282,15 +283,15 @@ fn answer_transaction<V: Kind, W: Wire, J: Keeper>(
 ) -> Result<Option<PopState>, Fault>
     requires works { store.old.failed ≡ false }
     requires known { Knows store.old pop.state.maildrop.items }
-    ensures gives { WithMeanings (λ meanings. GivesOrFails (W.tells wire.old) (W.tells wire.new) result
-        (reply_octets meanings (transaction_step meanings V.mode pop.state.maildrop.items store.old command.entry.keyword (option_copied command.entry.argument)).reply)) }
+    ensures does { WithMeanings (λ meanings. Does (part_octets meanings) (W.tells wire.old) (W.tells wire.new) store.old store.new
+        (J.tells keeper.old).octets (J.tells keeper.new).octets result
+        (acts_in (transaction_step meanings V.mode pop.state.maildrop.items store.old command.entry.keyword (option_copied command.entry.argument)))) }
     ensures fit { IfOk result (λ _. WithMeanings (λ meanings. AreFit meanings (transaction_step meanings V.mode pop.state.maildrop.items store.old command.entry.keyword (option_copied command.entry.argument)).reply)) }
     ensures next { IfOk result (λ next. WithMeanings (λ meanings. state_or_ended next ≡ (transaction_step meanings V.mode pop.state.maildrop.items store.old command.entry.keyword (option_copied command.entry.argument)).state)) }
-    ensures leaves { WithMeanings (λ meanings. Leaves store.old store.new (J.tells keeper.old).octets (J.tells keeper.new).octets result
-        (transaction_step meanings V.mode pop.state.maildrop.items store.old command.entry.keyword (option_copied command.entry.argument)).changes) }
     ensures known { IfOk result (λ next. KnowsState store.new (state_or_ended next)) }
     ensures works { ¬ (result ≡ Err Fault.Keeper) → store.new.failed ≡ false }
     ensures limit { store.new.message_max ≡ store.old.message_max }
+    ensures name { name_of store.new.kept ≡ name_of store.old.kept }
     ensures cause { HasWireCause (W.tells wire.old) (W.tells wire.new) result Fault.Wire }
     ensures keeper { HasKeeperCause (J.tells keeper.old) (J.tells keeper.new) result Fault.Keeper }
 {
@@ -328,15 +329,14 @@ fn answer<W: Wire, J: Keeper>(
     requires line { 2 ≤ length line.now }
     requires works { store.old.failed ≡ false }
     requires known { KnowsState store.old (state_of state) }
-    ensures gives { WithMeanings (λ meanings. GivesOrFails (W.tells wire.old) (W.tells wire.new) result
-        (reply_octets meanings (step meanings (state_of state) store.old (command_of line.now)).reply)) }
+    ensures does { WithMeanings (λ meanings. Does (part_octets meanings) (W.tells wire.old) (W.tells wire.new) store.old store.new
+        (J.tells keeper.old).octets (J.tells keeper.new).octets result (acts_in (step meanings (state_of state) store.old (command_of line.now)))) }
     ensures fit { IfOk result (λ _. WithMeanings (λ meanings. AreFit meanings (step meanings (state_of state) store.old (command_of line.now)).reply)) }
     ensures next { IfOk result (λ next. WithMeanings (λ meanings. state_or_ended next ≡ (step meanings (state_of state) store.old (command_of line.now)).state)) }
-    ensures leaves { WithMeanings (λ meanings. Leaves store.old store.new (J.tells keeper.old).octets (J.tells keeper.new).octets result
-        (step meanings (state_of state) store.old (command_of line.now)).changes) }
     ensures known { IfOk result (λ next. KnowsState store.new (state_or_ended next)) }
     ensures works { ¬ (result ≡ Err Fault.Keeper) → store.new.failed ≡ false }
     ensures limit { store.new.message_max ≡ store.old.message_max }
+    ensures name { name_of store.new.kept ≡ name_of store.old.kept }
     ensures cause { HasWireCause (W.tells wire.old) (W.tells wire.new) result Fault.Wire }
     ensures keeper { HasKeeperCause (J.tells keeper.old) (J.tells keeper.new) result Fault.Keeper }
 {
@@ -379,17 +379,17 @@ fn feed_open<W: Wire, J: Keeper>(
 ) -> Result<PopSession, Fault>
     requires works { store.old.failed ≡ false }
     requires ready { IsReady (PopSession.Open reading) store.old }
-    ensures gives { WithMeanings (λ meanings. GivesOrFails (W.tells wire.old) (W.tells wire.new) result
-        (given_by meanings (turns_of meanings (machine_of (PopSession.Open reading) store.old) (reading.kept ++ piece.now)).parts)) }
+    ensures does { WithMeanings (λ meanings. Does (part_octets meanings) (W.tells wire.old) (W.tells wire.new) store.old store.new
+        (J.tells keeper.old).octets (J.tells keeper.new).octets result
+        (turns_of meanings (machine_of (PopSession.Open reading) store.old) (reading.kept ++ piece.now)).parts) }
     ensures fit { IfOk result (λ _. WithMeanings (λ meanings.
         AreFitActs meanings (turns_of meanings (machine_of (PopSession.Open reading) store.old) (reading.kept ++ piece.now)).parts)) }
     ensures stands { IfOk result (λ session. WithMeanings (λ meanings.
         StandsFor session store.new (turns_of meanings (machine_of (PopSession.Open reading) store.old) (reading.kept ++ piece.now)))) }
-    ensures leaves { WithMeanings (λ meanings. Leaves store.old store.new (J.tells keeper.old).octets (J.tells keeper.new).octets result
-        (changes_in (turns_of meanings (machine_of (PopSession.Open reading) store.old) (reading.kept ++ piece.now)).parts)) }
     ensures ready { IfOk result (λ session. IsReady session store.new) }
     ensures works { ¬ (result ≡ Err Fault.Keeper) → store.new.failed ≡ false }
     ensures limit { store.new.message_max ≡ store.old.message_max }
+    ensures name { name_of store.new.kept ≡ name_of store.old.kept }
     ensures cause { HasWireCause (W.tells wire.old) (W.tells wire.new) result Fault.Wire }
     ensures keeper { HasKeeperCause (J.tells keeper.old) (J.tells keeper.new) result Fault.Keeper }
 {
@@ -460,22 +460,19 @@ impl PopSession {
         requires works { store.old.failed ≡ false }
         requires ready { IsReady self store.old }
 
-        // Whatever the rest is that the session stands for: the machine's turns over it and the piece are what is given,
-        // and after a fault a prefix of that. The session that is left stands for what follows.
-        ensures gives { WithMeanings (λ meanings. (rest : List ℕ) → HasRest self rest →
-            GivesOrFails (W.tells wire.old) (W.tells wire.new) result
-            (given_by meanings (turns_of meanings (machine_of self store.old) (rest ++ piece.now)).parts)) }
+        // Whatever the rest is that the session stands for: the acts of the machine's turns over it and the piece are done; after
+        // a fault the first of them, in their order. The session that is left stands for what follows.
+        ensures does { WithMeanings (λ meanings. (rest : List ℕ) → HasRest self rest →
+            Does (part_octets meanings) (W.tells wire.old) (W.tells wire.new) store.old store.new
+            (J.tells keeper.old).octets (J.tells keeper.new).octets result
+            (turns_of meanings (machine_of self store.old) (rest ++ piece.now)).parts) }
         ensures stands { IfOk result (λ session. WithMeanings (λ meanings. (rest : List ℕ) → HasRest self rest →
             StandsFor session store.new (turns_of meanings (machine_of self store.old) (rest ++ piece.now)))) }
         ensures ready { IfOk result (λ session. IsReady session store.new) }
 
-        // The changes of these turns are made in the store and in the journal; after a fault the first of them, and after
-        // one of the keeper a prefix of the next one's records is in the journal.
-        ensures leaves { WithMeanings (λ meanings. (rest : List ℕ) → HasRest self rest →
-            Leaves store.old store.new (J.tells keeper.old).octets (J.tells keeper.new).octets result
-            (changes_in (turns_of meanings (machine_of self store.old) (rest ++ piece.now)).parts)) }
         ensures works { ¬ (result ≡ Err Fault.Keeper) → store.new.failed ≡ false }
         ensures limit { store.new.message_max ≡ store.old.message_max }
+        ensures name { name_of store.new.kept ≡ name_of store.old.kept }
 
         // Each line is ASCII, and to a legacy session each header is.
         ensures fit { IfOk result (λ _. WithMeanings (λ meanings. (rest : List ℕ) → HasRest self rest →

@@ -1,6 +1,7 @@
 use Rattle.std.proofs.Common.{◌≡◌, ◌++◌, length, false}
 use Rattle.mail_wire.specs.Framing.{next_line, waiting}
 use Rattle.mail_wire.specs.Moves.{GoesOn}
+use Rattle.mail_store.specs.Kept.{name_of}
 use Rattle.surrogate_cache.specs.Served.{WithMeanings}
 use Rattle.pop_session.specs.States.{state_of, KnowsState}
 use Rattle.pop_session.proofs.FeedLemmas.{Served, KeepsOn}
@@ -18,6 +19,7 @@ invariant-loop-end g l = record {
   known : KnowsState l.store (state_of l.state);
   works : l.store.failed ≡ false;
   limit : l.store.message_max ≡ l.initial.store.message_max;
+  name : name_of l.store.kept ≡ name_of l.initial.store.kept;
 }
 
 abbrev pub decreases-loop-end : goal.decreases-loop-end
