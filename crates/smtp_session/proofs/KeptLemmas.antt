@@ -1,0 +1,437 @@
+-- What is kept of a message.
+use Rattle.std.proofs.Common.{◌≡◌, ℕ, zero, suc, ◌+◌, ◌-◌, ◌/◌, ◌%◌, ◌<◌, ◌≤◌, ◌==◌, Bool, true, false, ◌&&◌, cond, List, [], ◌∷◌, ◌++◌, length, take, Option, Some, None, refl, sym, ◌∙◌, subst, arith, inl, inr}
+use Rattle.std.specs.Prelude.{nat_le, nat_lt, nat_eq, codes, not, slice_index_or, slice_range, IfSome}
+use Rattle.std.specs.List.{AllByRecursion, list_all, list_any}
+use Rattle.std.specs.Str.{IsAscii, IsUtf8}
+use Rattle.std.proofs.lemmas.Bool.{and_parts, and_from}
+use Rattle.std.proofs.lemmas.Bool.Decides.{nat_tests}
+use Rattle.std.proofs.lemmas.List.{append-nil}
+use Rattle.std.proofs.lemmas.List.Elements.{All-from_recursion}
+use Rattle.std.proofs.lemmas.List.Folds.{list_all-append}
+use Rattle.std.proofs.lemmas.Str.{IsUtf8-append, IsUtf8-from_ascii}
+use Rattle.std.proofs.lemmas.Str.Ascii.{IsAscii-cons, IsAscii-nil}
+use Rattle.ace_domains.specs.Domains.{is_name_octet as is_domain_octet}
+use Rattle.ace_domains.proofs.FormLemmas.{form_name}
+use Rattle.address_lists.specs.declared.Address.{Address}
+use Rattle.address_lists.specs.Addresses.{address_text}
+use Rattle.address_lists.specs.Paths.{ComesInPath, in_angles}
+use Rattle.address_lists.proofs.WritingLemmas.{path_again}
+use Rattle.mail_wire.specs.Dates.{IsDateText, IsInternalDate}
+use Rattle.mail_wire.specs.Lines.{crlf}
+use Rattle.mail_wire.specs.Octets.{is_line_end, same_name}
+use Rattle.mail_wire.proofs.Folded.{IsFolded-plain}
+use Rattle.mime_tree.specs.Openings.{IsOtherField}
+use Rattle.mime_tree.proofs.FieldLines.{is_safe, no_nul_in_safe}
+use Rattle.mime_tree.proofs.KeptTrees.{fields_before}
+use Rattle.mail_store.specs.Changing.{IsDeliverable, IsSendable}
+use Rattle.mail_store.specs.Grammar.{IsDate, is_digit, date_shape, fits_letter, months}
+use Rattle.mail_store.specs.Kept.{name_of}
+use Rattle.mail_store.specs.Stored.{IsStored}
+use Rattle.mail_store.specs.StoreState.{StoreState}
+use Rattle.smtp_session.specs.Commands.{is_client, is_client_octet}
+use Rattle.smtp_session.specs.Data.{Moment, IsMoment, protocol, received, return_path}
+use Rattle.smtp_session.specs.Machine.{delivery_of, trace}
+use Rattle.smtp_session.specs.Session.{IsName, Knows}
+use Rattle.smtp_session.specs.declared.states.Client.{Client}
+use Rattle.smtp_session.specs.declared.states.Envelope.{Envelope}
+
+-- ---- dates
+
+-- the days of the week
+abbrev days : List (List ℕ)
+days = codes "Mon" ∷ codes "Tue" ∷ codes "Wed" ∷ codes "Thu" ∷ codes "Fri" ∷ codes "Sat" ∷ codes "Sun" ∷ []
+
+-- the three letters of a day, of which Monday is the first
+abbrev day_letters : ℕ → List ℕ
+day_letters n = slice_index_or days (n - 1) []
+
+-- the three letters of a month
+abbrev month_letters : ℕ → List ℕ
+month_letters n = slice_index_or months (n - 1) []
+
+-- three octets
+record IsThree (text : List ℕ) : Type 0 where
+  a : ℕ
+  b : ℕ
+  c : ℕ
+  is : text ≡ a ∷ b ∷ c ∷ []
+
+-- three octets that name a month
+record IsMonth (text : List ℕ) : Type 0 where
+  three : IsThree text
+  listed : list_any (λ month. same_name month text) months ≡ true
+
+-- three letters are three octets
+three : (a b c : ℕ) → IsThree (a ∷ b ∷ c ∷ [])
+three a b c = record { a = a; b = b; c = c; is = refl }
+
+-- and name a month, where the test says so
+month : (a b c : ℕ) → list_any (λ month. same_name month (a ∷ b ∷ c ∷ [])) months ≡ true → IsMonth (a ∷ b ∷ c ∷ [])
+month a b c listed = record { three = three a b c; listed = listed }
+
+-- a day's name has three letters
+days_three : AllByRecursion IsThree days
+days_three = (three 77 111 110, (three 84 117 101, (three 87 101 100, (three 84 104 117, (three 70 114 105, (three 83 97 116, (three 83 117 110, tt)))))))
+
+-- a month's name is one
+months_three : AllByRecursion IsMonth months
+unfolding same_name
+months_three = (month 74 97 110 refl, (month 70 101 98 refl, (month 77 97 114 refl, (month 65 112 114 refl, (month 77 97 121 refl, (month 74 117 110 refl, (month 74 117 108 refl, (month 65 117 103 refl, (month 83 101 112 refl, (month 79 99 116 refl, (month 78 111 118 refl, (month 68 101 99 refl, tt))))))))))))
+
+-- the day of a number has three letters
+day_three : (n : ℕ) → 1 ≤ n → n ≤ 7 → IsThree (day_letters n)
+day_three n some small = All-from_recursion IsThree days days_three (n - 1) [] (omega arith)
+
+-- the month of a number is one
+month_three : (n : ℕ) → 1 ≤ n → n ≤ 12 → IsMonth (month_letters n)
+month_three n some small = All-from_recursion IsMonth months months_three (n - 1) [] (omega arith)
+
+-- each letter of a shape stands for the octet at its place
+abbrev FitEach : List ℕ → List ℕ → Type 0
+FitEach [] text = Unit {0}
+FitEach (letter ∷ letters) [] = ⊥
+FitEach (letter ∷ letters) (x ∷ text) = (fits_letter letter x ≡ true) × FitEach letters text
+
+-- and so it is place by place
+each_at : (letters text : List ℕ) → FitEach letters text → (at : ℕ) → at < length letters → fits_letter (slice_index_or letters at 0) (slice_index_or text at 0) ≡ true
+each_at [] text fit at within = absurd (omega arith)
+each_at (letter ∷ letters) [] fit at within = absurd fit
+each_at (letter ∷ letters) (x ∷ text) fit zero within = fit.0
+each_at (letter ∷ letters) (x ∷ text) fit (suc at) within = each_at letters text fit.1 at (omega (arith, within))
+
+-- a digit is one
+digit_is : (n : ℕ) → n < 10 → is_digit (48 + n) ≡ true
+digit_is n small = grind (arith, nat_tests)
+
+-- a digit fits
+digit : (n : ℕ) → n < 10 → fits_letter 57 (48 + n) ≡ true
+unfolding fits_letter
+digit n small = digit_is n small
+
+-- a digit fits where a space would, too
+first_digit : (n : ℕ) → n < 10 → fits_letter 100 (48 + n) ≡ true
+unfolding fits_letter
+first_digit n small = rw (digit_is n small) refl
+
+-- a number below 100, in two digits
+abbrev two_digits : ℕ → List ℕ
+two_digits n = (48 + n / 10) ∷ (48 + n % 10) ∷ []
+
+-- the text of a moment, with its zone
+abbrev moment_text : (day month : List ℕ) (d year hour min sec : ℕ) → List ℕ
+moment_text day month d year hour min sec =
+    day ++ codes ", " ++ two_digits d ++ codes " " ++ month ++ codes " " ++ (two_digits (year / 100) ++ two_digits (year % 100)) ++ codes " "
+    ++ (two_digits hour ++ codes ":" ++ two_digits min ++ codes ":" ++ two_digits sec) ++ codes " GMT"
+
+-- the date-time that is made of it
+abbrev internal_text : List ℕ → List ℕ
+internal_text text = slice_range text 5 7 ++ 45 ∷ (slice_range text 8 11 ++ 45 ∷ (slice_range text 12 25 ++ codes " +0000"))
+
+-- the numbers have so many digits
+record AreShort (d year hour min sec : ℕ) : Type 0 where
+  d_short : d < 100
+  year_short : year < 10000
+  hour_short : hour < 100
+  min_short : min < 100
+  sec_short : sec < 100
+
+-- a date-time of these letters and numbers
+letters_date : (a b c x y z d year hour min sec : ℕ) → AreShort d year hour min sec → list_any (λ month. same_name month (x ∷ y ∷ z ∷ [])) months ≡ true
+    → IsDate (internal_text (moment_text (a ∷ b ∷ c ∷ []) (x ∷ y ∷ z ∷ []) d year hour min sec))
+unfolding fits_letter
+letters_date a b c x y z d year hour min sec short listed =
+    let tens : (n : ℕ) → n < 100 → n / 10 < 10 = λ n small. omega arith in
+    let ones : (n : ℕ) → n % 10 < 10 = λ n. omega arith in
+    let hundreds : year / 100 < 100 = omega (arith, short.year_short) in
+    let rest : year % 100 < 100 = omega arith in
+    record {
+      len = refl;
+      shape = each_at date_shape (internal_text (moment_text (a ∷ b ∷ c ∷ []) (x ∷ y ∷ z ∷ []) d year hour min sec))
+          (first_digit (d / 10) (tens d short.d_short), (digit (d % 10) (ones d), (refl, (refl, (refl, (refl, (refl, (digit (year / 100 / 10) (tens (year / 100) hundreds), (digit (year / 100 % 10) (ones (year / 100)), (digit (year % 100 / 10) (tens (year % 100) rest), (digit (year % 100 % 10) (ones (year % 100)), (refl, (digit (hour / 10) (tens hour short.hour_short), (digit (hour % 10) (ones hour), (refl, (digit (min / 10) (tens min short.min_short), (digit (min % 10) (ones min), (refl, (digit (sec / 10) (tens sec short.sec_short), (digit (sec % 10) (ones sec), (refl, (refl, (refl, (refl, (refl, (refl, tt))))))))))))))))))))))))));
+      month = listed;
+    }
+
+-- and of names
+names_date : (day month : List ℕ) (d year hour min sec : ℕ) → IsThree day → IsMonth month → AreShort d year hour min sec → IsDate (internal_text (moment_text day month d year hour min sec))
+names_date day month d year hour min sec of_day of_month short =
+    rw (of_day.is, of_month.three.is) (letters_date of_day.a of_day.b of_day.c of_month.three.a of_month.three.b of_month.three.c d year hour min sec short (rw of_month.three.is at of_month.listed))
+
+-- no month has more than 31 days
+day_short : (d : ℕ) (a b c : Bool) → d ≤ cond a (cond b 29 28) (cond c 30 31) → d < 100
+day_short d true true c within = omega arith
+day_short d true false c within = omega arith
+day_short d false b true within = omega arith
+day_short d false b false within = omega arith
+
+-- the numbers of a date are short
+numbers_short : (d year hour min sec : ℕ) (a b c : Bool) → d ≤ cond a (cond b 29 28) (cond c 30 31) → year ≤ 9999 → hour < 24 → min < 60 → sec < 60 → AreShort d year hour min sec
+numbers_short d year hour min sec a b c of_month of_year of_hour of_min of_sec = record {
+  d_short = day_short d a b c of_month;
+  year_short = omega arith;
+  hour_short = omega arith;
+  min_short = omega arith;
+  sec_short = omega arith;
+}
+
+-- the date-time of a moment is one of RFC 3501
+pub kept-date : (seconds : ℕ) (text : List ℕ) → IsInternalDate seconds text → IsDate text
+kept-date seconds text p =
+    let date = p.date in
+    let parts = date.parts in
+    rw p.spelled (names_date (day_letters parts.wday) (month_letters parts.mon) parts.day parts.year parts.hour parts.min parts.sec
+    (day_three parts.wday (omega (arith, date.right_day)) (omega (arith, date.right_day))) (month_three parts.mon date.civil.1.0 date.civil.1.1) (numbers_short parts.day parts.year parts.hour parts.min parts.sec _ _ _ date.civil.2.1 date.civil.0.1 date.time.0 date.time.1 date.time.2))
+
+-- ---- the octets of a field
+
+-- a space or a printed octet of ASCII
+abbrev is_printed : ℕ → Bool
+is_printed x = nat_le 32 x && nat_le x 126
+
+-- an octet other than NUL, CR and LF
+abbrev is_plain : ℕ → Bool
+is_plain x = not (x == 0) && not (is_line_end x)
+
+-- all of these octets
+record IsPrinted (text : List ℕ) : Type 0 where
+  octets : list_all is_printed text ≡ true
+
+-- UTF-8 without NUL, CR and LF
+record IsPlain (text : List ℕ) : Type 0 where
+  utf8 : IsUtf8 text
+  octets : list_all is_plain text ≡ true
+
+-- two texts of octets that pass a test
+both_pass : (p : ℕ → Bool) (xs ys : List ℕ) → list_all p xs ≡ true → list_all p ys ≡ true → list_all p (xs ++ ys) ≡ true
+both_pass p xs ys first second = list_all-append p xs ys ∙ and_from (list_all p xs) (list_all p ys) first second
+
+-- octets that pass a test pass a weaker one
+weaker : (p q : ℕ → Bool) → ((x : ℕ) → p x ≡ true → q x ≡ true) → (xs : List ℕ) → list_all p xs ≡ true → list_all q xs ≡ true
+weaker p q each [] all = refl
+weaker p q each (x ∷ xs) all =
+    let parts = and_parts (p x) (list_all p xs) all in
+    and_from (q x) (list_all q xs) (each x parts.0) (weaker p q each xs parts.1)
+
+-- the first of octets that pass a test
+first_pass : (p : ℕ → Bool) (n : ℕ) (xs : List ℕ) → list_all p xs ≡ true → list_all p (take n xs) ≡ true
+first_pass p zero xs all = refl
+first_pass p (suc n) [] all = refl
+first_pass p (suc n) (x ∷ xs) all =
+    let parts = and_parts (p x) (list_all p xs) all in
+    and_from (p x) (list_all p (take n xs)) parts.0 (first_pass p n xs parts.1)
+
+-- a printed octet is plain
+printed_plain : (x : ℕ) → is_printed x ≡ true → is_plain x ≡ true
+printed_plain x printed = grind (arith, nat_tests)
+
+-- a printed octet is ASCII
+printed_ascii : (x : ℕ) → is_printed x ≡ true → x < 128
+printed_ascii x printed = grind (arith, nat_tests)
+
+-- a plain octet ends no line
+plain_inside : (x : ℕ) → is_plain x ≡ true → not (is_line_end x) ≡ true
+plain_inside x plain = (and_parts (not (x == 0)) (not (is_line_end x)) plain).1
+
+-- a plain octet is no NUL
+plain_safe : (x : ℕ) → is_plain x ≡ true → is_safe x ≡ true
+plain_safe x plain = (and_parts (not (x == 0)) (not (is_line_end x)) plain).0
+
+-- printed octets are ASCII
+all_ascii : (text : List ℕ) → list_all is_printed text ≡ true → IsAscii text
+all_ascii [] printed = IsAscii-nil
+all_ascii (x ∷ text) printed =
+    let parts = and_parts (is_printed x) (list_all is_printed text) printed in
+    IsAscii-cons x text (printed_ascii x parts.0) (all_ascii text parts.1)
+
+-- a printed text is plain
+plain_text : (text : List ℕ) → IsPrinted text → IsPlain text
+plain_text text is = record { utf8 = IsUtf8-from_ascii text (all_ascii text is.octets); octets = weaker is_printed is_plain printed_plain text is.octets }
+
+-- texts that are printed, one behind another
+behind : {xs ys : List ℕ} → IsPrinted xs → IsPrinted ys → IsPrinted (xs ++ ys)
+behind {xs} {ys} first second = record { octets = both_pass is_printed xs ys first.octets second.octets }
+
+-- the first octets of a printed text
+printed_first : {xs : List ℕ} → (n : ℕ) → IsPrinted xs → IsPrinted (take n xs)
+printed_first {xs} n all = record { octets = first_pass is_printed n xs all.octets }
+
+-- a text of which the test says it
+printed : (text : List ℕ) → list_all is_printed text ≡ true → IsPrinted text
+printed text is = record { octets = is }
+
+-- ---- what a field's line asks
+
+-- an octet of a field's name
+abbrev is_name_octet : ℕ → Bool
+is_name_octet x = nat_le 33 x && nat_le x 126 && not (nat_eq x 58)
+
+-- a name that says nothing of how an entity is opened
+record IsOtherName (name : List ℕ) : Type 0 where
+  some : 0 < length name
+  octets : list_all is_name_octet name ≡ true
+  printed : IsPrinted name
+  no_type : same_name name (codes "Content-Type") ≡ false
+  no_encoding : same_name name (codes "Content-Transfer-Encoding") ≡ false
+
+-- such a name with a plain body is another field
+other_field : (name body : List ℕ) → IsOtherName name → IsPlain body → IsOtherField (name ++ 58 ∷ (body ++ crlf))
+other_field name body named plain = record {
+  f = record { name = name; white = []; body = body; ending = crlf };
+  is_field = record {
+    spelled = refl;
+    named = named.some;
+    name = named.octets;
+    white = refl;
+    body = IsFolded-plain body (weaker is_plain (λ x. not (is_line_end x)) plain_inside body plain.octets);
+    utf8 = plain.utf8;
+    ending = inr refl;
+  };
+  ending = refl;
+  no_nul = no_nul_in_safe (name ++ 58 ∷ (body ++ crlf))
+      (both_pass is_safe name (58 ∷ (body ++ crlf)) (weaker is_plain is_safe plain_safe name (plain_text name named.printed).octets)
+      (both_pass is_safe body crlf (weaker is_plain is_safe plain_safe body plain.octets) refl));
+  no_type = named.no_type;
+  no_encoding = named.no_encoding;
+}
+
+-- ---- Return-Path
+
+-- the name of Return-Path is another one
+return_path_name : IsOtherName (codes "Return-Path")
+unfolding same_name
+return_path_name = record { some = omega arith; octets = refl; printed = printed (codes "Return-Path") refl; no_type = refl; no_encoding = refl }
+
+-- the field of a path is another field
+pub return_path-other : (path : Option Address) → IfSome path ComesInPath → IsOtherField (return_path path)
+return_path-other None comes = other_field (codes "Return-Path") (codes " <>") return_path_name (plain_text (codes " <>") (printed (codes " <>") refl))
+return_path-other (Some address) comes =
+    let text = in_angles (address_text address) in
+    let line = (path_again address comes).has_tokens.is_line in
+    let space = plain_text (32 ∷ []) (printed (32 ∷ []) refl) in
+    other_field (codes "Return-Path") (32 ∷ text) return_path_name (record { utf8 = IsUtf8-append (32 ∷ []) text space.utf8 line.utf8; octets = line.plain })
+
+-- ---- Received
+
+-- the name of Received is another one
+received_name : IsOtherName (codes "Received")
+unfolding same_name
+received_name = record { some = omega arith; octets = refl; printed = printed (codes "Received") refl; no_type = refl; no_encoding = refl }
+
+-- an octet of a client's name is printed
+client_octet : (x : ℕ) → is_client_octet x ≡ true → is_printed x ≡ true
+client_octet x is = grind (arith, nat_tests)
+
+-- a client's name is printed
+client_printed : (client : List ℕ) → is_client client ≡ true → IsPrinted client
+client_printed client is =
+    let parts = and_parts (nat_lt 0 (length client) && nat_le (length client) 255) (list_all is_client_octet client) is in
+    record { octets = weaker is_client_octet is_printed client_octet client parts.1 }
+
+-- an octet of a normal form is printed
+domain_octet : (x : ℕ) → is_domain_octet x ≡ true → is_printed x ≡ true
+domain_octet x is = grind (arith, nat_tests)
+
+-- and so is a store's
+name_printed : (name : List ℕ) → IsName name → IsPrinted name
+name_printed name (inl form) = record { octets = weaker is_domain_octet is_printed domain_octet name (form_name name name form).octets }
+name_printed name (inr local) = subst IsPrinted (sym local) (printed (codes "localhost") refl)
+
+-- the protocol is printed
+protocol_printed : (smtputf8 extended : Bool) → IsPrinted (protocol smtputf8 extended)
+protocol_printed true extended = printed (codes "UTF8SMTP") refl
+protocol_printed false true = printed (codes "ESMTP") refl
+protocol_printed false false = printed (codes "SMTP") refl
+
+-- the letters of days are printed
+days_printed : AllByRecursion IsPrinted days
+days_printed = (printed (codes "Mon") refl, (printed (codes "Tue") refl, (printed (codes "Wed") refl, (printed (codes "Thu") refl, (printed (codes "Fri") refl, (printed (codes "Sat") refl, (printed (codes "Sun") refl, tt)))))))
+
+-- and those of months
+months_printed : AllByRecursion IsPrinted months
+months_printed = (printed (codes "Jan") refl, (printed (codes "Feb") refl, (printed (codes "Mar") refl, (printed (codes "Apr") refl, (printed (codes "May") refl, (printed (codes "Jun") refl, (printed (codes "Jul") refl, (printed (codes "Aug") refl, (printed (codes "Sep") refl, (printed (codes "Oct") refl, (printed (codes "Nov") refl, (printed (codes "Dec") refl, tt))))))))))))
+
+-- those of the day of a number
+day_printed : (n : ℕ) → 1 ≤ n → n ≤ 7 → IsPrinted (day_letters n)
+day_printed n some small = All-from_recursion IsPrinted days days_printed (n - 1) [] (omega arith)
+
+-- and of the month of a number
+month_printed : (n : ℕ) → 1 ≤ n → n ≤ 12 → IsPrinted (month_letters n)
+month_printed n some small = All-from_recursion IsPrinted months months_printed (n - 1) [] (omega arith)
+
+-- a digit is printed
+printed_digit : (n : ℕ) → n < 10 → is_printed (48 + n) ≡ true
+printed_digit n small = grind (arith, nat_tests)
+
+-- two digits are
+two_printed : (n : ℕ) → n < 100 → IsPrinted (two_digits n)
+two_printed n small =
+    record { octets = and_from (is_printed (48 + n / 10)) (list_all is_printed ((48 + n % 10) ∷ [])) (printed_digit (n / 10) (omega arith)) (and_from (is_printed (48 + n % 10)) true (printed_digit (n % 10) (omega arith)) refl) }
+
+-- the text of a moment is printed
+moment_printed : (day month : List ℕ) (d year hour min sec : ℕ) → IsPrinted day → IsPrinted month → AreShort d year hour min sec → IsPrinted (moment_text day month d year hour min sec)
+moment_printed day month d year hour min sec of_day of_month short =
+    let space = printed (codes " ") refl in
+    let colon = printed (codes ":") refl in
+    let numbers = two_printed d short.d_short in
+    let years = behind (two_printed (year / 100) (omega (arith, short.year_short))) (two_printed (year % 100) (omega arith)) in
+    let times = behind (behind (behind (behind (two_printed hour short.hour_short) colon) (two_printed min short.min_short)) colon) (two_printed sec short.sec_short) in
+    behind (behind (behind (behind (behind (behind (behind (behind (behind of_day (printed (codes ", ") refl)) numbers) space) of_month) space) years) space) times) (printed (codes " GMT") refl)
+
+-- so is that of a field
+date_printed : (seconds : ℕ) (text : List ℕ) → IsDateText seconds text → IsPrinted text
+date_printed seconds text p =
+    let date = p.date in
+    let parts = date.parts in
+    let all = moment_printed (day_letters parts.wday) (month_letters parts.mon) parts.day parts.year parts.hour parts.min parts.sec
+    (day_printed parts.wday (omega (arith, date.right_day)) (omega (arith, date.right_day))) (month_printed parts.mon date.civil.1.0 date.civil.1.1) (numbers_short parts.day parts.year parts.hour parts.min parts.sec _ _ _ date.civil.2.1 date.civil.0.1 date.time.0 date.time.1 date.time.2) in
+    rw p.spelled (behind (printed_first 26 all) (printed (codes "+0000") refl))
+
+-- the field of where a message came from is another field
+pub received-other : (client name date : List ℕ) (seconds : ℕ) → is_client client ≡ true → IsName name → IsDateText seconds date → (smtputf8 extended : Bool)
+    → IsOtherField (received client name (protocol smtputf8 extended) date)
+received-other client name date seconds of_client of_name of_date smtputf8 extended =
+    let way = protocol smtputf8 extended in
+    let front = behind (printed (codes " from ") refl) (client_printed client of_client) in
+    let by_name = behind (behind front (printed (codes " by ") refl)) (name_printed name of_name) in
+    let by_way = behind (behind by_name (printed (codes " with ") refl)) (protocol_printed smtputf8 extended) in
+    let all = behind (behind by_way (printed (codes "; ") refl)) (date_printed seconds date of_date) in
+    let body : List ℕ = codes " from " ++ client ++ codes " by " ++ name ++ codes " with " ++ way ++ codes "; " ++ date in
+    other_field (codes "Received") body received_name (plain_text body all)
+
+-- ---- what is kept
+
+-- octets that may be kept may be kept behind another field
+behind_field : (field octets : List ℕ) → IsOtherField field → IsStored octets → IsStored (field ++ octets)
+behind_field field octets other stored =
+    let found = fields_before octets (field ∷ []) stored.entities stored.tree (All-from_recursion IsOtherField (field ∷ []) (other, tt)) in
+    record { entities = found.0; tree = rw (append-nil field) at found.1 }
+
+-- what waits for others may be kept
+pub kept-stored : (client name date octets : List ℕ) (seconds : ℕ) → is_client client ≡ true → IsName name → IsDateText seconds date → IsStored octets → (smtputf8 extended : Bool)
+    → IsStored (received client name (protocol smtputf8 extended) date ++ octets)
+kept-stored client name date octets seconds of_client of_name of_date stored smtputf8 extended =
+    behind_field (received client name (protocol smtputf8 extended) date) octets (received-other client name date seconds of_client of_name of_date smtputf8 extended) stored
+
+-- and what local accounts get
+pub kept-with_path : (path : Option Address) (octets : List ℕ) → IfSome path ComesInPath → IsStored octets → IsStored (return_path path ++ octets)
+kept-with_path path octets comes stored = behind_field (return_path path) octets (return_path-other path comes) stored
+
+-- an address that may be sent to stands in some path
+path_comes : (path : Option Address) → IfSome path IsSendable → IfSome path ComesInPath
+path_comes None sendable = sendable
+path_comes (Some address) sendable = sendable.0
+
+-- what the end of data keeps may be delivered
+pub delivery-deliverable : (store : StoreState) (client : Client) (envelope : Envelope) (moment : Moment) (octets : List ℕ) (seconds : ℕ)
+    → Knows store envelope → is_client client.name ≡ true → IsName (name_of store.kept) → IsMoment seconds moment → IsStored octets
+    → IsDeliverable store (delivery_of store client envelope moment octets)
+delivery-deliverable store client envelope moment octets seconds knows of_client of_name of_moment stored =
+    let remote = kept-stored client.name (name_of store.kept) moment.date octets seconds of_client of_name of_moment.date stored envelope.smtputf8 client.extended in
+    record {
+      known = knows.local;
+      dated = kept-date seconds moment.internal of_moment.internal;
+      local_tree = kept-with_path envelope.path (trace store client envelope moment ++ octets) (path_comes envelope.path knows.path) remote;
+      remote_tree = remote;
+      path = knows.path;
+      addresses = knows.remote;
+      few = omega (arith, knows.few);
+    }

@@ -1,0 +1,16 @@
+pub mod ReplyLemmas
+pub mod FitLemmas
+pub mod RecipientLemmas
+pub mod RowLemmas
+pub mod DataLemmas
+pub mod FindingEnd
+pub mod UnstuffingLemmas
+pub mod TreeLemmas
+pub mod PathLemmas
+pub mod ParameterLemmas
+pub mod FeedLemmas
+pub mod LineSteps
+pub mod DroppedLemmas
+pub mod DataSteps
+pub mod KeptLemmas
+pub mod EndLemmas

@@ -1,0 +1,27 @@
+-- Whether octets may be kept is told.
+use Rattle.std.proofs.Common.{ℕ, List, Bool, true, false, rules, ◌⊎◌, inl, inr}
+use Rattle.std.specs.Prelude.{IsTrue, ◌↔◌}
+use Rattle.mime_tree.specs.declared.entity.Entity.{Entity}
+use Rattle.mime_tree.specs.Tree.{HasTree}
+use Rattle.mime_tree.proofs.DecidingTrees.{decide_tree}
+use Rattle.mail_store.specs.Stored.{IsStored}
+use Rattle.smtp_session.specs.Data.{TellsTrees}
+
+-- octets have a tree of entities, or none
+abbrev Decided : List ℕ → Type 0
+Decided octets = ((entities : List Entity) × HasTree octets entities) ⊎ ((entities : List Entity) → ¬ HasTree octets entities)
+
+-- whether there is a tree
+told : (octets : List ℕ) → Decided octets → Bool
+told octets (inl tree) = true
+told octets (inr none) = false
+
+-- which tells whether the octets may be kept
+told_is : (octets : List ℕ) (decided : Decided octets) → IsTrue (told octets decided) ↔ IsStored octets
+unfolding told
+told_is octets (inl tree) = (λ is. record { entities = tree.0; tree = tree.1 }, λ stored. search rules)
+told_is octets (inr none) = (λ is. absurd (search rules), λ stored. absurd (none stored.entities stored.tree))
+
+-- some function tells which octets have a tree of entities
+pub trees_told : (has_tree : List ℕ → Bool) × TellsTrees has_tree
+trees_told = (λ octets. told octets (decide_tree octets), λ octets. told_is octets (decide_tree octets))

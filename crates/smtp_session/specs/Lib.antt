@@ -1,0 +1,5 @@
+pub mod Commands
+pub mod Data
+pub mod Machine
+pub mod Session
+pub mod Steps

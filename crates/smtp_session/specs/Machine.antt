@@ -1,0 +1,228 @@
+-- The SMTP machine (RFC 5321, 4; RFC 6531, 3).
+use Rattle.std.specs.Prelude.{◌≡◌, ℕ, ◌+◌, ◌++◌, ◌==◌, ◌&&◌, ◌||◌, not, List, [], ◌∷◌, Bool, true, false, Option, None, Some, length, codes, nat_lt, nat_le, is_some, sum_by, option_and_then, decimal, if◌then◌else◌}
+use Rattle.std.specs.List.{list_any, list_all}
+use Rattle.std.specs.Str.{bytes_eq}
+use Rattle.address_lists.specs.declared.Address.{Address}
+use Rattle.mail_wire.specs.Octets.{is_ascii}
+use Rattle.mail_store.specs.Acts.{Act, acts_of}
+use Rattle.mail_store.specs.Addresses.{is_same_domain}
+use Rattle.mail_store.specs.Changing.{path_text, delivered, delivery_refusal, has_large_octets}
+use Rattle.mail_store.specs.Kept.{Kept, find_account, is_local, name_of}
+use Rattle.mail_store.specs.StoreState.{StoreState}
+use Rattle.mail_store.specs.declared.delivery.Delivery.{Delivery}
+use Rattle.mail_store.specs.declared.limits.TheConstants.{RECIPIENTS_MAX, TEXT_MAX}
+use Rattle.mail_store.specs.declared.records.Record.{Record}
+use Rattle.smtp_session.specs.declared.command.Verb.{Verb}
+use Rattle.smtp_session.specs.declared.command.Verb.TheVariants as verb
+use Rattle.smtp_session.specs.declared.states.Client.{Client}
+use Rattle.smtp_session.specs.declared.states.Envelope.{Envelope}
+use Rattle.smtp_session.specs.Commands.{Command, PathAndRest, is_client, path_behind, words_of, parameter_of, are_malformed, is_unknown, is_smtputf8, announced}
+use Rattle.smtp_session.specs.Data.{Moment, protocol, return_path, received}
+
+-- ---- what is taken from other definitions
+
+-- what a text says that may be a path, and whether octets have a tree of entities
+pub record Readings : Type 0 where
+  pub path_of : List ℕ → Option (Option Address)
+  pub has_tree : List ℕ → Bool
+
+-- ---- states and steps
+
+pub data State : Type 0 where
+  -- nobody has greeted
+  fresh : State
+  greeted : (client : Client) → State
+  -- MAIL was accepted, and these recipients
+  mail : (client : Client) (envelope : Envelope) → State
+  -- DATA was accepted
+  collecting : (client : Client) (envelope : Envelope) → State
+  ended : State
+
+-- What a command or the end of data does: the changes that it makes of the store, the records of one call each; the lines of its
+-- reply, each without its CRLF; and the state behind it.
+pub record Step : Type 0 where
+  pub changes : List (List Record)
+  pub reply : List (List ℕ)
+  pub state : State
+
+-- its changes, and then its reply
+abbrev pub acts_in : Step → List (Act (List ℕ))
+acts_in taken = acts_of taken.changes taken.reply
+
+-- a reply, and nothing is changed
+abbrev pub answers : List (List ℕ) → State → Step
+answers reply state = record { changes = []; reply = reply; state = state }
+
+abbrev pub says : List ℕ → State → Step
+says text state = answers (text ∷ []) state
+
+abbrev pub ok : State → Step
+ok state = says (codes "250 2.0.0 ok") state
+
+abbrev pub bad_argument : State → Step
+bad_argument state = says (codes "501 5.5.4 bad argument") state
+
+abbrev pub out_of_order : State → Step
+out_of_order state = says (codes "503 5.5.1 out of order") state
+
+abbrev pub needs_smtputf8 : State → Step
+needs_smtputf8 state = says (codes "553 5.6.7 address needs SMTPUTF8") state
+
+abbrev pub too_large : State → Step
+too_large state = says (codes "552 5.3.4 too large") state
+
+-- ---- EHLO and HELO
+
+abbrev pub offers : StoreState → List (List ℕ)
+offers store = (codes "250-" ++ name_of store.kept) ∷ codes "250-8BITMIME" ∷ (codes "250-SIZE " ++ decimal store.message_max)
+    ∷ codes "250-SMTPUTF8" ∷ codes "250 ENHANCEDSTATUSCODES" ∷ []
+
+abbrev pub client_of : List ℕ → Bool → Client
+client_of name extended = record { name = name; extended = extended }
+
+abbrev pub ehlo_step : State → StoreState → List ℕ → Step
+ehlo_step state store name = if is_client name then answers (offers store) (greeted (client_of name true)) else bad_argument state
+
+abbrev pub helo_step : State → StoreState → List ℕ → Step
+helo_step state store name =
+    if is_client name then says (codes "250 " ++ name_of store.kept) (greeted (client_of name false)) else bad_argument state
+
+-- ---- paths
+
+-- an address whose text is longer than one may be isn't read
+abbrev pub within_limit : Option Address → Option (Option Address)
+within_limit path = if nat_le (length (path_text path)) TEXT_MAX then Some path else None
+
+abbrev pub path_read : Readings → Option PathAndRest → Option (Option Address)
+path_read readings given = option_and_then (λ (g : PathAndRest). option_and_then within_limit (readings.path_of g.path)) given
+
+-- an address that isn't ASCII is taken with SMTPUTF8 alone
+abbrev pub lacks_smtputf8 : Bool → Option Address → Bool
+lacks_smtputf8 smtputf8 path = not smtputf8 && not (list_all is_ascii (path_text path))
+
+-- ---- MAIL
+
+abbrev pub words_behind : Option PathAndRest → List (List ℕ)
+words_behind None = []
+words_behind (Some given) = words_of given.rest
+
+abbrev pub envelope_of : Option Address → Bool → Envelope
+envelope_of path smtputf8 = record { path = path; smtputf8 = smtputf8; local = []; remote = [] }
+
+abbrev pub mail_to : Client → StoreState → Bool → Option Address → List (List ℕ) → Step
+mail_to client store smtputf8 path words =
+    if are_malformed words then bad_argument (greeted client)
+    else if list_any (λ word. is_unknown (parameter_of word)) words then says (codes "555 5.5.4 unknown parameter") (greeted client)
+    else if lacks_smtputf8 smtputf8 path then needs_smtputf8 (greeted client)
+    else if nat_lt store.message_max (sum_by (λ word. announced (parameter_of word)) words) then too_large (greeted client)
+    else says (codes "250 2.1.0 ok") (mail client (envelope_of path smtputf8))
+
+abbrev pub mail_by : Client → StoreState → Option (Option Address) → List (List ℕ) → Step
+mail_by client store None words = bad_argument (greeted client)
+mail_by client store (Some path) words = mail_to client store (list_any (λ word. is_smtputf8 (parameter_of word)) words) path words
+
+abbrev pub mail_step : Readings → State → StoreState → List ℕ → Step
+mail_step readings (greeted client) store argument =
+    let given = path_behind (codes "FROM:") argument in
+    mail_by client store (path_read readings given) (words_behind given)
+mail_step readings state store argument = out_of_order state
+
+-- ---- RCPT
+
+-- Addresses of a domain that isn't local are the same where their local parts are equal and their domains are the same.
+abbrev pub is_same_remote : Address → Address → Bool
+is_same_remote a b = bytes_eq a.local b.local && is_same_domain a.domain b.domain
+
+abbrev pub recipient_count : Envelope → ℕ
+recipient_count envelope = length envelope.local + length envelope.remote
+
+abbrev pub accepted : State → Step
+accepted state = says (codes "250 2.1.5 ok") state
+
+-- a recipient is there already, or is put last where there is room
+abbrev pub with_room : Bool → Client → Envelope → Envelope → Step
+with_room there client envelope with_one =
+    if there then accepted (mail client envelope)
+    else if nat_lt (recipient_count envelope) RECIPIENTS_MAX then accepted (mail client with_one)
+    else says (codes "452 4.5.3 too many recipients") (mail client envelope)
+
+abbrev pub rcpt_local : Client → Envelope → Option ℕ → Step
+rcpt_local client envelope None = says (codes "550 5.1.1 no such mailbox") (mail client envelope)
+rcpt_local client envelope (Some account) =
+    with_room (list_any (λ other. other == account) envelope.local) client envelope (record envelope { local = envelope.local ++ account ∷ [] })
+
+abbrev pub rcpt_remote : Client → Envelope → Address → Step
+rcpt_remote client envelope address =
+    with_room (list_any (λ other. is_same_remote other address) envelope.remote) client envelope (record envelope { remote = envelope.remote ++ address ∷ [] })
+
+abbrev pub rcpt_to : Readings → Client → Envelope → StoreState → Option (Option Address) → Step
+rcpt_to readings client envelope store None = bad_argument (mail client envelope)
+rcpt_to readings client envelope store (Some None) = bad_argument (mail client envelope)
+rcpt_to readings client envelope store (Some (Some address)) =
+    if lacks_smtputf8 envelope.smtputf8 (Some address) then needs_smtputf8 (mail client envelope)
+    else if is_local store.kept address.domain then rcpt_local client envelope (find_account readings.path_of store.kept address)
+    else rcpt_remote client envelope address
+
+-- without parameters
+abbrev pub alone : Option PathAndRest → Option PathAndRest
+alone None = None
+alone (Some given) = if length (words_of given.rest) == 0 then Some given else None
+
+abbrev pub rcpt_step : Readings → State → StoreState → List ℕ → Step
+rcpt_step readings (mail client envelope) store argument =
+    rcpt_to readings client envelope store (path_read readings (alone (path_behind (codes "TO:") argument)))
+rcpt_step readings state store argument = out_of_order state
+
+-- ---- the other commands
+
+abbrev pub data_step : State → Step
+data_step (mail client envelope) =
+    if recipient_count envelope == 0 then out_of_order (mail client envelope) else says (codes "354 go ahead") (collecting client envelope)
+data_step state = out_of_order state
+
+-- the path and the recipients are forgotten
+abbrev pub reset : State → State
+reset (mail client envelope) = greeted client
+reset state = state
+
+-- a command in a state that reads lines
+unfoldable pub step : Readings → State → StoreState → Verb → List ℕ → Step
+step readings state store verb.Ehlo argument = ehlo_step state store argument
+step readings state store verb.Helo argument = helo_step state store argument
+step readings state store verb.Mail argument = mail_step readings state store argument
+step readings state store verb.Rcpt argument = rcpt_step readings state store argument
+step readings state store verb.Data argument = data_step state
+step readings state store verb.Rset argument = ok (reset state)
+step readings state store verb.Noop argument = ok state
+step readings state store verb.Vrfy argument = says (codes "252 2.5.0 send and see") state
+step readings state store verb.Quit argument = says (codes "221 2.0.0 bye") ended
+step readings state store verb.Other argument = says (codes "500 5.5.2 unknown command") state
+
+-- ---- the end of the data
+
+-- the field that tells where the message came from
+abbrev pub trace : StoreState → Client → Envelope → Moment → List ℕ
+trace store client envelope moment = received client.name (name_of store.kept) (protocol envelope.smtputf8 client.extended) moment.date
+
+-- What is kept: for local accounts with the path, for the queue without it.
+abbrev pub delivery_of : StoreState → Client → Envelope → Moment → List ℕ → Delivery
+delivery_of store client envelope moment octets = record {
+  path = envelope.path;
+  local = envelope.local;
+  local_octets = return_path envelope.path ++ (trace store client envelope moment ++ octets);
+  remote = envelope.remote;
+  remote_octets = trace store client envelope moment ++ octets;
+  date = moment.internal;
+}
+
+-- Data that would be kept too large are refused before those that are no message. A store that would pass another limit has
+-- the reply of the first.
+abbrev pub end_by : Bool → StoreState → Client → Delivery → Step
+end_by is_message store client delivery =
+    if has_large_octets store.message_max delivery then too_large (greeted client)
+    else if not is_message then says (codes "554 5.6.0 not a message") (greeted client)
+    else if is_some (delivery_refusal store delivery) then too_large (greeted client)
+    else record { changes = delivered store.kept delivery ∷ []; reply = codes "250 2.0.0 stored" ∷ []; state = greeted client }
+
+abbrev pub end_data : Readings → StoreState → Client → Envelope → Moment → List ℕ → Step
+end_data readings store client envelope moment octets = end_by (readings.has_tree octets) store client (delivery_of store client envelope moment octets)

@@ -1,0 +1,93 @@
+//! The data of a message (RFC 5321, 4.1.1.4 and 4.5.2), and the fields that are put before them (RFC 5321, 4.4).
+ghost use Rattle.std.specs.Prelude.{◌≡◌, ◌+◌, ◌<◌, ◌≤◌, ◌++◌, None, Some, MatchOption, IfOk, IfSome, OnOk, length, take, drop};
+ghost use Rattle.smtp_session.specs.Data.{end_cut, unstuffed, unstuffed_line, received, return_path as return_path_of};
+ghost use Rattle.address_lists.specs.Paths.{ComesInPath};
+ghost use Rattle.mail_store.specs.Changing.{path_text as path_text_of};
+
+use address_lists::{Address, write_address};
+use mail_wire::text::lines;
+use mail_wire::values::{Memory, Octets};
+use memchr::memmem;
+use std::alloc::Global;
+
+/// Where the CRLF stands that ends the data, in octets the first of which, so many, have no such place. Only the last four of
+/// these are looked at again.
+pub fn find_data_end(kept: &[u8], old: usize) -> Option<usize>
+    requires old { old ≤ length kept.now }
+    requires none { end_cut (take old kept.now) ≡ None }
+    ensures { MatchOption result (end_cut kept.now ≡ None)
+        (λ at. (old < at + 5) × (at + 5 ≤ length kept.now) × (end_cut kept.now ≡ Some (record { line = take (at + 2) kept.now; rest = drop (at + 5) kept.now }))) }
+{
+    let passed = old.saturating_sub(4);
+    match memmem::find(&kept[passed..], b"\r\n.\r\n") {
+        Some(at) => Some(passed + at),
+        None => None,
+    }
+}
+
+// A line without the dot that it begins with, where it does.
+fn without_dot(line: &[u8]) -> &[u8]
+    ensures { result.now ≡ unstuffed_line line.now }
+{
+    match line {
+        [b'.', rest @ ..] => rest,
+        _ => line,
+    }
+}
+
+/// Puts the octets of data last, each line without the dot that it begins with, where it does.
+pub fn push_unstuffed(into: &mut Octets, octets: &[u8]) -> Result<(), Memory>
+    ensures { OnOk result (into.new ≡ into.old ++ unstuffed octets.now) }
+{
+    for line in lines(octets) {
+        into.push_slice(without_dot(&octets[line.at..line.at + line.len]))?;
+    }
+    Ok(())
+}
+
+/// The field that tells where a message came from, by which protocol and when.
+pub fn received_field(
+    alloc: Global,
+    client: &[u8],
+    name: &[u8],
+    protocol: &[u8],
+    date: &[u8],
+) -> Result<Octets, Memory>
+    ensures { IfOk result (λ field. field ≡ received client.now name.now protocol.now date.now) }
+{
+    let mut field = Octets::from_slice(alloc, b"Received: from ")?;
+    field.push_slice(client)?;
+    field.push_slice(b" by ")?;
+    field.push_slice(name)?;
+    field.push_slice(b" with ")?;
+    field.push_slice(protocol)?;
+    field.push_slice(b"; ")?;
+    field.push_slice(date)?;
+    field.push_slice(b"\r\n")?;
+    Ok(field)
+}
+
+// Puts the text of a path's address last; the null path has none.
+fn push_path(into: &mut Octets, alloc: Global, path: &Option<Address>) -> Result<(), Memory>
+    requires { IfSome path.now ComesInPath }
+    ensures { OnOk result (into.new ≡ into.old ++ path_text_of path.now) }
+{
+    match path {
+        Some(address) => {
+            let text = write_address(alloc, address)?;
+            into.push_slice(text.as_slice())
+        }
+        None => Ok(()),
+    }
+}
+
+/// The field that tells the path which a message came from.
+pub fn return_path_field(alloc: Global, path: &Option<Address>) -> Result<Octets, Memory>
+    requires { IfSome path.now ComesInPath }
+    ensures { IfOk result (λ field. field ≡ return_path_of path.now) }
+{
+    let mut field = Octets::from_slice(alloc, b"Return-Path: <")?;
+    push_path(&mut field, alloc, path)?;
+    field.push_slice(b">\r\n")?;
+    Ok(field)
+}

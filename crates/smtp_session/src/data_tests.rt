@@ -1,0 +1,88 @@
+//! The end of the data, the data without their dots, and the fields that are put before them.
+use crate::data::{find_data_end, push_unstuffed, received_field, return_path_field};
+use address_lists::read_path;
+use mail_wire::values::Octets;
+use std::test::Fail;
+
+// Looks at the first of the octets, so many, and then at all.
+#[tactic(auto, unfolding(crate::specs::Data::end_cut))]
+fn found_in_two(octets: &[u8], old: usize) -> Option<usize> {
+    if old > octets.len() {
+        return None;
+    }
+    let (front, _) = octets.split_at(old);
+    match find_data_end(front, 0) {
+        Some(_) => None,
+        None => find_data_end(octets, old),
+    }
+}
+
+#[test]
+#[tactic(auto, unfolding(crate::specs::Data::end_cut))]
+fn ends_are_found(rt: HostRuntime) {
+    assert_eq!(rt; find_data_end(b"\r\n.\r\n", 0), Some(0));
+    assert_eq!(rt; find_data_end(b"\r\nab\r\n.\r\n.\r\n", 0), Some(4));
+    for old in 0..9 {
+        assert_eq!(rt;
+            found_in_two(b"\r\nab\r\n.\r\nQUIT\r\n", old),
+            Some(4),
+            "{old}"
+        );
+    }
+    assert_eq!(rt; found_in_two(b"\r\nab\r\n.\r\nQUIT\r\n", 9), None);
+}
+
+#[test]
+#[tactic(auto, unfolding(crate::specs::Data::end_cut))]
+fn no_ends_are_found(rt: HostRuntime) {
+    for octets in [
+        &b""[..],
+        b"\r\n",
+        b"\r\n.",
+        b"\r\n.\r",
+        b".\r\n",
+        b"\r\n.\n",
+        b"\n.\r\n",
+        b"\r\n..\r\n",
+        b"\r\n.x\r\n",
+        b"\r\nx.\r\n",
+    ] {
+        assert_eq!(rt; find_data_end(octets, 0), None);
+    }
+}
+
+#[test]
+fn dots_are_taken_away(rt: HostRuntime) -> Result<(), Fail> {
+    let mut made = Octets::new(rt.alloc());
+    push_unstuffed(&mut made, b"a\r\n")?;
+    push_unstuffed(&mut made, b"..x\r\n.y\r\n\r\nz.\r\n...\r\n")?;
+    push_unstuffed(&mut made, b"")?;
+    assert!(rt; made.as_slice() == b"a\r\n.x\r\ny\r\n\r\nz.\r\n..\r\n".as_slice());
+    Ok(())
+}
+
+#[test]
+fn fields_are_written(rt: HostRuntime) -> Result<(), Fail> {
+    let date = b"Thu, 01 Jan 1970 00:00:00 +0000";
+    let field = received_field(
+        rt.alloc(),
+        b"client.example",
+        b"mail.example",
+        b"ESMTP",
+        date,
+    )?;
+    assert!(rt;
+        field.as_slice()
+            == b"Received: from client.example by mail.example with ESMTP; Thu, 01 Jan 1970 00:00:00 +0000\r\n".as_slice()
+    );
+    let field = return_path_field(rt.alloc(), &None)?;
+    assert!(rt; field.as_slice() == b"Return-Path: <>\r\n".as_slice());
+    match read_path(rt.alloc(), b"<a.b@c.example>") {
+        Ok(Some(address)) => {
+            let field = return_path_field(rt.alloc(), &Some(address))?;
+            assert!(rt; field.as_slice() == b"Return-Path: <a.b@c.example>\r\n".as_slice());
+            Ok(())
+        }
+        _ => Err(Fail::from("no address was read")),
+    }
+}

@@ -1,0 +1,557 @@
+//! A session over a wire.
+ghost use Rattle.std.specs.Prelude.{◌≡◌, ◌++◌, ◌<◌, ◌≤◌, ◌-◌, ℕ, List, IfOk, IfSome, OnOk, Err, Option, Some, None, Bool, ◌*◌, ◌+◌, string_bytes, IsTrue, ◌↔◌, true, false, [], drop, length};
+ghost use Rattle.std.specs.List.{All};
+ghost use Rattle.mail_wire.specs.Keeping.{HasKeeperCause};
+ghost use Rattle.mail_wire.specs.Moves.{GivesOrFails, HasWireCause};
+ghost use Rattle.mail_store.specs.Kept.{name_of};
+ghost use Rattle.mail_store.specs.StoreState.{StoreState};
+ghost use Rattle.mail_store.specs.Changing.{IsDeliverable, has_large_octets};
+ghost use Rattle.mail_store.specs.Doing.{Does};
+ghost use Rattle.mail_store.specs.Stored.{IsStored};
+ghost use Rattle.address_lists.specs.Paths.{ComesInPath};
+ghost use Rattle.smtp_session.specs.Commands.{command_of};
+ghost use Rattle.smtp_session.specs.Data.{IsMoment, Moment, TellsTrees, end_cut, protocol as protocol_of, unstuffed};
+ghost use Rattle.smtp_session.specs.Machine.{acts_in, ended, delivery_of, end_by, end_data as end_of, step};
+ghost use Rattle.smtp_session.specs.Session.{FeedsBy, HasRest, HasRestIn, IsName, IsReady, IsTold, KnowsState, ReadsLines, WithReadings, greeting, line_octets, machine_of, reply_octets, session_state, start_of, state_of, state_or_ended, turns_of};
+ghost use Rattle.smtp_session.specs.Steps.{HasRestAfter, IsReadyAfter, IsSaid, Makes, Steps, moment_of};
+
+use crate::data::{find_data_end, push_unstuffed, received_field, return_path_field};
+use crate::rows::{Reply, answer};
+use crate::states::{Client, Data, Envelope, Fresh, Greeted, Smtp, SmtpState};
+use mail_store::changing::StoreFault;
+use mail_store::delivery::Delivery;
+use mail_store::storing::Store;
+use mail_wire::clock::Clock;
+use mail_wire::dates::{date_text, internal_date};
+use mail_wire::framing::{FoundLine, find_line};
+use mail_wire::keeping::Keeper;
+use mail_wire::outside::{Fault, Wire};
+use mail_wire::traffic::give_all;
+use mail_wire::values::{Memory, Octets};
+use mime_tree::entity::TreeFault;
+use mime_tree::reading::read_tree;
+use std::alloc::Global;
+
+const TOO_LONG: &[u8] = b"500 5.5.2 line too long\r\n";
+
+const TOO_LARGE: &[u8] = b"552 5.3.4 too large\r\n";
+
+const NOT_A_MESSAGE: &[u8] = b"554 5.6.0 not a message\r\n";
+
+const STORED: &[u8] = b"250 2.0.0 stored\r\n";
+
+/// A session that has not ended: what came of its next command or of its data, and its state. Data stand behind the CRLF of
+/// their command; of those that are dropped the last octets are kept.
+#[derive(Debug, Drop)]
+pub struct Reading {
+    alloc: Global,
+    pub kept: Octets,
+    pub state: SmtpState,
+}
+
+/// A session.
+#[derive(Debug, Drop)]
+pub enum SmtpSession {
+    Open(Reading),
+    Ended,
+}
+
+// The greeting of a server of this name.
+fn greeting_text(alloc: Global, name: &str) -> Result<String, Memory>
+    ensures { IfOk result (λ text. string_bytes text ≡ reply_octets (greeting name.now)) }
+{
+    Ok(format!(in alloc; "220 {name} ESMTP\r\n")?)
+}
+
+// The protocol that a message came by (RFC 3848; RFC 6531, 4.3).
+fn protocol(smtputf8: bool, extended: bool) -> &'static [u8]
+    ensures { result.now ≡ protocol_of smtputf8 extended }
+{
+    match (smtputf8, extended) {
+        (true, _) => b"UTF8SMTP",
+        (false, true) => b"ESMTP",
+        (false, false) => b"SMTP",
+    }
+}
+
+// The texts of the moment at which data ended.
+#[derive(Debug, Drop)]
+struct Stamp {
+    date: Octets,
+    internal: Octets,
+}
+
+// The texts of this moment.
+fn read_stamp<C: Clock>(alloc: Global, clock: &mut C) -> Result<Stamp, Memory>
+    ensures told { IfOk result (λ stamp. IsTold (C.tells clock.old) (moment_of stamp)) }
+    ensures clock { C.tells clock.new ≡ C.tells clock.old }
+{
+    let seconds = clock.now();
+    Ok(Stamp {
+        date: date_text(alloc, seconds)?,
+        internal: internal_date(alloc, seconds)?,
+    })
+}
+
+// What is kept of data that came at this moment.
+fn make_delivery(
+    alloc: Global,
+    client: &Client,
+    envelope: Envelope,
+    name: &[u8],
+    lines: &[u8],
+    stamp: Stamp,
+) -> Result<Delivery, Memory>
+    requires { IfSome envelope.path ComesInPath }
+    ensures { IfOk result (λ delivery. (store : StoreState) → name.now ≡ name_of store.kept
+        → delivery ≡ delivery_of store client.now envelope (moment_of stamp) (unstuffed lines.now)) }
+{
+    let with = protocol(envelope.smtputf8, client.extended);
+    let mut remote_octets = received_field(
+        alloc,
+        client.name.as_slice(),
+        name,
+        with,
+        stamp.date.as_slice(),
+    )?;
+    push_unstuffed(&mut remote_octets, lines)?;
+    let mut local_octets = return_path_field(alloc, &envelope.path)?;
+    local_octets.push_slice(remote_octets.as_slice())?;
+    Ok(Delivery {
+        path: envelope.path,
+        local: envelope.local,
+        local_octets,
+        remote: envelope.remote,
+        remote_octets,
+        date: stamp.internal,
+    })
+}
+
+// Whether octets that are to be kept are more than the limit.
+fn is_too_large(delivery: &Delivery, max: u32) -> bool
+    ensures { result ≡ has_large_octets max delivery.now }
+{
+    (delivery.local.len() > 0 && delivery.local_octets.len() > max as usize)
+        || (delivery.remote.len() > 0 && delivery.remote_octets.len() > max as usize)
+}
+
+// Whether octets have a tree of entities.
+fn is_message(alloc: Global, octets: &[u8]) -> Result<bool, Memory>
+    ensures { IfOk result (λ is. IsTrue is ↔ IsStored octets.now) }
+{
+    match read_tree(alloc, octets) {
+        Ok(_tree) => Ok(true),
+        Err(TreeFault::Memory) => Err(Memory),
+        Err(_) => Ok(false),
+    }
+}
+
+// Keeps a message, or tells why not.
+fn deliver<J: Keeper>(
+    alloc: Global,
+    delivery: &Delivery,
+    lines: &[u8],
+    store: &mut Store,
+    keeper: &mut J,
+) -> Result<&'static [u8], Fault>
+    requires works { store.old.failed ≡ false }
+    requires deliverable { IsStored (unstuffed lines.now) → IsDeliverable store.old delivery.now }
+    ensures reply { IfOk result (λ reply. (has_tree : List ℕ → Bool) → TellsTrees has_tree → (client : Client)
+        → reply.now ≡ reply_octets (end_by (has_tree (unstuffed lines.now)) store.old client delivery.now).reply) }
+    ensures makes { (has_tree : List ℕ → Bool) → TellsTrees has_tree → (client : Client) → Makes store.old store.new (J.tells keeper.old).octets (J.tells keeper.new).octets result
+        (end_by (has_tree (unstuffed lines.now)) store.old client delivery.now).changes }
+    ensures works { ¬ (result ≡ Err Fault.Keeper) → store.new.failed ≡ false }
+    ensures limit { store.new.message_max ≡ store.old.message_max }
+    ensures name { name_of store.new.kept ≡ name_of store.old.kept }
+    ensures wire { ¬ (result ≡ Err Fault.Wire) }
+    ensures keeper { HasKeeperCause (J.tells keeper.old) (J.tells keeper.new) result Fault.Keeper }
+{
+    if is_too_large(delivery, store.message_max()) {
+        return Ok(TOO_LARGE);
+    }
+    let mut text = Octets::new(alloc);
+    push_unstuffed(&mut text, lines)?;
+    if !is_message(alloc, text.as_slice())? {
+        return Ok(NOT_A_MESSAGE);
+    }
+    match store.deliver(keeper, delivery) {
+        Ok(()) => Ok(STORED),
+        Err(StoreFault::TooLarge) => Ok(TOO_LARGE),
+        Err(StoreFault::Keeper) => Err(Fault::Keeper),
+        Err(StoreFault::Memory) => Err(Fault::Memory),
+        Err(StoreFault::Exists | StoreFault::NoSuch) => unreachable!(),
+    }
+}
+
+// The end of data, which came at this moment.
+fn end_data<W: Wire, J: Keeper>(
+    alloc: Global,
+    session: Smtp<Data>,
+    lines: &[u8],
+    stamp: Stamp,
+    store: &mut Store,
+    wire: &mut W,
+    keeper: &mut J,
+) -> Result<Smtp<Greeted>, Fault>
+    requires moment { (seconds : ℕ) × IsMoment seconds (moment_of stamp) }
+    requires works { store.old.failed ≡ false }
+    requires named { IsName (name_of store.old.kept) }
+    requires known { KnowsState store.old (state_of (SmtpState.Data session)) }
+    ensures does { WithReadings (λ readings. (octets : List ℕ) → IsSaid session.state.dropped store.old.message_max lines.now octets
+        → Does line_octets (W.tells wire.old) (W.tells wire.new) store.old store.new (J.tells keeper.old).octets (J.tells keeper.new).octets result
+        (acts_in (end_of readings store.old session.state.client session.state.envelope (moment_of stamp) octets))) }
+    ensures client { IfOk result (λ next. next.state.client ≡ session.state.client) }
+    ensures works { ¬ (result ≡ Err Fault.Keeper) → store.new.failed ≡ false }
+    ensures limit { store.new.message_max ≡ store.old.message_max }
+    ensures name { name_of store.new.kept ≡ name_of store.old.kept }
+    ensures cause { HasWireCause (W.tells wire.old) (W.tells wire.new) result Fault.Wire }
+    ensures keeper { HasKeeperCause (J.tells keeper.old) (J.tells keeper.new) result Fault.Keeper }
+{
+    let Data {
+        client,
+        envelope,
+        dropped,
+    } = session.state;
+    if dropped {
+        give_all(wire, TOO_LARGE)?;
+        return Ok(Smtp::greeted(client));
+    }
+    let name = store.name().as_bytes();
+    let delivery = make_delivery(alloc, &client, envelope, name, lines, stamp)?;
+    let reply = deliver(alloc, &delivery, lines, store, keeper)?;
+    give_all(wire, reply)?;
+    Ok(Smtp::greeted(client))
+}
+
+// How many octets of data are looked at a time.
+const PIECE: usize = 4096;
+
+// The most octets of data of which it isn't known yet that they are too large: each line has two octets at least, and loses
+// one dot at most.
+fn most_kept(max: u32) -> usize
+    ensures { result ≡ 2 * max + 16 }
+{
+    2 * max as usize + 16
+}
+
+// Leaves the last four octets, which tell whether the data's end comes next.
+fn drop_front(alloc: Global, kept: &mut Octets) -> Result<(), Memory>
+    requires { 4 ≤ length kept.old }
+    ensures { OnOk result (kept.new ≡ drop (length kept.old - 4) kept.old) }
+{
+    let at = kept.len() - 4;
+    let (_, tail) = kept.as_slice().split_at(at);
+    let tail = Octets::from_slice(alloc, tail)?;
+    *kept = tail;
+    Ok(())
+}
+
+// Data without an end, which are dropped where they are too large already.
+fn keep_data(
+    alloc: Global,
+    mut session: Smtp<Data>,
+    kept: &mut Octets,
+    max: u32,
+) -> Result<Smtp<Data>, Memory>
+    requires none { end_cut kept.old ≡ None }
+    requires enough { session.state.dropped ≡ true → 4 ≤ length kept.old }
+    ensures client { IfOk result (λ next. next.state.client ≡ session.state.client) }
+    ensures envelope { IfOk result (λ next. next.state.envelope ≡ session.state.envelope) }
+    ensures none { IfOk result (λ next. end_cut kept.new ≡ None) }
+    ensures enough { IfOk result (λ next. next.state.dropped ≡ true → 4 ≤ length kept.new) }
+    ensures rest { IfOk result (λ next. (rest : List ℕ) → HasRestIn (SmtpState.Data session) max kept.old rest → HasRestIn (SmtpState.Data next) max kept.new rest) }
+{
+    if session.state.dropped || kept.len() > most_kept(max) {
+        session.state.dropped = true;
+        drop_front(alloc, kept)?;
+    }
+    Ok(session)
+}
+
+// What came of a piece: the state behind it, none where the session has ended, and how many octets were used.
+#[derive(Debug, Drop)]
+struct Came {
+    next: Option<SmtpState>,
+    used: usize,
+}
+
+// Data, as far as they are in the piece.
+fn take_data<W: Wire, J: Keeper, C: Clock>(
+    alloc: Global,
+    session: Smtp<Data>,
+    kept: &mut Octets,
+    rest: &[u8],
+    store: &mut Store,
+    wire: &mut W,
+    keeper: &mut J,
+    clock: &mut C,
+) -> Result<Came, Fault>
+    requires some { 0 < length rest.now }
+    requires works { store.old.failed ≡ false }
+    requires named { IsName (name_of store.old.kept) }
+    requires ready { IsReadyAfter (Some (SmtpState.Data session)) kept.old store.old }
+    ensures steps { Steps (C.tells clock.old) (W.tells wire.old) (W.tells wire.new) store.old store.new (J.tells keeper.old).octets (J.tells keeper.new).octets
+        (SmtpState.Data session) kept.old kept.new rest.now result }
+    ensures used { IfOk result (λ came. (0 < came.used) × (came.used ≤ length rest.now)) }
+    ensures ready { IfOk result (λ came. IsReadyAfter came.next kept.new store.new) }
+    ensures works { ¬ (result ≡ Err Fault.Keeper) → store.new.failed ≡ false }
+    ensures limit { store.new.message_max ≡ store.old.message_max }
+    ensures name { name_of store.new.kept ≡ name_of store.old.kept }
+    ensures clock { C.tells clock.new ≡ C.tells clock.old }
+    ensures cause { HasWireCause (W.tells wire.old) (W.tells wire.new) result Fault.Wire }
+    ensures keeper { HasKeeperCause (J.tells keeper.old) (J.tells keeper.new) result Fault.Keeper }
+{
+    let old = kept.len();
+    let (front, _) = rest.split_at(rest.len().min(PIECE));
+    kept.push_slice(front)?;
+    match find_data_end(kept.as_slice(), old) {
+        Some(at) => {
+            let stamp = read_stamp(alloc, clock)?;
+            let (whole, _) = kept.as_slice().split_at(at + 2);
+            let (_, lines) = whole.split_at(2);
+            let next = end_data(alloc, session, lines, stamp, store, wire, keeper)?;
+            kept.clear();
+            Ok(Came {
+                next: Some(SmtpState::Greeted(next)),
+                used: at + 5 - old,
+            })
+        }
+        None => {
+            let session = keep_data(alloc, session, kept, store.message_max())?;
+            Ok(Came {
+                next: Some(SmtpState::Data(session)),
+                used: front.len(),
+            })
+        }
+    }
+}
+
+// What is kept before anything comes. Data stand behind the CRLF of their command, and none of them are dropped yet.
+fn begin(kept: &mut Octets, next: Option<SmtpState>) -> Result<Option<SmtpState>, Memory>
+    ensures state { IfOk result (λ begun. state_or_ended begun ≡ state_or_ended next) }
+    ensures rest { IfOk result (λ begun. (message_max : ℕ) → HasRestAfter begun message_max kept.new []) }
+    ensures ready { IfOk result (λ begun. (store : StoreState) → KnowsState store (state_or_ended next) → IsReadyAfter begun kept.new store) }
+{
+    kept.clear();
+    let Some(state) = next else {
+        return Ok(None);
+    };
+    match state {
+        SmtpState::Data(mut session) => {
+            kept.push_slice(b"\r\n")?;
+            session.state.dropped = false;
+            Ok(Some(SmtpState::Data(session)))
+        }
+        state => Ok(Some(state)),
+    }
+}
+
+// A whole line, which is kept: its reply is given, and then nothing of it is kept.
+fn answer_line<W: Wire>(
+    alloc: Global,
+    state: SmtpState,
+    kept: &mut Octets,
+    store: &Store,
+    wire: &mut W,
+) -> Result<Option<SmtpState>, Fault>
+    requires line { 2 ≤ length kept.old }
+    requires known { KnowsState store.now (state_of state) }
+    ensures does { (had : Option (List ℕ)) → WithReadings (λ readings. Does line_octets (W.tells wire.old) (W.tells wire.new) store.now store.now had had result
+        (acts_in (step readings (state_of state) store.now (command_of kept.old).verb (command_of kept.old).argument))) }
+    ensures next { IfOk result (λ next. WithReadings (λ readings. state_or_ended next
+        ≡ (step readings (state_of state) store.now (command_of kept.old).verb (command_of kept.old).argument).state)) }
+    ensures rest { IfOk result (λ next. HasRestAfter next store.now.message_max kept.new []) }
+    ensures ready { IfOk result (λ next. IsReadyAfter next kept.new store.now) }
+    ensures cause { HasWireCause (W.tells wire.old) (W.tells wire.new) result Fault.Wire }
+    ensures keeper { ¬ (result ≡ Err Fault.Keeper) }
+{
+    let Reply { octets, next } = answer(alloc, state, kept.as_slice(), store)?;
+    give_all(wire, octets.as_slice())?;
+    Ok(begin(kept, next)?)
+}
+
+// A line, as far as it is in the piece.
+fn take_line<W: Wire>(
+    alloc: Global,
+    state: SmtpState,
+    kept: &mut Octets,
+    rest: &[u8],
+    store: &Store,
+    wire: &mut W,
+) -> Result<Came, Fault>
+    requires some { 0 < length rest.now }
+    requires lines { ReadsLines (state_of state) }
+    requires named { IsName (name_of store.now.kept) }
+    requires ready { IsReadyAfter (Some state) kept.old store.now }
+    ensures steps { (reading : Option ℕ) (had : Option (List ℕ)) → Steps reading (W.tells wire.old) (W.tells wire.new) store.now store.now had had state kept.old kept.new rest.now result }
+    ensures used { IfOk result (λ came. (0 < came.used) × (came.used ≤ length rest.now)) }
+    ensures ready { IfOk result (λ came. IsReadyAfter came.next kept.new store.now) }
+    ensures cause { HasWireCause (W.tells wire.old) (W.tells wire.new) result Fault.Wire }
+    ensures keeper { ¬ (result ≡ Err Fault.Keeper) }
+{
+    match find_line(kept.as_slice(), rest) {
+        FoundLine::Whole(end) => {
+            let (front, _) = rest.split_at(end);
+            kept.push_slice(front)?;
+            let next = answer_line(alloc, state, kept, store, wire)?;
+            Ok(Came { next, used: end })
+        }
+        FoundLine::TooLong => {
+            give_all(wire, TOO_LONG)?;
+            Ok(Came {
+                next: None,
+                used: rest.len(),
+            })
+        }
+        FoundLine::Waiting => {
+            kept.push_slice(rest)?;
+            Ok(Came {
+                next: Some(state),
+                used: rest.len(),
+            })
+        }
+    }
+}
+
+// A line or data, as far as they are in the piece.
+fn take_next<W: Wire, J: Keeper, C: Clock>(
+    alloc: Global,
+    state: SmtpState,
+    kept: &mut Octets,
+    rest: &[u8],
+    store: &mut Store,
+    wire: &mut W,
+    keeper: &mut J,
+    clock: &mut C,
+) -> Result<Came, Fault>
+    requires some { 0 < length rest.now }
+    requires works { store.old.failed ≡ false }
+    requires named { IsName (name_of store.old.kept) }
+    requires ready { IsReadyAfter (Some state) kept.old store.old }
+    ensures steps { Steps (C.tells clock.old) (W.tells wire.old) (W.tells wire.new) store.old store.new (J.tells keeper.old).octets (J.tells keeper.new).octets
+        state kept.old kept.new rest.now result }
+    ensures used { IfOk result (λ came. (0 < came.used) × (came.used ≤ length rest.now)) }
+    ensures ready { IfOk result (λ came. IsReadyAfter came.next kept.new store.new) }
+    ensures works { ¬ (result ≡ Err Fault.Keeper) → store.new.failed ≡ false }
+    ensures limit { store.new.message_max ≡ store.old.message_max }
+    ensures name { name_of store.new.kept ≡ name_of store.old.kept }
+    ensures clock { C.tells clock.new ≡ C.tells clock.old }
+    ensures cause { HasWireCause (W.tells wire.old) (W.tells wire.new) result Fault.Wire }
+    ensures keeper { HasKeeperCause (J.tells keeper.old) (J.tells keeper.new) result Fault.Keeper }
+{
+    match state {
+        SmtpState::Data(session) => {
+            take_data(alloc, session, kept, rest, store, wire, keeper, clock)
+        }
+        state => take_line(alloc, state, kept, rest, store, wire),
+    }
+}
+
+// The next piece of a session that has not ended.
+fn feed_open<W: Wire, J: Keeper, C: Clock>(
+    reading: Reading,
+    piece: &[u8],
+    store: &mut Store,
+    wire: &mut W,
+    keeper: &mut J,
+    clock: &mut C,
+) -> Result<SmtpSession, Fault>
+    requires works { store.old.failed ≡ false }
+    requires named { IsName (name_of store.old.kept) }
+    requires ready { IsReady (SmtpSession.Open reading) store.old }
+    ensures serves { (moments : List Moment) × All (IsTold (C.tells clock.old)) moments × WithReadings (λ readings. (rest : List ℕ)
+        → HasRest (SmtpSession.Open reading) store.old.message_max rest
+        → (more : List Moment) → FeedsBy (W.tells wire.old) (W.tells wire.new) store.old store.new (J.tells keeper.old).octets (J.tells keeper.new).octets result more
+        (turns_of readings (machine_of (SmtpSession.Open reading) store.old (moments ++ more)) (rest ++ piece.now))) }
+    ensures ready { IfOk result (λ session. IsReady session store.new) }
+    ensures works { ¬ (result ≡ Err Fault.Keeper) → store.new.failed ≡ false }
+    ensures limit { store.new.message_max ≡ store.old.message_max }
+    ensures name { name_of store.new.kept ≡ name_of store.old.kept }
+    ensures clock { C.tells clock.new ≡ C.tells clock.old }
+    ensures cause { HasWireCause (W.tells wire.old) (W.tells wire.new) result Fault.Wire }
+    ensures keeper { HasKeeperCause (J.tells keeper.old) (J.tells keeper.new) result Fault.Keeper }
+{
+    let Reading {
+        alloc,
+        mut kept,
+        mut state,
+    } = reading;
+    let mut rest = piece;
+    while !rest.is_empty() {
+        let came = take_next(alloc, state, &mut kept, rest, store, wire, keeper, clock)?;
+        let Came { next, used } = came;
+        let Some(next) = next else {
+            return Ok(SmtpSession::Ended);
+        };
+        let (_, others) = rest.split_at(used);
+        state = next;
+        rest = others;
+    }
+    Ok(SmtpSession::Open(Reading { alloc, kept, state }))
+}
+
+impl SmtpSession {
+    /// Begins a session of a server of this name, and gives the greeting.
+    pub fn start<W: Wire>(alloc: Global, name: &str, wire: &mut W) -> Result<SmtpSession, Fault>
+        requires { IsName name.now }
+        ensures gives { GivesOrFails (W.tells wire.old) (W.tells wire.new) result (reply_octets (greeting name.now)) }
+        ensures stands { IfOk result (λ session. (store : StoreState) (moments : List Moment) → machine_of session store moments ≡ start_of store moments) }
+        ensures rest { IfOk result (λ session. (message_max : ℕ) → HasRest session message_max []) }
+        ensures ready { IfOk result (λ session. (store : StoreState) → IsReady session store) }
+        ensures cause { HasWireCause (W.tells wire.old) (W.tells wire.new) result Fault.Wire }
+        ensures keeper { ¬ (result ≡ Err Fault.Keeper) }
+    {
+        let text = greeting_text(alloc, name)?;
+        give_all(wire, text.as_bytes())?;
+        Ok(SmtpSession::Open(Reading {
+            alloc,
+            kept: Octets::new(alloc),
+            state: SmtpState::Fresh(Smtp { state: Fresh }),
+        }))
+    }
+
+    /// Takes the next piece of the stream, gives the replies to the commands and to the data that are whole now, in their order,
+    /// and keeps each message before the reply that says so.
+    ///
+    /// Where a line or data end is sought in the piece alone and in the last octets of what came before. A line of more than
+    /// `LINE_MAX` octets ends the session with a reply; data that are too large are dropped as they come. After the end pieces
+    /// are taken and bring nothing. An `Err` takes the session away, and no reply says so.
+    pub fn feed<W: Wire, J: Keeper, C: Clock>(
+        self,
+        piece: &[u8],
+        store: &mut Store,
+        wire: &mut W,
+        keeper: &mut J,
+        clock: &mut C,
+    ) -> Result<SmtpSession, Fault>
+        requires works { store.old.failed ≡ false }
+        requires named { IsName (name_of store.old.kept) }
+        requires ready { IsReady self store.old }
+
+        // There are moments that the clock told, so that, whatever the rest is that the session stands for and whatever moments
+        // are still to come, the call does what the machine's turns over the rest and the piece are.
+        ensures serves { (moments : List Moment) × All (IsTold (C.tells clock.old)) moments × WithReadings (λ readings. (rest : List ℕ) → HasRest self store.old.message_max rest
+            → (more : List Moment) → FeedsBy (W.tells wire.old) (W.tells wire.new) store.old store.new (J.tells keeper.old).octets (J.tells keeper.new).octets result more
+            (turns_of readings (machine_of self store.old (moments ++ more)) (rest ++ piece.now))) }
+
+        ensures ready { IfOk result (λ session. IsReady session store.new) }
+        ensures works { ¬ (result ≡ Err Fault.Keeper) → store.new.failed ≡ false }
+        ensures limit { store.new.message_max ≡ store.old.message_max }
+        ensures name { name_of store.new.kept ≡ name_of store.old.kept }
+        ensures clock { C.tells clock.new ≡ C.tells clock.old }
+        ensures cause { HasWireCause (W.tells wire.old) (W.tells wire.new) result Fault.Wire }
+        ensures keeper { HasKeeperCause (J.tells keeper.old) (J.tells keeper.new) result Fault.Keeper }
+    {
+        match self {
+            SmtpSession::Open(reading) => feed_open(reading, piece, store, wire, keeper, clock),
+            SmtpSession::Ended => Ok(SmtpSession::Ended),
+        }
+    }
+
+    /// Whether the session has ended.
+    pub fn ended(&self) -> bool
+        ensures { IsTrue result ↔ (session_state self.now ≡ ended) }
+    {
+        matches!(self, SmtpSession::Ended)
+    }
+}

@@ -1,0 +1,144 @@
+//! The states of a session (RFC 5321, 4.1.4), each a type of its own.
+ghost use Rattle.std.specs.Prelude.{◌≡◌, ◌++◌, ◌∷◌, [], IfOk, true, false, Option};
+ghost use Rattle.smtp_session.specs.Session.{state_of};
+ghost use Rattle.smtp_session.specs.Machine.{greeted, reset, State};
+
+use address_lists::Address;
+use mail_store::delivery::Addresses;
+use mail_store::kept::Numbers;
+use mail_wire::values::{Memory, Octets};
+use std::alloc::Global;
+
+/// The name that a client says of itself, and whether it greeted with EHLO.
+#[derive(Debug, Drop)]
+pub struct Client {
+    pub name: Octets,
+    pub extended: bool,
+}
+
+/// What a message comes from and for whom it is: accounts, and addresses of domains that aren't local.
+#[derive(Debug, Drop)]
+pub struct Envelope {
+    pub path: Option<Address>,
+    pub smtputf8: bool,
+    pub local: Numbers,
+    pub remote: Addresses,
+}
+
+/// Before the first accepted greeting.
+#[derive(Debug, Drop)]
+pub struct Fresh;
+
+/// A client has greeted.
+#[derive(Debug, Drop)]
+pub struct Greeted {
+    pub client: Client,
+}
+
+/// MAIL was accepted.
+#[derive(Debug, Drop)]
+pub struct Mail {
+    pub client: Client,
+    pub envelope: Envelope,
+}
+
+/// DATA was accepted, and data come. Those that are too large already are dropped.
+#[derive(Debug, Drop)]
+pub struct Data {
+    pub client: Client,
+    pub envelope: Envelope,
+    pub dropped: bool,
+}
+
+// FRESH --EHLO, HELO--> GREETED --MAIL--> MAIL --DATA--> DATA --the line `.`--> GREETED
+//                          ^               |  ^
+//                          +-- RSET, EHLO -+  +-- RCPT
+//
+/// A session in a state. It has the commands of that state alone.
+#[derive(Debug, Drop)]
+pub struct Smtp<S> {
+    pub state: S,
+}
+
+/// A session in any state.
+#[derive(Debug, Drop)]
+pub enum SmtpState {
+    Fresh(Smtp<Fresh>),
+    Greeted(Smtp<Greeted>),
+    Mail(Smtp<Mail>),
+    Data(Smtp<Data>),
+}
+
+impl Smtp<Greeted> {
+    /// A client greets, in whatever state, and what was said before is forgotten.
+    pub fn greeted(client: Client) -> Self
+        ensures { result.state.client ≡ client }
+    {
+        Smtp {
+            state: Greeted { client },
+        }
+    }
+
+    /// A message comes from a path; it has no recipients yet.
+    pub fn mail(self, alloc: Global, path: Option<Address>, smtputf8: bool) -> Smtp<Mail>
+        ensures client { result.state.client ≡ self.state.client }
+        ensures path { result.state.envelope.path ≡ path }
+        ensures smtputf8 { result.state.envelope.smtputf8 ≡ smtputf8 }
+        ensures local { result.state.envelope.local ≡ [] }
+        ensures remote { result.state.envelope.remote ≡ [] }
+    {
+        Smtp {
+            state: Mail {
+                client: self.state.client,
+                envelope: Envelope {
+                    path,
+                    smtputf8,
+                    local: Numbers::new(alloc),
+                    remote: Addresses::new(alloc),
+                },
+            },
+        }
+    }
+}
+
+impl Smtp<Mail> {
+    /// The message is for an account too.
+    pub fn rcpt_account(mut self, account: u32) -> Result<Self, Memory>
+        ensures client { IfOk result (λ next. next.state.client ≡ self.state.client) }
+        ensures envelope { IfOk result (λ next. next.state.envelope ≡ record self.state.envelope { local = self.state.envelope.local ++ account ∷ [] }) }
+    {
+        self.state.envelope.local.push(account)?;
+        Ok(self)
+    }
+
+    /// The message is for an address elsewhere too.
+    pub fn rcpt_address(mut self, address: Address) -> Result<Self, Memory>
+        ensures client { IfOk result (λ next. next.state.client ≡ self.state.client) }
+        ensures envelope { IfOk result (λ next. next.state.envelope ≡ record self.state.envelope { remote = self.state.envelope.remote ++ address ∷ [] }) }
+    {
+        self.state.envelope.remote.push(address)?;
+        Ok(self)
+    }
+
+    /// The data come.
+    pub fn data(self) -> Smtp<Data>
+        ensures client { result.state.client ≡ self.state.client }
+        ensures envelope { result.state.envelope ≡ self.state.envelope }
+        ensures kept { result.state.dropped ≡ false }
+    {
+        Smtp {
+            state: Data {
+                client: self.state.client,
+                envelope: self.state.envelope,
+                dropped: false,
+            },
+        }
+    }
+
+    /// The path and the recipients are forgotten.
+    pub fn reset(self) -> Smtp<Greeted>
+        ensures { result.state.client ≡ self.state.client }
+    {
+        Smtp::greeted(self.state.client)
+    }
+}
