@@ -1,0 +1,5 @@
+use Rattle.setup_command.proofs.FormLemmas.{account_once}
+use Rattle.setup_command.proofs.word_laws.words_have_one_meaning.Goals as goal
+
+pub returns-clause-address : goal.returns-clause-address
+returns-clause-address c = account_once

@@ -1,0 +1,14 @@
+-- Words of a command line, and the lists of them that a command takes.
+use Rattle.std.specs.Prelude.{◌≡◌, ℕ, ◌==◌, Bool, true, false, not, List, [], ◌∷◌}
+use Rattle.std.specs.List.{list_all}
+
+-- it isn't empty and doesn't begin with `-`
+abbrev pub is_plain : List ℕ → Bool
+is_plain [] = false
+is_plain (x ∷ word) = not (x == 45)
+
+-- this name, and behind it only such words
+pub record IsCalled (name : List ℕ) (words : List (List ℕ)) : Type 0 where
+  pub rest : List (List ℕ)
+  pub words_are : words ≡ name ∷ rest
+  pub plain : list_all is_plain rest ≡ true

@@ -1,0 +1,73 @@
+-- What a call that opens the journal of a keeper does to its wire and its keeper, by its status.
+use Rattle.std.specs.Prelude.{◌≡◌, ℕ, ◌≤◌, ◌⊎◌, List, ◌++◌, codes, decimal, Option, IfSome, IsTrue}
+use Rattle.mail_wire.specs.Lines.{crlf}
+use Rattle.mail_wire.specs.Telling.{Telling}
+use Rattle.mail_wire.specs.KeeperTelling.{KeeperTelling}
+use Rattle.mail_wire.specs.Causes.{Rose}
+use Rattle.mail_store.specs.declared.opening.OpenFault.{OpenFault}
+use Rattle.mail_store.specs.declared.opening.OpenFault.TheVariants as faults
+use Rattle.mail_store.specs.declared.records.Record.{Record}
+use Rattle.mail_store.specs.Answers.{IsFold, OpensTo, IsJournalFault}
+use Rattle.mail_store.specs.Changing.{HoldsFirst}
+use Rattle.mail_store.specs.Following.{records_of}
+use Rattle.mail_store.specs.Kept.{nothing, store_of}
+use Rattle.mail_store.specs.Opening.{IsBadAt}
+use Rattle.mail_store.specs.Records.{AreRecords}
+use Rattle.mail_store.specs.Spelling.{journal}
+use Rattle.mail_store.specs.StoreState.{StoreState}
+
+-- status 1, a fault of the wire, or 3, want of memory
+abbrev pub IsBrokenOff : ℕ → Type 0
+IsBrokenOff status = (status ≡ 1) ⊎ (status ≡ 3)
+
+-- The store is the fold of the records that the keeper had, and the keeper holds them and nothing more.
+pub record OpensStore (old new : Option (List ℕ)) (store : StoreState) : Type 0 where
+  pub fold : IsFold store.kept
+  pub opens : IfSome old (λ octets. OpensTo octets new store.kept)
+
+-- the keeper holds the journal of the store
+abbrev pub HoldsStore : Option (List ℕ) → StoreState → Type 0
+HoldsStore kept store = IfSome kept (λ octets. (all : List Record) × AreRecords nothing all × (octets ≡ journal all) × (store.kept ≡ store_of all))
+
+-- a text, a place, and the end of the line
+abbrev pub place_line : List ℕ → ℕ → List ℕ
+place_line text at = text ++ (decimal at ++ crlf)
+
+-- the status and the line that tell why a journal wasn't opened; a fault of the keeper and want of memory have none
+abbrev pub IsToldBy : OpenFault → ℕ → List ℕ → Type 0
+IsToldBy faults.Keeper status line = ⊥
+IsToldBy (faults.BadJournal at) status line = (status ≡ 5) × (line ≡ place_line (codes "bad journal at ") at)
+IsToldBy faults.Memory status line = ⊥
+
+-- The journal isn't opened: it is bad at a place, and the line tells where.
+pub record IsUnopened (old new : Option (List ℕ)) (status : ℕ) (line : List ℕ) : Type 0 where
+  pub fault : OpenFault
+  pub told : IsToldBy fault status line
+  pub is : IfSome old (λ octets. IsJournalFault octets new fault)
+
+-- a fault of the wire, of the keeper, or want of memory
+abbrev pub BreaksSessionOff : ℕ → Type 0
+BreaksSessionOff status = IsBrokenOff status ⊎ (status ≡ 2)
+
+-- The keeper opens with the store's records and the first of those that the changes bring.
+pub record HoldsBegun (octets : Option (List ℕ)) (store : StoreState) (due : List (List Record)) : Type 0 where
+  pub all : List Record
+  pub records : AreRecords nothing all
+  pub fold : store.kept ≡ store_of all
+  pub holds : HoldsFirst octets all (records_of due)
+
+-- A journal that is bad is answered 5, unless the command was broken off.
+abbrev pub IsExactJournal : List ℕ → ℕ → Type 0
+IsExactJournal octets status = (at : ℕ) → IsBadAt octets at → (status ≡ 5) ⊎ BreaksSessionOff status
+
+-- ---- causes
+
+-- No count of faults falls. Status 1 comes only where the wire's rose, 2 only where the keeper's did, and neither where it tells
+-- that it never fails.
+pub record HasStatusCause (before now : Telling) (keeper kept : KeeperTelling) (status : ℕ) : Type 0 where
+  pub later : before.faults ≤ now.faults
+  pub wire_rose : status ≡ 1 → Rose before.faults now.faults
+  pub wire_sure : IsTrue before.never_fails → IsTrue now.never_fails × ¬ (status ≡ 1)
+  pub keeper_later : keeper.faults ≤ kept.faults
+  pub keeper_rose : status ≡ 2 → Rose keeper.faults kept.faults
+  pub keeper_sure : IsTrue keeper.never_fails → IsTrue kept.never_fails × ¬ (status ≡ 2)

@@ -1,0 +1,73 @@
+//! The commands that add an account or a domain to the store of a keeper.
+ghost use Rattle.std.specs.Prelude.{◌≡◌, ◌≢◌, ◌≤◌, length, IfSome, None};
+ghost use Rattle.ace_domains.specs.Domains.{compared_form, normal_form};
+ghost use Rattle.address_lists.specs.Addresses.{address_text};
+ghost use Rattle.mail_store.specs.Addresses.{WithPaths};
+ghost use Rattle.mail_store.specs.Changing.{IsSendable, account_refusal, domain_refusal};
+ghost use Rattle.mail_store.specs.declared.limits.TheConstants.{TEXT_MAX};
+ghost use Rattle.mail_store.specs.declared.records.Record.TheVariants as records;
+ghost use Rattle.setup_command.specs.AddingRuns.{RunsAdding, IsExactAdding};
+ghost use Rattle.setup_command.specs.Running.{HasStatusCause, IsExactJournal};
+ghost use Rattle.setup_command.specs.Statuses.{status_of};
+
+use crate::refusals::{tell_refused, tell_unopened};
+use address_lists::Address;
+use mail_store::limits::MESSAGE_MAX;
+use mail_store::storing::Store;
+use mail_wire::keeping::Keeper;
+use mail_wire::outside::{Fault, Wire};
+use std::alloc::Global;
+
+/// Makes a domain local: 0 where it is put last in the journal, 5 where that is bad, 9 where the store refuses it.
+pub fn run_domain<W: Wire, J: Keeper>(
+    alloc: Global,
+    domain: &str,
+    wire: &mut W,
+    keeper: &mut J,
+) -> Result<u8, Fault>
+    requires { normal_form domain.now ≢ None }
+    ensures runs { RunsAdding (λ kept. domain_refusal kept domain.now) (records.Domain (compared_form domain.now))
+        (J.tells keeper.old).octets (J.tells keeper.new).octets (W.tells wire.old) (W.tells wire.new) (status_of result) }
+    // What the store refuses is told, and nothing else; and a bad journal.
+    ensures exact { IfSome (J.tells keeper.old).octets (λ octets. IsExactAdding (λ kept. domain_refusal kept domain.now) octets (status_of result)) }
+    ensures journal { IfSome (J.tells keeper.old).octets (λ octets. IsExactJournal octets (status_of result)) }
+    ensures cause { HasStatusCause (W.tells wire.old) (W.tells wire.new) (J.tells keeper.old) (J.tells keeper.new) (status_of result) }
+{
+    let mut store = match Store::open(alloc, keeper, MESSAGE_MAX) {
+        Ok(store) => store,
+        Err(fault) => return tell_unopened(alloc, fault, wire),
+    };
+    match store.add_domain(keeper, domain) {
+        Ok(()) => Ok(0),
+        Err(why) => tell_refused(why, wire),
+    }
+}
+
+/// Makes an account with this address and password: 0 where it is put last in the journal, 5 where that is bad, 9 where the
+/// store refuses it.
+pub fn run_account<W: Wire, J: Keeper>(
+    alloc: Global,
+    address: &Address,
+    password: &[u8],
+    wire: &mut W,
+    keeper: &mut J,
+) -> Result<u8, Fault>
+    requires address { IsSendable address.now }
+    requires password { length password.now ≤ TEXT_MAX }
+    ensures runs { WithPaths (λ path_of. RunsAdding (λ kept. account_refusal path_of kept address.now) (records.Account (address_text address.now) password.now)
+        (J.tells keeper.old).octets (J.tells keeper.new).octets (W.tells wire.old) (W.tells wire.new) (status_of result)) }
+    // What the store refuses is told, and nothing else; and a bad journal.
+    ensures exact { WithPaths (λ path_of. IfSome (J.tells keeper.old).octets (λ octets.
+        IsExactAdding (λ kept. account_refusal path_of kept address.now) octets (status_of result))) }
+    ensures journal { IfSome (J.tells keeper.old).octets (λ octets. IsExactJournal octets (status_of result)) }
+    ensures cause { HasStatusCause (W.tells wire.old) (W.tells wire.new) (J.tells keeper.old) (J.tells keeper.new) (status_of result) }
+{
+    let mut store = match Store::open(alloc, keeper, MESSAGE_MAX) {
+        Ok(store) => store,
+        Err(fault) => return tell_unopened(alloc, fault, wire),
+    };
+    match store.add_account(keeper, address, password) {
+        Ok(_) => Ok(0),
+        Err(why) => tell_refused(why, wire),
+    }
+}

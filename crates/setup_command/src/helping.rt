@@ -1,0 +1,54 @@
+//! The command that gives help.
+ghost use Rattle.std.specs.Prelude.{List, ℕ};
+ghost use Rattle.mail_wire.specs.Moves.{HasWireCause};
+ghost use Rattle.setup_command.specs.AddingRuns.{TellsLine};
+
+use crate::refusals::tell;
+use clap::Command;
+use mail_wire::outside::{Fault, Wire};
+use mail_wire::values::Memory;
+use std::alloc::Global;
+
+// The commands, and what each does.
+const COMMANDS: [(&str, &str); 6] = [
+    (
+        "downgrade",
+        "Take one message, give its surrogate in ASCII headers",
+    ),
+    ("pop", "Serve one POP3 session"),
+    ("smtp", "Serve one SMTP session"),
+    (
+        "account",
+        "Add the account of the words ADDRESS and PASSWORD",
+    ),
+    ("domain", "Make the domain of the word DOMAIN local"),
+    ("help", "Give this text"),
+];
+
+// The command of which the others are subcommands.
+fn all_commands<'a>(alloc: Global) -> Result<Command<'a>, Memory> {
+    let mut all = Command::new(alloc, "dervlask")
+        .about("A mail server over standard input and output")
+        .override_usage("dervlask COMMAND [WORDS]")
+        .disable_help_flag(true)
+        .disable_help_subcommand(true);
+    for (name, does) in COMMANDS {
+        all = all.subcommand(Command::new(alloc, name).about(does))?;
+    }
+    Ok(all)
+}
+
+/// The text of `help`.
+pub fn help_text(alloc: Global) -> Result<String, Memory> {
+    let mut all = all_commands(alloc)?;
+    Ok(all.render_help()?)
+}
+
+/// Gives the text of `help`.
+pub fn run_help<W: Wire>(alloc: Global, wire: &mut W) -> Result<u8, Fault>
+    ensures gives { (text : List ℕ) × TellsLine (W.tells wire.old) (W.tells wire.new) result 0 text }
+    ensures cause { HasWireCause (W.tells wire.old) (W.tells wire.new) result Fault.Wire }
+{
+    let text = help_text(alloc)?;
+    tell(wire, 0, text.as_str().as_bytes())
+}

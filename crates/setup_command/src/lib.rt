@@ -1,0 +1,12 @@
+//! The commands that add accounts and domains to a store, and the one that gives help: their words, and what they do.
+#![tactic(auto)]
+
+pub mod adding;
+pub mod helping;
+pub mod lines;
+mod refusals;
+#[cfg(test)]
+mod tests;
+mod values;
+pub mod word_forms;
+pub mod word_laws;

@@ -1,0 +1,49 @@
+//! Tells why a journal isn't opened, or a record refused.
+ghost use Rattle.std.specs.Prelude.{◌≡◌};
+ghost use Rattle.mail_wire.specs.Moves.{HasWireCause};
+ghost use Rattle.setup_command.specs.AddingRuns.{TellsLine, TellsRefused, TellsUnopened};
+
+use crate::lines::place_line;
+use mail_store::changing::StoreFault;
+use mail_store::opening::OpenFault;
+use mail_wire::outside::{Fault, Wire};
+use mail_wire::traffic::give_all;
+use std::alloc::Global;
+
+/// Gives octets, and answers the status.
+pub fn tell<W: Wire>(wire: &mut W, status: u8, line: &[u8]) -> Result<u8, Fault>
+    ensures tells { TellsLine (W.tells wire.old) (W.tells wire.new) result status line.now }
+    ensures cause { HasWireCause (W.tells wire.old) (W.tells wire.new) result Fault.Wire }
+{
+    give_all(wire, line)?;
+    Ok(status)
+}
+
+/// Tells why a journal isn't opened: status 5. Want of memory and a fault of the keeper are only answered.
+pub fn tell_unopened<W: Wire>(alloc: Global, fault: OpenFault, wire: &mut W) -> Result<u8, Fault>
+    ensures tells { TellsUnopened fault (W.tells wire.old) (W.tells wire.new) result }
+    ensures cause { HasWireCause (W.tells wire.old) (W.tells wire.new) result Fault.Wire }
+{
+    match fault {
+        OpenFault::BadJournal { at } => {
+            let line = place_line(alloc, b"bad journal at ", at)?;
+            tell(wire, 5, line.as_slice())
+        }
+        OpenFault::Keeper => Err(Fault::Keeper),
+        OpenFault::Memory => Err(Fault::Memory),
+    }
+}
+
+/// Tells why a record is refused: status 9. Want of memory and a fault of the keeper are only answered.
+pub fn tell_refused<W: Wire>(why: StoreFault, wire: &mut W) -> Result<u8, Fault>
+    ensures tells { TellsRefused why (W.tells wire.old) (W.tells wire.new) result }
+    ensures cause { HasWireCause (W.tells wire.old) (W.tells wire.new) result Fault.Wire }
+{
+    match why {
+        StoreFault::Exists => tell(wire, 9, b"exists\r\n"),
+        StoreFault::NoSuch => tell(wire, 9, b"no such domain\r\n"),
+        StoreFault::TooLarge => tell(wire, 9, b"too large\r\n"),
+        StoreFault::Memory => Err(Fault::Memory),
+        StoreFault::Keeper => Err(Fault::Keeper),
+    }
+}

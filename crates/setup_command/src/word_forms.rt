@@ -1,0 +1,154 @@
+//! Reads the words of the commands that add to a store.
+ghost use Rattle.std.specs.Prelude.{◌≡◌, ◌≢◌, ◌≤◌, ◌↔◌, ℕ, List, length, map, string_bytes, IfOk, IfSome, IfNone, IsTrue, IsUtf8, None};
+ghost use Rattle.std.specs.List.{list_all};
+ghost use Rattle.ace_domains.specs.Domains.{normal_form};
+ghost use Rattle.address_lists.specs.Addresses.{address_text};
+ghost use Rattle.address_lists.specs.Paths.{ComesInPath};
+ghost use Rattle.address_lists.specs.declared.Address.{Address as AddressValue};
+ghost use Rattle.mail_store.specs.Addresses.{IsTextOf};
+ghost use Rattle.setup_command.specs.PlainWords.{IsCalled, is_plain as is_plain_word};
+ghost use Rattle.setup_command.specs.WordForms.{IsAccount, IsAccountText, IsDomain};
+
+use crate::values::{one_value, two_values};
+use ace_domains::normal;
+use address_lists::{Address, AddressFault, read_path, write_address};
+use mail_store::limits::TEXT_MAX;
+use mail_wire::values::{Memory, Octets};
+use mail_wire::words::Words;
+use std::alloc::Global;
+
+/// What the words of `account` say.
+#[derive(Debug, Drop)]
+pub struct AccountWords {
+    pub address: Address,
+    pub password: Octets,
+}
+
+// The words as a list.
+fn list_of<'a>(alloc: Global, words: &'a Words) -> Result<Vec<&'a str>, Memory>
+    ensures { IfOk result (λ list. map (λ s. s.now) list.items ≡ words.now) }
+{
+    let mut list = Vec::new(alloc);
+    while let Some(word) = words.get(list.len()) {
+        list.push(word)?;
+    }
+    Ok(list)
+}
+
+// Whether the word isn't empty and doesn't begin with `-`.
+fn is_plain(word: &str) -> bool
+    ensures { result ≡ is_plain_word word.now }
+{
+    match word.as_bytes().first() {
+        Some(first) => *first != b'-',
+        None => false,
+    }
+}
+
+// Whether no word is empty or begins with `-`.
+fn are_plain(words: &[&str]) -> bool
+    ensures { result ≡ list_all (λ s. is_plain_word s.now) words.now }
+{
+    words.iter().all(|word| is_plain(word))
+}
+
+// Whether the first word is this name and the others are plain.
+fn is_called(words: &[&str], name: &str) -> bool
+    ensures { IsTrue result ↔ IsCalled name.now (map (λ s. s.now) words.now) }
+{
+    match words.split_first() {
+        Some((first, rest)) => *first == name && are_plain(rest),
+        None => false,
+    }
+}
+
+// The address of a text, or none where it is the text of no address.
+fn read_text(alloc: Global, text: &[u8]) -> Result<Option<Address>, Memory>
+    ensures some { IfOk result (λ found. IfSome found (IsTextOf text.now)) }
+    ensures none { IfOk result (λ found. IfNone found ((address : AddressValue) → ¬ IsTextOf text.now address)) }
+{
+    let mut path = Octets::from_slice(alloc, b"<")?;
+    path.push_slice(text)?;
+    path.push(b'>')?;
+    match read_path(alloc, path.as_slice()) {
+        Ok(found) => Ok(found),
+        Err(AddressFault::Malformed) => Ok(None),
+        Err(AddressFault::Memory) => Err(Memory),
+    }
+}
+
+// Whether the domain has a normal form.
+fn has_form(alloc: Global, domain: &[u8]) -> Result<bool, Memory>
+    requires { IsUtf8 domain.now }
+    ensures { IfOk result (λ has. IsTrue has ↔ (normal_form domain.now ≢ None)) }
+{
+    match std::str::from_utf8(domain) {
+        Ok(domain) => Ok(normal(alloc, domain)?.is_some()),
+        Err(_) => unreachable!(),
+    }
+}
+
+// Whether the address has a text within the limit.
+fn is_short(alloc: Global, address: &Address) -> Result<bool, Memory>
+    requires { ComesInPath address.now }
+    ensures { IfOk result (λ short. IsTrue short ↔ (length (address_text address.now) ≤ TEXT_MAX)) }
+{
+    Ok(write_address(alloc, address)?.len() <= TEXT_MAX)
+}
+
+// The address of an account, by its text.
+fn account_address(alloc: Global, text: &[u8]) -> Result<Option<Address>, Memory>
+    ensures some { IfOk result (λ found. IfSome found (IsAccountText text.now)) }
+    ensures none { IfOk result (λ found. IfNone found ((address : AddressValue) → ¬ IsAccountText text.now address)) }
+{
+    let Some(address) = read_text(alloc, text)? else {
+        return Ok(None);
+    };
+    if !has_form(alloc, address.domain.as_slice())? {
+        return Ok(None);
+    }
+    if !is_short(alloc, &address)? {
+        return Ok(None);
+    }
+    Ok(Some(address))
+}
+
+/// What the words of `account` say, or none where the words aren't such.
+pub fn read_account(alloc: Global, words: &Words) -> Result<Option<AccountWords>, Memory>
+    ensures some { IfOk result (λ found. IfSome found (λ said. IsAccount words.now said.address said.password)) }
+    ensures none { IfOk result (λ found. IfNone found ((address : AddressValue) (password : List ℕ) → ¬ IsAccount words.now address password)) }
+{
+    let list = list_of(alloc, words)?;
+    if !is_called(&list, "account") {
+        return Ok(None);
+    }
+    let Some((text, password)) = two_values(alloc, &list)? else {
+        return Ok(None);
+    };
+    if password.len() > TEXT_MAX {
+        return Ok(None);
+    }
+    let Some(address) = account_address(alloc, text.as_bytes())? else {
+        return Ok(None);
+    };
+    let password = Octets::from_slice(alloc, password.as_bytes())?;
+    Ok(Some(AccountWords { address, password }))
+}
+
+/// The domain that the words of `domain` name, or none where the words aren't such.
+pub fn read_domain(alloc: Global, words: &Words) -> Result<Option<String>, Memory>
+    ensures some { IfOk result (λ found. IfSome found (λ name. IsDomain words.now (string_bytes name))) }
+    ensures none { IfOk result (λ found. IfNone found ((name : List ℕ) → ¬ IsDomain words.now name)) }
+{
+    let list = list_of(alloc, words)?;
+    if !is_called(&list, "domain") {
+        return Ok(None);
+    }
+    let Some(domain) = one_value(alloc, &list)? else {
+        return Ok(None);
+    };
+    let Some(_) = normal(alloc, domain)? else {
+        return Ok(None);
+    };
+    Ok(Some(String::from_str(alloc, domain)?))
+}
