@@ -2,6 +2,7 @@
 #![tactic(auto)]
 
 use mail_command::command::run;
+use mail_wire::clock::SystemClock;
 use mail_wire::edge::StdWire;
 use mail_wire::file_keeper::FileKeeper;
 use mail_wire::values::Memory;
@@ -38,5 +39,6 @@ fn main(rt: HostRuntime) -> ExitCode {
     };
     let mut wire = StdWire::new(rt.reader(), io::writer(&rt));
     let mut keeper = FileKeeper::new(&rt, JOURNAL);
-    ExitCode::from(run(rt.alloc(), &words, &mut wire, &mut keeper))
+    let mut clock = SystemClock::new(&rt);
+    ExitCode::from(run(rt.alloc(), &words, &mut wire, &mut keeper, &mut clock))
 }

@@ -1,9 +1,12 @@
 pub mod TakingLemmas
 pub mod WordsLemmas
+pub mod CommandLemmas
 pub mod RopeLemmas
 pub mod OutcomeLemmas
 pub mod RunLemmas
 pub mod ServingLemmas
-pub mod PopServing
+pub mod GoesLemmas
+pub mod RoleLemmas
+pub mod ExitLemmas
 pub mod BegunLemmas
 pub mod SessionLemmas

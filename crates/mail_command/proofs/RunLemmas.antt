@@ -13,8 +13,9 @@ use Rattle.mail_wire.proofs.LawfulLemmas.{IsLawful-give}
 use Rattle.mail_command.specs.Taking.{AreTaken, Takes, TakesUpTo}
 use Rattle.mail_command.specs.Outcome.{message_max, DowngradeOutcome}
 use Rattle.mail_command.specs.Serving.{IsPrefixOf}
-use Rattle.mail_command.specs.Running.{Answers, BreaksOff, IsBrokenOff, IsExact, RunsDowngrade}
-use Rattle.mail_command.specs.Statuses.{status_of}
+use Rattle.setup_command.specs.Running.{IsBrokenOff}
+use Rattle.mail_command.specs.Running.{Answers, BreaksOff, IsExact, RunsDowngrade}
+use Rattle.setup_command.specs.Statuses.{status_of}
 use Rattle.mail_wire.specs.declared.outside.Fault.{Fault}
 use Rattle.mail_wire.specs.declared.outside.Fault.TheVariants as fault
 use Rattle.mail_command.proofs.TakingLemmas.{AreTaken-given_of}
@@ -57,7 +58,7 @@ enough_by (Some l) (Some m) taken consumes end = record {
   whole = λ fits. consumes ∙ ap (λ more. taken ++ more) (end fits) ∙ append-nil taken;
 }
 
-some_of : (l : Option (List ℕ)) (P : List ℕ → Type 0) → ((octets : List ℕ) → P octets) → IfSome l P
+pub some_of : (l : Option (List ℕ)) (P : List ℕ → Type 0) → ((octets : List ℕ) → P octets) → IfSome l P
 some_of None P each = tt
 some_of (Some l) P each = each l
 

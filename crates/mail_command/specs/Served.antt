@@ -1,13 +1,10 @@
--- How a session may be answered, and what it leaves of its store then.
-use Rattle.std.specs.Prelude.{◌≡◌, ◌≤◌, ℕ, List, Bool, true, false, Option, Result, Ok, Err, IsTrue}
+-- How a session may be answered.
+use Rattle.std.specs.Prelude.{◌≡◌, ◌≤◌, ℕ, Bool, true, false, Result, Ok, Err, IsTrue}
 use Rattle.mail_wire.specs.Telling.{Telling}
 use Rattle.mail_wire.specs.KeeperTelling.{KeeperTelling}
 use Rattle.mail_wire.specs.Causes.{Rose}
 use Rattle.mail_wire.specs.declared.outside.Fault.{Fault}
 use Rattle.mail_wire.specs.declared.outside.Fault.TheVariants as fault
-use Rattle.mail_store.specs.Following.{records_of, Follows, FollowsSome, FailsIn}
-use Rattle.mail_store.specs.StoreState.{StoreState}
-use Rattle.mail_store.specs.declared.records.Record.{Record}
 use Rattle.mail_command.specs.declared.serving.Served.{Served}
 use Rattle.mail_command.specs.declared.serving.Served.TheVariants.{Ended, WireFault, KeeperFault, Memory, Limit}
 
@@ -21,14 +18,13 @@ pub record HasServedCause (before now : Telling) (keeper kept : KeeperTelling) (
   pub keeper_rose : served ≡ KeeperFault → Rose keeper.faults kept.faults
   pub keeper_sure : IsTrue keeper.never_fails → IsTrue kept.never_fails × ¬ (served ≡ KeeperFault)
 
--- What is left of the changes that were due: all were made in the store and in the keeper; or the first ones, where the session
--- was broken off; or the first ones and, in the keeper, a prefix of the next one, where the keeper failed.
-abbrev pub LeavesBy : StoreState → StoreState → Option (List ℕ) → Option (List ℕ) → Served → List (List Record) → Type 0
-LeavesBy old new had has Ended due = Follows old new had has (records_of due)
-LeavesBy old new had has Limit due = Follows old new had has (records_of due)
-LeavesBy old new had has WireFault due = FollowsSome old new had has due
-LeavesBy old new had has Memory due = FollowsSome old new had has due
-LeavesBy old new had has KeeperFault due = FailsIn old new had has due
+-- The answer of a call that ended so, as far as it tells what was done: all that was due, or, where it was broken off, the first of it.
+abbrev pub answer_of : Served → Result (Unit {0}) Fault
+answer_of Ended = Ok tt
+answer_of Limit = Ok tt
+answer_of WireFault = Err fault.Wire
+answer_of KeeperFault = Err fault.Keeper
+answer_of Memory = Err fault.Memory
 
 -- a fault as the call answers it
 abbrev pub served_of : Result Bool Fault → Served

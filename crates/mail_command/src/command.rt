@@ -1,26 +1,44 @@
 //! Runs a command over a wire and a keeper.
-ghost use Rattle.std.specs.Prelude.{◌≡◌, [], ◌∷◌, Err, IfOk, IfSome};
+ghost use Rattle.std.specs.Prelude.{◌≡◌, ◌≢◌, ℕ, List, [], ◌∷◌, Err, IfOk, IfErr, IfSome};
 ghost use Rattle.mail_wire.specs.Moves.{HasWireCause};
-ghost use Rattle.surrogate_cache.specs.Served.{WithMeanings};
-ghost use Rattle.mail_command.specs.Words.{Names, IsNoCommand, IsDowngrade, IsPop};
-ghost use Rattle.mail_command.specs.Running.{RefusesWords, RunsDowngrade, RunsSession, IsExactJournal, HasStatusCause};
-ghost use Rattle.mail_command.specs.Statuses.{status_of};
+ghost use Rattle.ace_domains.specs.Domains.{compared_form};
+ghost use Rattle.address_lists.specs.Addresses.{address_text};
+ghost use Rattle.address_lists.specs.declared.Address.{Address as AddressValue};
+ghost use Rattle.mail_store.specs.Addresses.{WithPaths};
+ghost use Rattle.mail_store.specs.Changing.{account_refusal, domain_refusal};
+ghost use Rattle.mail_store.specs.declared.records.Record.TheVariants as records;
+ghost use Rattle.setup_command.specs.AddingRuns.{RunsAdding, IsExactAdding};
+ghost use Rattle.setup_command.specs.Running.{IsExactJournal, HasStatusCause};
+ghost use Rattle.setup_command.specs.Statuses.{status_of};
+ghost use Rattle.setup_command.specs.WordForms.{IsAccount, IsDomain, IsHelp};
+ghost use Rattle.mail_command.specs.Protocols.{WithProtocol};
+ghost use Rattle.mail_command.specs.Words.{Names, IsNoCommand, IsDowngrade, IsSession, OpensJournal};
+ghost use Rattle.mail_command.specs.Running.{RefusesWords, RunsDowngrade, RunsSession, GivesHelp};
+ghost use Rattle.mail_command.specs.declared.roles.Role.{Role as RoleValue};
 ghost use Rattle.mail_command.specs.declared.serving.TheConstants.{LIMITS};
 
 use crate::downgrading::run_downgrade;
-use crate::serving::Role;
+use crate::roles::Role;
 use crate::sessions::run_session;
+use mail_wire::clock::Clock;
 use mail_wire::keeping::Keeper;
 use mail_wire::outside::{Fault, Wire};
 use mail_wire::traffic::give_all;
+use mail_wire::values::Memory;
 use mail_wire::words::Words;
+use setup_command::adding::{run_account, run_domain};
+use setup_command::helping::run_help;
+use setup_command::word_forms::{AccountWords, read_account, read_domain};
 use std::alloc::Global;
 
 /// The commands that words name.
-#[derive(Clone, Copy, Debug, PartialEq, Eq)]
+#[derive(Debug, Drop)]
 pub enum Command {
     Downgrade,
     Session(Role),
+    Account(AccountWords),
+    Domain(String),
+    Help,
 }
 
 // The command of one word.
@@ -30,17 +48,34 @@ fn command_named(word: &str) -> Option<Command>
     match word {
         "downgrade" => Some(Command::Downgrade),
         "pop" => Some(Command::Session(Role::Pop)),
+        "smtp" => Some(Command::Session(Role::Smtp)),
+        "help" => Some(Command::Help),
         _ => None,
     }
 }
 
-// The command that the words name.
-fn command_of(words: &Words) -> Option<Command>
-    ensures { Names words.now result }
+// The command of fewer words or of more.
+fn command_with_values(alloc: Global, words: &Words) -> Result<Option<Command>, Memory>
+    requires { (word : List ℕ) → words.now ≢ word ∷ [] }
+    ensures { IfOk result (Names words.now) }
+{
+    if let Some(said) = read_account(alloc, words)? {
+        return Ok(Some(Command::Account(said)));
+    }
+    match read_domain(alloc, words)? {
+        Some(name) => Ok(Some(Command::Domain(name))),
+        None => Ok(None),
+    }
+}
+
+// The command that the words name. One word takes no memory.
+fn command_of(alloc: Global, words: &Words) -> Result<Option<Command>, Memory>
+    ensures names { IfOk result (Names words.now) }
+    ensures memory { IfErr result (λ _. (word : List ℕ) → words.now ≢ word ∷ []) }
 {
     match (words.get(0), words.get(1)) {
-        (Some(word), None) => command_named(word),
-        _ => None,
+        (Some(word), None) => Ok(command_named(word)),
+        _ => command_with_values(alloc, words),
     }
 }
 
@@ -56,42 +91,79 @@ fn refuse_words<W: Wire>(wire: &mut W) -> Result<u8, Fault>
 }
 
 // Does what the words say.
-fn work<W: Wire, J: Keeper>(
+fn work<W: Wire, J: Keeper, C: Clock>(
     alloc: Global,
     words: &Words,
     wire: &mut W,
     keeper: &mut J,
+    clock: &mut C,
 ) -> Result<u8, Fault>
     ensures words { IsNoCommand words.now → RefusesWords (W.tells wire.old) (W.tells wire.new) (status_of result) }
     ensures downgrade { IsDowngrade words.now → RunsDowngrade (W.tells wire.old) (W.tells wire.new) (status_of result) }
-    ensures pop { IsPop words.now → WithMeanings (λ meanings. RunsSession meanings Role.Pop LIMITS.session_max
+    ensures session { (role : RoleValue) → IsSession words.now role → WithProtocol role (C.tells clock.old) (λ protocol. RunsSession protocol LIMITS.session_max
         (J.tells keeper.old).octets (J.tells keeper.new).octets (W.tells wire.old) (W.tells wire.new) (status_of result)) }
-    ensures journal { IsPop words.now → IfSome (J.tells keeper.old).octets (λ octets. IsExactJournal octets (status_of result)) }
-    ensures untouched { ¬ IsPop words.now → J.tells keeper.new ≡ J.tells keeper.old }
+    ensures account { (address : AddressValue) (password : List ℕ) → IsAccount words.now address password → WithPaths (λ path_of.
+        RunsAdding (λ kept. account_refusal path_of kept address) (records.Account (address_text address) password)
+        (J.tells keeper.old).octets (J.tells keeper.new).octets (W.tells wire.old) (W.tells wire.new) (status_of result)) }
+    ensures account_exact { (address : AddressValue) (password : List ℕ) → IsAccount words.now address password → WithPaths (λ path_of.
+        IfSome (J.tells keeper.old).octets (λ octets. IsExactAdding (λ kept. account_refusal path_of kept address) octets (status_of result))) }
+    ensures domain { (name : List ℕ) → IsDomain words.now name → RunsAdding (λ kept. domain_refusal kept name) (records.Domain (compared_form name))
+        (J.tells keeper.old).octets (J.tells keeper.new).octets (W.tells wire.old) (W.tells wire.new) (status_of result) }
+    ensures domain_exact { (name : List ℕ) → IsDomain words.now name
+        → IfSome (J.tells keeper.old).octets (λ octets. IsExactAdding (λ kept. domain_refusal kept name) octets (status_of result)) }
+    ensures help { IsHelp words.now → GivesHelp (W.tells wire.old) (W.tells wire.new) (status_of result) }
+    ensures journal { OpensJournal words.now → IfSome (J.tells keeper.old).octets (λ octets. IsExactJournal octets (status_of result)) }
+    ensures untouched { ¬ OpensJournal words.now → J.tells keeper.new ≡ J.tells keeper.old }
     ensures cause { HasStatusCause (W.tells wire.old) (W.tells wire.new) (J.tells keeper.old) (J.tells keeper.new) (status_of result) }
 {
-    match command_of(words) {
+    match command_of(alloc, words)? {
         Some(Command::Downgrade) => run_downgrade(alloc, wire),
-        Some(Command::Session(role)) => run_session(alloc, role, wire, keeper),
+        Some(Command::Session(role)) => run_session(alloc, role, wire, keeper, clock),
+        Some(Command::Account(said)) => run_account(
+            alloc,
+            &said.address,
+            said.password.as_slice(),
+            wire,
+            keeper,
+        ),
+        Some(Command::Domain(name)) => run_domain(alloc, &name, wire, keeper),
+        Some(Command::Help) => run_help(alloc, wire),
         None => refuse_words(wire),
     }
 }
 
 /// Runs the command that the words name, and answers its status: 0 where the work is done, 1 after a fault of the wire,
 /// 2 after one of the keeper, 3 for want of memory, 4 where the words are those of no command, 5 where the journal is bad,
-/// 6 where a session took 1 GiB without an end, 7 where the octets are no message or are more than 32 MiB.
-pub fn run<W: Wire, J: Keeper>(alloc: Global, words: &Words, wire: &mut W, keeper: &mut J) -> u8
+/// 6 where a session took 1 GiB without an end, 7 where the octets are no message or are more than 32 MiB, 9 where the store
+/// refuses an account or a domain.
+pub fn run<W: Wire, J: Keeper, C: Clock>(
+    alloc: Global,
+    words: &Words,
+    wire: &mut W,
+    keeper: &mut J,
+    clock: &mut C,
+) -> u8
     ensures words { IsNoCommand words.now → RefusesWords (W.tells wire.old) (W.tells wire.new) result }
     ensures downgrade { IsDowngrade words.now → RunsDowngrade (W.tells wire.old) (W.tells wire.new) result }
-    ensures pop { IsPop words.now → WithMeanings (λ meanings. RunsSession meanings Role.Pop LIMITS.session_max
+    ensures session { (role : RoleValue) → IsSession words.now role → WithProtocol role (C.tells clock.old) (λ protocol. RunsSession protocol LIMITS.session_max
         (J.tells keeper.old).octets (J.tells keeper.new).octets (W.tells wire.old) (W.tells wire.new) result) }
+    ensures account { (address : AddressValue) (password : List ℕ) → IsAccount words.now address password → WithPaths (λ path_of.
+        RunsAdding (λ kept. account_refusal path_of kept address) (records.Account (address_text address) password)
+        (J.tells keeper.old).octets (J.tells keeper.new).octets (W.tells wire.old) (W.tells wire.new) result) }
+    ensures account_exact { (address : AddressValue) (password : List ℕ) → IsAccount words.now address password → WithPaths (λ path_of.
+        IfSome (J.tells keeper.old).octets (λ octets. IsExactAdding (λ kept. account_refusal path_of kept address) octets result)) }
+    ensures domain { (name : List ℕ) → IsDomain words.now name → RunsAdding (λ kept. domain_refusal kept name) (records.Domain (compared_form name))
+        (J.tells keeper.old).octets (J.tells keeper.new).octets (W.tells wire.old) (W.tells wire.new) result }
+    ensures domain_exact { (name : List ℕ) → IsDomain words.now name
+        → IfSome (J.tells keeper.old).octets (λ octets. IsExactAdding (λ kept. domain_refusal kept name) octets result) }
+    ensures help { IsHelp words.now → GivesHelp (W.tells wire.old) (W.tells wire.new) result }
     // A bad journal is told.
-    ensures journal { IsPop words.now → IfSome (J.tells keeper.old).octets (λ octets. IsExactJournal octets result) }
-    // Only a session opens the journal.
-    ensures untouched { ¬ IsPop words.now → J.tells keeper.new ≡ J.tells keeper.old }
+    ensures journal { OpensJournal words.now → IfSome (J.tells keeper.old).octets (λ octets. IsExactJournal octets result) }
+    // Other words leave the journal.
+    ensures untouched { ¬ OpensJournal words.now → J.tells keeper.new ≡ J.tells keeper.old }
     ensures cause { HasStatusCause (W.tells wire.old) (W.tells wire.new) (J.tells keeper.old) (J.tells keeper.new) result }
 {
-    match work(alloc, words, wire, keeper) {
+    match work(alloc, words, wire, keeper, clock) {
         Ok(status) => status,
         Err(Fault::Wire) => 1,
         Err(Fault::Keeper) => 2,

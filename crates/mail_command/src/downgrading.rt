@@ -3,7 +3,8 @@ ghost use Rattle.std.specs.Prelude.{◌≡◌, ◌≢◌, Err, IfOk, OnErr};
 ghost use Rattle.mail_wire.specs.Moves.{HasWireCause};
 ghost use Rattle.surrogate_rope.specs.Ropes.{IsRopeOf, octets_of};
 ghost use Rattle.mail_command.specs.Outcome.{DowngradeOutcome, refusal_line, fault_line};
-ghost use Rattle.mail_command.specs.Running.{Answers, BreaksOff, IsBrokenOff};
+ghost use Rattle.setup_command.specs.Running.{IsBrokenOff};
+ghost use Rattle.mail_command.specs.Running.{Answers, BreaksOff};
 
 use crate::lines::{Reply, refusal_line};
 use crate::taking::take_up_to;

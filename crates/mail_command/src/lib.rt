@@ -5,6 +5,7 @@ pub mod command;
 pub mod downgrading;
 pub mod laws;
 mod lines;
+pub mod roles;
 pub mod serving;
 #[cfg(test)]
 mod session_tests;

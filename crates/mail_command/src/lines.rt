@@ -1,7 +1,6 @@
 //! What commands give.
 ghost use Rattle.std.specs.Prelude.{◌≡◌, IfOk};
 ghost use Rattle.mail_command.specs.Outcome.{refusal_line};
-ghost use Rattle.mail_command.specs.Running.{place_line};
 
 use itoa::Buffer;
 use mail_wire::values::{Memory, Octets};
@@ -12,17 +11,6 @@ use std::alloc::Global;
 pub struct Reply {
     pub status: u8,
     pub given: Octets,
-}
-
-/// A text, a place, and the end of the line.
-pub fn place_line(alloc: Global, text: &[u8], at: u64) -> Result<Octets, Memory>
-    ensures { IfOk result (λ line. line ≡ place_line text.now at) }
-{
-    let mut place = Buffer::new();
-    let mut line = Octets::from_slice(alloc, text)?;
-    line.push_slice(place.format(at).as_bytes())?;
-    line.push_slice(b"\r\n")?;
-    Ok(line)
 }
 
 /// The line that tells where a message is refused, and why.

@@ -4,16 +4,17 @@ ghost use Rattle.mail_wire.specs.Moves.{HasWireCause};
 ghost use Rattle.mail_wire.specs.Keeping.{HasKeeperCause};
 ghost use Rattle.mail_store.specs.Answers.{IsFold, OpensTo, IsJournalFault, LeavesRecords};
 ghost use Rattle.mail_store.specs.StoreState.{StoreState};
-ghost use Rattle.surrogate_cache.specs.Served.{WithMeanings};
-ghost use Rattle.mail_command.specs.Serving.{AreLimits, IsOpen, ServesLawfully, ServesAll, ServesUpTo};
+ghost use Rattle.mail_command.specs.Protocols.{WithProtocol};
+ghost use Rattle.mail_command.specs.Serving.{AreLimits, IsOpen, Serves};
 ghost use Rattle.mail_command.specs.Served.{HasServedCause, served_of};
 
+use crate::roles::{Role, Session};
 use mail_store::opening::OpenFault;
 use mail_store::storing::Store;
+use mail_wire::clock::Clock;
 use mail_wire::keeping::Keeper;
 use mail_wire::outside::{Fault, Wire};
 use mail_wire::traffic::take_piece;
-use pop_session::session::PopSession;
 use std::alloc::Global;
 use surrogate_cache::cache::Cache;
 
@@ -40,12 +41,6 @@ pub struct Desk {
     pub store: Store,
     pub cache: Cache,
     pub limits: Limits,
-}
-
-/// The protocol of a session.
-#[derive(Clone, Copy, Debug, PartialEq, Eq)]
-pub enum Role {
-    Pop,
 }
 
 /// How a session came to its end.
@@ -88,27 +83,26 @@ pub fn open_desk<J: Keeper>(
 // The greatest piece that is taken at a time.
 const PIECE: usize = 4096;
 
-// Serves a POP3 session. Whether it or the input ended before the limit.
-fn serve_pop<W: Wire, J: Keeper>(
+// Serves a session. Whether it or the input ended before the limit.
+fn serve<W: Wire, J: Keeper, C: Clock>(
     alloc: Global,
     desk: &mut Desk,
+    role: Role,
     wire: &mut W,
     keeper: &mut J,
+    clock: &mut C,
 ) -> Result<bool, Fault>
     requires { IsOpen desk.old }
-    ensures lawful { WithMeanings (λ meanings. ServesLawfully meanings Role.Pop desk.old.store desk.new.store
+    ensures serves { WithProtocol role (C.tells clock.old) (λ protocol. Serves protocol desk.old.store desk.new.store
         (J.tells keeper.old).octets (J.tells keeper.new).octets (served_of result) desk.old.limits.session_max (W.tells wire.old) (W.tells wire.new)) }
-    ensures ended { result ≡ Ok true → WithMeanings (λ meanings. ServesAll meanings Role.Pop desk.old.store desk.new.store
-        (J.tells keeper.old).octets (J.tells keeper.new).octets desk.old.limits.session_max (W.tells wire.old) (W.tells wire.new)) }
-    ensures limit { result ≡ Ok false → WithMeanings (λ meanings. ServesUpTo meanings Role.Pop desk.old.store desk.new.store
-        (J.tells keeper.old).octets (J.tells keeper.new).octets desk.old.limits.session_max (W.tells wire.old) (W.tells wire.new)) }
     ensures cause { HasWireCause (W.tells wire.old) (W.tells wire.new) result Fault.Wire }
     ensures keeper { HasKeeperCause (J.tells keeper.old) (J.tells keeper.new) result Fault.Keeper }
     ensures open { ¬ (result ≡ Err Fault.Keeper) → IsOpen desk.new }
     ensures limits { desk.new.limits ≡ desk.old.limits }
+    ensures clock { C.tells clock.new ≡ C.tells clock.old }
 {
     let max = desk.limits.session_max;
-    let mut session = PopSession::start(alloc, wire)?;
+    let mut session = Session::start(alloc, role, &desk.store, wire)?;
     let mut piece = [0; PIECE];
     let mut taken: u64 = 0;
     while taken < max {
@@ -118,13 +112,7 @@ fn serve_pop<W: Wire, J: Keeper>(
             return Ok(true);
         }
         taken += count as u64;
-        session = session.feed(
-            &piece[..count],
-            &mut desk.store,
-            &mut desk.cache,
-            wire,
-            keeper,
-        )?;
+        session = session.feed(&piece[..count], desk, wire, keeper, clock)?;
         if session.ended() {
             return Ok(true);
         }
@@ -134,33 +122,28 @@ fn serve_pop<W: Wire, J: Keeper>(
 
 /// Serves one session: gives the greeting, takes pieces of at most 4,096 octets, and answers each command as soon as it is
 /// whole.
-pub fn serve_one<W: Wire, J: Keeper>(
+pub fn serve_one<W: Wire, J: Keeper, C: Clock>(
     alloc: Global,
     desk: &mut Desk,
     role: Role,
     wire: &mut W,
     keeper: &mut J,
+    clock: &mut C,
 ) -> Served
     requires { IsOpen desk.old }
-    // Before each take all that was taken was answered, nothing else was ever given, and no more was taken than the limit. The
-    // changes of what was taken were made in the store and in the keeper, or, after a fault, the first of them.
-    ensures lawful { WithMeanings (λ meanings. ServesLawfully meanings role desk.old.store desk.new.store
+    // By the machine of the role's protocol: before each take all that was taken was answered, nothing else was ever given, and no
+    // more was taken than the limit. What was taken was done: the replies given and the changes made in the store and in the
+    // keeper, in their order, or, after a fault, the first of them. At Ended it was sent what is due for all that was left, and has
+    // ended, or nothing is left. At Limit it was sent what is due for as many octets as a session may take, and has not ended.
+    ensures serves { WithProtocol role (C.tells clock.old) (λ protocol. Serves protocol desk.old.store desk.new.store
         (J.tells keeper.old).octets (J.tells keeper.new).octets result desk.old.limits.session_max (W.tells wire.old) (W.tells wire.new)) }
-    // The session was sent what is due for all that was left, and has ended, or nothing is left.
-    ensures ended { result ≡ Served.Ended → WithMeanings (λ meanings. ServesAll meanings role desk.old.store desk.new.store
-        (J.tells keeper.old).octets (J.tells keeper.new).octets desk.old.limits.session_max (W.tells wire.old) (W.tells wire.new)) }
-    // It was sent what is due for as many octets as a session may take, and has not ended.
-    ensures limit { result ≡ Served.Limit → WithMeanings (λ meanings. ServesUpTo meanings role desk.old.store desk.new.store
-        (J.tells keeper.old).octets (J.tells keeper.new).octets desk.old.limits.session_max (W.tells wire.old) (W.tells wire.new)) }
 
     ensures cause { HasServedCause (W.tells wire.old) (W.tells wire.new) (J.tells keeper.old) (J.tells keeper.new) result }
     ensures open { ¬ (result ≡ Served.KeeperFault) → IsOpen desk.new }
     ensures limits { desk.new.limits ≡ desk.old.limits }
+    ensures clock { C.tells clock.new ≡ C.tells clock.old }
 {
-    let served = match role {
-        Role::Pop => serve_pop(alloc, desk, wire, keeper),
-    };
-    match served {
+    match serve(alloc, desk, role, wire, keeper, clock) {
         Ok(true) => Served::Ended,
         Ok(false) => Served::Limit,
         Err(Fault::Wire) => Served::WireFault,

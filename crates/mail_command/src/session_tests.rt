@@ -1,6 +1,8 @@
 //! The rows of sessions, over wires and keepers in memory.
 use crate::command::run;
-use crate::serving::{Limits, Role, Served, open_desk, serve_one};
+use crate::roles::Role;
+use crate::serving::{Limits, Served, open_desk, serve_one};
+use mail_wire::clock::FixedClock;
 use mail_wire::in_memory::{Failure, MemWire};
 use mail_wire::mem_keeper::MemKeeper;
 use mail_wire::outside::Entry;
@@ -54,11 +56,21 @@ fn given(alloc: Global, wire: &MemWire) -> Result<Octets, Memory> {
     Ok(given)
 }
 
+// The status of a command of one word, at the clock's second 0.
+fn status_of(
+    alloc: Global,
+    word: &str,
+    wire: &mut MemWire,
+    keeper: &mut MemKeeper,
+) -> Result<u8, Memory> {
+    let mut words = Words::none(alloc);
+    words.push(word)?;
+    Ok(run(alloc, &words, wire, keeper, &mut FixedClock::new(0)))
+}
+
 // The status of `pop`.
 fn pop(alloc: Global, wire: &mut MemWire, keeper: &mut MemKeeper) -> Result<u8, Memory> {
-    let mut words = Words::none(alloc);
-    words.push("pop")?;
-    Ok(run(alloc, &words, wire, keeper))
+    status_of(alloc, "pop", wire, keeper)
 }
 
 #[test]
@@ -145,29 +157,87 @@ fn each_failing_call_breaks_the_session_off(rt: HostRuntime) -> Result<(), Fail>
 }
 
 // How a session ends that may take so many octets, and what it was given.
-fn served_up_to(alloc: Global, session_max: u64) -> Result<(Served, Octets), Fail> {
-    let mut keeper = keeper_of(alloc, JOURNAL, &[])?;
+fn served_up_to(
+    alloc: Global,
+    role: Role,
+    input: &[u8],
+    message_max: u32,
+    session_max: u64,
+    keeper: &mut MemKeeper,
+) -> Result<(Served, Octets), Fail> {
+    let message_max = message_max.min(33_554_432);
     let limits = Limits {
-        message_max: 25,
-        session_max: session_max.max(26),
+        message_max,
+        session_max: session_max.max(u64::from(message_max) + 1),
         pool_blocks: 1,
         cache_entries: 1,
     };
-    let Ok(mut desk) = open_desk(alloc, &mut keeper, limits) else {
+    let Ok(mut desk) = open_desk(alloc, keeper, limits) else {
         return Err(Fail::from("the journal isn't opened"));
     };
-    let mut wire = wire_of(alloc, LEGACY, &[], &[])?;
-    let served = serve_one(alloc, &mut desk, Role::Pop, &mut wire, &mut keeper);
+    let mut wire = wire_of(alloc, input, &[], &[])?;
+    let mut clock = FixedClock::new(0);
+    let served = serve_one(alloc, &mut desk, role, &mut wire, keeper, &mut clock);
     Ok((served, given(alloc, &wire)?))
 }
 
 #[test]
 fn a_session_takes_no_more_than_its_limit(rt: HostRuntime) -> Result<(), Fail> {
-    let (limit, two_replies) = served_up_to(rt.alloc(), 33)?;
+    let alloc = rt.alloc();
+    let mut keeper = keeper_of(alloc, JOURNAL, &[])?;
+    let (limit, two_replies) = served_up_to(alloc, Role::Pop, LEGACY, 25, 33, &mut keeper)?;
     assert_eq!(rt; limit, Served::Limit);
     assert!(rt; two_replies.as_slice() == b"+OK ready\r\n+OK\r\n+OK\r\n".as_slice());
-    let (ended, all) = served_up_to(rt.alloc(), LEGACY.len() as u64)?;
+    let whole = LEGACY.len() as u64;
+    let (ended, all) = served_up_to(alloc, Role::Pop, LEGACY, 25, whole, &mut keeper)?;
     assert_eq!(rt; ended, Served::Ended);
     assert!(rt; all.as_slice() == LEGACY_REPLIES);
+    Ok(())
+}
+
+const STREAM: &str =
+    "EHLO client\r\nMAIL FROM:<jos\u{e9}@example.com>\r\nMAIL FROM:<jos\u{e9}@example.com> SMTPUTF8\r\nRCPT TO:<ANN@example.org>\r\nRCPT TO:<bob@example.org>\r\nDATA\r\nSubject: \u{e9}\r\n\r\n..x\r\n.\r\nQUIT\r\n";
+
+const STREAM_REPLIES: &str =
+    "220 example.org ESMTP\r\n250-example.org\r\n250-8BITMIME\r\n250-SIZE 1000\r\n250-SMTPUTF8\r\n250 ENHANCEDSTATUSCODES\r\n553 5.6.7 address needs SMTPUTF8\r\n250 2.1.0 ok\r\n250 2.1.5 ok\r\n550 5.1.1 no such mailbox\r\n354 go ahead\r\n250 2.0.0 stored\r\n221 2.0.0 bye\r\n";
+
+const KEPT: &str =
+    "Return-Path: <jos\u{e9}@example.com>\r\nReceived: from client by example.org with UTF8SMTP; Thu, 01 Jan 1970 00:00:00 +0000\r\nSubject: \u{e9}\r\n\r\n.x\r\n";
+
+#[test]
+fn a_message_is_taken_over_smtp(rt: HostRuntime) -> Result<(), Fail> {
+    let alloc = rt.alloc();
+    let mut keeper = keeper_of(alloc, &JOURNAL[..WITHOUT_MESSAGE], &[])?;
+    let (served, given) = served_up_to(
+        alloc,
+        Role::Smtp,
+        STREAM.as_bytes(),
+        1000,
+        2000,
+        &mut keeper,
+    )?;
+    assert_eq!(rt; served, Served::Ended);
+    assert!(rt; given.as_slice() == STREAM_REPLIES.as_bytes());
+    assert!(rt; keeper.octets().ends_with(KEPT.as_bytes()));
+    Ok(())
+}
+
+#[test]
+fn rows_of_smtp(rt: HostRuntime) -> Result<(), Fail> {
+    let alloc = rt.alloc();
+    for (journal, input, replies) in [
+        (
+            &JOURNAL[..WITHOUT_MESSAGE],
+            b"QUIT\r\nQUIT\r\n".as_slice(),
+            b"220 example.org ESMTP\r\n221 2.0.0 bye\r\n".as_slice(),
+        ),
+        (b"", b"NOOP\r\n", b"220 localhost ESMTP\r\n250 2.0.0 ok\r\n"),
+    ] {
+        let mut wire = wire_of(alloc, input, &[], &[])?;
+        let mut keeper = keeper_of(alloc, journal, &[])?;
+        let status = status_of(alloc, "smtp", &mut wire, &mut keeper)?;
+        assert_eq!(rt; status, 0, "at {input:?}");
+        assert!(rt; given(alloc, &wire)?.as_slice() == replies, "at {input:?}");
+    }
     Ok(())
 }

@@ -1,16 +1,20 @@
 //! The commands that serve a session.
-ghost use Rattle.std.specs.Prelude.{◌≡◌, Err, IfOk};
-ghost use Rattle.surrogate_cache.specs.Served.{WithMeanings};
-ghost use Rattle.mail_command.specs.Running.{RunsSession, IsToldBy, HasStatusCause};
-ghost use Rattle.mail_command.specs.Statuses.{status_of};
+ghost use Rattle.std.specs.Prelude.{◌≡◌, Err, IfOk, IfSome};
+ghost use Rattle.mail_command.specs.Protocols.{WithProtocol};
+ghost use Rattle.setup_command.specs.Running.{IsToldBy, IsExactJournal, HasStatusCause};
+ghost use Rattle.mail_command.specs.Running.{RunsSession};
+ghost use Rattle.setup_command.specs.Statuses.{status_of};
 ghost use Rattle.mail_command.specs.declared.serving.TheConstants.{LIMITS};
 
-use crate::lines::{Reply, place_line};
-use crate::serving::{LIMITS, Role, Served, open_desk, serve_one};
+use crate::lines::Reply;
+use crate::roles::Role;
+use crate::serving::{LIMITS, Served, open_desk, serve_one};
 use mail_store::opening::OpenFault;
+use mail_wire::clock::Clock;
 use mail_wire::keeping::Keeper;
 use mail_wire::outside::{Fault, Wire};
 use mail_wire::traffic::give_all;
+use setup_command::lines::place_line;
 use std::alloc::Global;
 
 // What tells why a journal wasn't opened.
@@ -30,14 +34,17 @@ fn unopened(alloc: Global, fault: OpenFault) -> Result<Reply, Fault>
 }
 
 /// Opens the journal of the keeper, and serves one session.
-pub fn run_session<W: Wire, J: Keeper>(
+pub fn run_session<W: Wire, J: Keeper, C: Clock>(
     alloc: Global,
     role: Role,
     wire: &mut W,
     keeper: &mut J,
+    clock: &mut C,
 ) -> Result<u8, Fault>
-    ensures runs { WithMeanings (λ meanings. RunsSession meanings role LIMITS.session_max
+    ensures runs { WithProtocol role (C.tells clock.old) (λ protocol. RunsSession protocol LIMITS.session_max
         (J.tells keeper.old).octets (J.tells keeper.new).octets (W.tells wire.old) (W.tells wire.new) (status_of result)) }
+    // A bad journal is told.
+    ensures journal { IfSome (J.tells keeper.old).octets (λ octets. IsExactJournal octets (status_of result)) }
     ensures cause { HasStatusCause (W.tells wire.old) (W.tells wire.new) (J.tells keeper.old) (J.tells keeper.new) (status_of result) }
 {
     let mut desk = match open_desk(alloc, keeper, LIMITS) {
@@ -48,7 +55,7 @@ pub fn run_session<W: Wire, J: Keeper>(
             return Ok(reply.status);
         }
     };
-    match serve_one(alloc, &mut desk, role, wire, keeper) {
+    match serve_one(alloc, &mut desk, role, wire, keeper, clock) {
         Served::Ended => Ok(0),
         Served::Limit => Ok(6),
         Served::WireFault => Err(Fault::Wire),

@@ -1,5 +1,6 @@
 //! The rows of `downgrade`, over wires in memory.
 use crate::command::run;
+use mail_wire::clock::FixedClock;
 use mail_wire::in_memory::{Failure, MemWire};
 use mail_wire::mem_keeper::MemKeeper;
 use mail_wire::outside::Entry;
@@ -29,7 +30,8 @@ fn answer(
         Vec::from_slice(alloc, failures)?,
     );
     let mut keeper = MemKeeper::new(Octets::new(alloc), Vec::new(alloc));
-    let status = run(alloc, &words, &mut wire, &mut keeper);
+    let mut clock = FixedClock::new(0);
+    let status = run(alloc, &words, &mut wire, &mut keeper, &mut clock);
     let mut given = Octets::new(alloc);
     for entry in wire.entries() {
         if let Entry::Given(octets) = entry {

@@ -1,48 +1,86 @@
 use Rattle.std.proofs.Common.{refl, sym, ap, inl, inr}
-use Rattle.mail_command.specs.Served.{status_of_served}
 use Rattle.std.proofs.lemmas.Result.{err_from_is_err_and}
-use Rattle.mail_command.proofs.SessionLemmas.{broken_by, told, told_partly, served, served_up_to, served_partly}
+use Rattle.mail_command.specs.Served.{status_of_served}
+use Rattle.mail_command.proofs.SessionLemmas.{broken_by, untold, told, told_partly, served, served_up_to, served_partly, unopened_exact, broken_exact, opened_exact}
 use Rattle.mail_command.proofs.sessions.run_session.Goals as goal
 
+pub returns-in_err-reply-in-Err-clause-runs : goal.returns-in_err-reply-in-Err-clause-runs
+returns-in_err-reply-in-Err-clause-runs g c =
+    let p = err_from_is_err_and c.from_residual.result c.from_residual.ensures.1 in
+    untold c.args.role (g.C.Clock.tells c.args.clock.now) 1073741824 (g.J.Keeper.tells c.args.keeper.now).octets (g.J.Keeper.tells c.open_desk.new.keeper).octets (g.W.Wire.tells c.args.wire.now) _
+    c.open_desk.ensures.leaves (broken_by c.from_residual.result p.0 p.1)
+
+pub returns-in_err-reply-in-Err-clause-journal : goal.returns-in_err-reply-in-Err-clause-journal
+returns-in_err-reply-in-Err-clause-journal g c =
+    let p = err_from_is_err_and c.from_residual.result c.from_residual.ensures.1 in
+    broken_exact (g.J.Keeper.tells c.args.keeper.now).octets _ (broken_by c.from_residual.result p.0 p.1)
+
 pub returns-in_err-give_all-in-Err-clause-runs : goal.returns-in_err-give_all-in-Err-clause-runs
-returns-in_err-give_all-in-Err-clause-runs g c meanings is =
+returns-in_err-give_all-in-Err-clause-runs g c =
     let p = err_from_is_err_and c.from_residual-in_err-give_all-in-Err.result c.from_residual-in_err-give_all-in-Err.ensures.1 in
-    told_partly meanings c.args.role 1073741824 (g.J.Keeper.tells c.args.keeper.now).octets (g.J.Keeper.tells c.open_desk.new.keeper).octets (g.W.Wire.tells c.args.wire.now) (g.W.Wire.tells c.give_all.new.wire)
-    c.in-Err.fault c.in_ok-reply-in-Err.reply.status _ c.in_ok-reply-in-Err.reply.given c.open_desk.ensures.leaves c.in-Err.ensures.fault c.in_ok-reply-in-Err.ensures.told
-    (rw c.as_slice.ensures at c.in_err-give_all-in-Err.ensures.gives) (broken_by c.from_residual-in_err-give_all-in-Err.result p.0 p.1)
+    told_partly c.args.role (g.C.Clock.tells c.args.clock.now) 1073741824 (g.J.Keeper.tells c.args.keeper.now).octets (g.J.Keeper.tells c.open_desk.new.keeper).octets (g.W.Wire.tells c.args.wire.now)
+    (g.W.Wire.tells c.give_all.new.wire) c.in-Err.fault c.in_ok-reply-in-Err.reply.status _ c.in_ok-reply-in-Err.reply.given c.open_desk.ensures.leaves c.in-Err.ensures.fault
+    c.in_ok-reply-in-Err.ensures.told (rw c.as_slice.ensures at c.in_err-give_all-in-Err.ensures.gives) (broken_by c.from_residual-in_err-give_all-in-Err.result p.0 p.1)
+
+pub returns-in_err-give_all-in-Err-clause-journal : goal.returns-in_err-give_all-in-Err-clause-journal
+returns-in_err-give_all-in-Err-clause-journal g c =
+    let p = err_from_is_err_and c.from_residual-in_err-give_all-in-Err.result c.from_residual-in_err-give_all-in-Err.ensures.1 in
+    broken_exact (g.J.Keeper.tells c.args.keeper.now).octets _ (broken_by c.from_residual-in_err-give_all-in-Err.result p.0 p.1)
 
 pub returns-in-Err-clause-runs : goal.returns-in-Err-clause-runs
-returns-in-Err-clause-runs g c meanings is =
-    told meanings c.args.role 1073741824 (g.J.Keeper.tells c.args.keeper.now).octets (g.J.Keeper.tells c.open_desk.new.keeper).octets (g.W.Wire.tells c.args.wire.now) (g.W.Wire.tells c.give_all.new.wire)
-    c.in-Err.fault c.in_ok-reply-in-Err.reply.status c.in_ok-reply-in-Err.reply.given c.in-Err.ensures.fault c.in_ok-reply-in-Err.ensures.told
+returns-in-Err-clause-runs g c =
+    told c.args.role (g.C.Clock.tells c.args.clock.now) 1073741824 (g.J.Keeper.tells c.args.keeper.now).octets (g.J.Keeper.tells c.open_desk.new.keeper).octets (g.W.Wire.tells c.args.wire.now)
+    (g.W.Wire.tells c.give_all.new.wire) c.in-Err.fault c.in_ok-reply-in-Err.reply.status c.in_ok-reply-in-Err.reply.given c.in-Err.ensures.fault c.in_ok-reply-in-Err.ensures.told
     (rw c.as_slice.ensures at c.in_ok-give_all-in-Err.ensures.gives)
 
+pub returns-in-Err-clause-journal : goal.returns-in-Err-clause-journal
+returns-in-Err-clause-journal g c =
+    unopened_exact (g.J.Keeper.tells c.args.keeper.now).octets (g.J.Keeper.tells c.open_desk.new.keeper).octets c.in-Err.fault c.in_ok-reply-in-Err.reply.status c.in_ok-reply-in-Err.reply.given
+    c.in_ok-reply-in-Err.ensures.told c.in-Err.ensures.fault
+
 pub returns-in-Ended-clause-runs : goal.returns-in-Ended-clause-runs
-returns-in-Ended-clause-runs g c meanings is =
-    served meanings c.args.role 1073741824 (g.J.Keeper.tells c.args.keeper.now).octets (g.J.Keeper.tells c.open_desk.new.keeper).octets (g.J.Keeper.tells c.serve_one.new.keeper).octets
-    (g.W.Wire.tells c.args.wire.now) (g.W.Wire.tells c.serve_one.new.wire) c.in-Ok.desk.store c.serve_one.new.desk.store c.open_desk.ensures.leaves c.in-Ok.ensures.fold c.in-Ok.ensures.opens
-    (rw c.in-Ok.ensures.limits at (c.in-Ended.ensures.ended refl meanings is))
+returns-in-Ended-clause-runs g c =
+    served c.args.role (g.C.Clock.tells c.args.clock.now) 1073741824 (g.J.Keeper.tells c.args.keeper.now).octets (g.J.Keeper.tells c.open_desk.new.keeper).octets
+    (g.J.Keeper.tells c.serve_one.new.keeper).octets (g.W.Wire.tells c.args.wire.now) (g.W.Wire.tells c.serve_one.new.wire) c.in-Ok.desk.store c.serve_one.new.desk.store c.serve_one.result c.in-Ended.is
+    c.open_desk.ensures.leaves c.in-Ok.ensures.fold c.in-Ok.ensures.opens (rw c.in-Ok.ensures.limits at c.serve_one.ensures.serves)
+
+pub returns-in-Ended-clause-journal : goal.returns-in-Ended-clause-journal
+returns-in-Ended-clause-journal g c =
+    opened_exact (g.J.Keeper.tells c.args.keeper.now).octets (g.J.Keeper.tells c.open_desk.new.keeper).octets c.in-Ok.desk.store 0 c.in-Ok.ensures.opens
 
 pub returns-in-Limit-clause-runs : goal.returns-in-Limit-clause-runs
-returns-in-Limit-clause-runs g c meanings is =
-    served_up_to meanings c.args.role 1073741824 (g.J.Keeper.tells c.args.keeper.now).octets (g.J.Keeper.tells c.open_desk.new.keeper).octets (g.J.Keeper.tells c.serve_one.new.keeper).octets
-    (g.W.Wire.tells c.args.wire.now) (g.W.Wire.tells c.serve_one.new.wire) c.in-Ok.desk.store c.serve_one.new.desk.store c.open_desk.ensures.leaves c.in-Ok.ensures.fold c.in-Ok.ensures.opens
-    (rw c.in-Ok.ensures.limits at (c.in-Limit.ensures.limit refl meanings is))
+returns-in-Limit-clause-runs g c =
+    served_up_to c.args.role (g.C.Clock.tells c.args.clock.now) 1073741824 (g.J.Keeper.tells c.args.keeper.now).octets (g.J.Keeper.tells c.open_desk.new.keeper).octets
+    (g.J.Keeper.tells c.serve_one.new.keeper).octets (g.W.Wire.tells c.args.wire.now) (g.W.Wire.tells c.serve_one.new.wire) c.in-Ok.desk.store c.serve_one.new.desk.store c.serve_one.result c.in-Limit.is
+    c.open_desk.ensures.leaves c.in-Ok.ensures.fold c.in-Ok.ensures.opens (rw c.in-Ok.ensures.limits at c.serve_one.ensures.serves)
+
+pub returns-in-Limit-clause-journal : goal.returns-in-Limit-clause-journal
+returns-in-Limit-clause-journal g c =
+    opened_exact (g.J.Keeper.tells c.args.keeper.now).octets (g.J.Keeper.tells c.open_desk.new.keeper).octets c.in-Ok.desk.store 6 c.in-Ok.ensures.opens
 
 pub returns-in-WireFault-clause-runs : goal.returns-in-WireFault-clause-runs
-returns-in-WireFault-clause-runs g c meanings is =
-    served_partly meanings c.args.role 1073741824 (g.J.Keeper.tells c.args.keeper.now).octets (g.J.Keeper.tells c.open_desk.new.keeper).octets (g.J.Keeper.tells c.serve_one.new.keeper).octets
-    (g.W.Wire.tells c.args.wire.now) (g.W.Wire.tells c.serve_one.new.wire) c.in-Ok.desk.store c.serve_one.new.desk.store c.serve_one.result 1 c.in-Ok.ensures.fold c.in-Ok.ensures.opens
-    (rw c.in-Ok.ensures.limits at (c.serve_one.ensures.lawful meanings is)) (ap status_of_served (sym c.in-WireFault.is)) (inl (inl refl))
+returns-in-WireFault-clause-runs g c =
+    served_partly c.args.role (g.C.Clock.tells c.args.clock.now) 1073741824 (g.J.Keeper.tells c.args.keeper.now).octets (g.J.Keeper.tells c.open_desk.new.keeper).octets
+    (g.J.Keeper.tells c.serve_one.new.keeper).octets (g.W.Wire.tells c.args.wire.now) (g.W.Wire.tells c.serve_one.new.wire) c.in-Ok.desk.store c.serve_one.new.desk.store c.serve_one.result 1
+    (ap status_of_served (sym c.in-WireFault.is)) (inl (inl refl)) c.in-Ok.ensures.fold c.in-Ok.ensures.opens (rw c.in-Ok.ensures.limits at c.serve_one.ensures.serves)
+
+pub returns-in-WireFault-clause-journal : goal.returns-in-WireFault-clause-journal
+returns-in-WireFault-clause-journal g c = broken_exact (g.J.Keeper.tells c.args.keeper.now).octets 1 (inl (inl refl))
 
 pub returns-in-KeeperFault-clause-runs : goal.returns-in-KeeperFault-clause-runs
-returns-in-KeeperFault-clause-runs g c meanings is =
-    served_partly meanings c.args.role 1073741824 (g.J.Keeper.tells c.args.keeper.now).octets (g.J.Keeper.tells c.open_desk.new.keeper).octets (g.J.Keeper.tells c.serve_one.new.keeper).octets
-    (g.W.Wire.tells c.args.wire.now) (g.W.Wire.tells c.serve_one.new.wire) c.in-Ok.desk.store c.serve_one.new.desk.store c.serve_one.result 2 c.in-Ok.ensures.fold c.in-Ok.ensures.opens
-    (rw c.in-Ok.ensures.limits at (c.serve_one.ensures.lawful meanings is)) (ap status_of_served (sym c.in-KeeperFault.is)) (inr refl)
+returns-in-KeeperFault-clause-runs g c =
+    served_partly c.args.role (g.C.Clock.tells c.args.clock.now) 1073741824 (g.J.Keeper.tells c.args.keeper.now).octets (g.J.Keeper.tells c.open_desk.new.keeper).octets
+    (g.J.Keeper.tells c.serve_one.new.keeper).octets (g.W.Wire.tells c.args.wire.now) (g.W.Wire.tells c.serve_one.new.wire) c.in-Ok.desk.store c.serve_one.new.desk.store c.serve_one.result 2
+    (ap status_of_served (sym c.in-KeeperFault.is)) (inr refl) c.in-Ok.ensures.fold c.in-Ok.ensures.opens (rw c.in-Ok.ensures.limits at c.serve_one.ensures.serves)
+
+pub returns-in-KeeperFault-clause-journal : goal.returns-in-KeeperFault-clause-journal
+returns-in-KeeperFault-clause-journal g c = broken_exact (g.J.Keeper.tells c.args.keeper.now).octets 2 (inr refl)
 
 pub returns-clause-runs : goal.returns-clause-runs
-returns-clause-runs g c meanings is =
-    served_partly meanings c.args.role 1073741824 (g.J.Keeper.tells c.args.keeper.now).octets (g.J.Keeper.tells c.open_desk.new.keeper).octets (g.J.Keeper.tells c.serve_one.new.keeper).octets
-    (g.W.Wire.tells c.args.wire.now) (g.W.Wire.tells c.serve_one.new.wire) c.in-Ok.desk.store c.serve_one.new.desk.store c.serve_one.result 3 c.in-Ok.ensures.fold c.in-Ok.ensures.opens
-    (rw c.in-Ok.ensures.limits at (c.serve_one.ensures.lawful meanings is)) (ap status_of_served (sym c.in-Memory.is)) (inl (inr refl))
+returns-clause-runs g c =
+    served_partly c.args.role (g.C.Clock.tells c.args.clock.now) 1073741824 (g.J.Keeper.tells c.args.keeper.now).octets (g.J.Keeper.tells c.open_desk.new.keeper).octets
+    (g.J.Keeper.tells c.serve_one.new.keeper).octets (g.W.Wire.tells c.args.wire.now) (g.W.Wire.tells c.serve_one.new.wire) c.in-Ok.desk.store c.serve_one.new.desk.store c.serve_one.result 3
+    (ap status_of_served (sym c.in-Memory.is)) (inl (inr refl)) c.in-Ok.ensures.fold c.in-Ok.ensures.opens (rw c.in-Ok.ensures.limits at c.serve_one.ensures.serves)
+
+pub returns-clause-journal : goal.returns-clause-journal
+returns-clause-journal g c = broken_exact (g.J.Keeper.tells c.args.keeper.now).octets 3 (inl (inr refl))

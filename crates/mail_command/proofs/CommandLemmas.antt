@@ -1,0 +1,43 @@
+-- What a command's words say, and what that leaves to the others.
+use Rattle.std.proofs.Common.{◌≡◌, ℕ, List, [], ◌∷◌, Option, Some, None, refl, sym, subst, ◌∙◌, inl, inr, codes}
+use Rattle.mail_wire.specs.Telling.{Telling}
+use Rattle.mail_wire.proofs.Moving.{Gives-nil}
+use Rattle.address_lists.specs.declared.Address.{Address}
+use Rattle.mail_store.specs.Answers.{LeavesRecords}
+use Rattle.mail_store.specs.Kept.{Kept}
+use Rattle.mail_store.specs.declared.changing.StoreFault.{StoreFault}
+use Rattle.mail_store.specs.declared.records.Record.{Record}
+use Rattle.setup_command.specs.AddingRuns.{RunsAdding, Broken, InJournal}
+use Rattle.setup_command.specs.WordForms.{IsAccount, IsDomain}
+use Rattle.setup_command.proofs.FormLemmas.{account_once}
+use Rattle.mail_command.specs.Words.{IsNoCommand, OpensJournal, OfSession, OfAccount, OfDomain}
+
+third_same : (s t p q : List ℕ) → codes "account" ∷ s ∷ p ∷ [] ≡ codes "account" ∷ t ∷ q ∷ [] → p ≡ q
+third_same s t p q same = cc
+
+second_same : (a b : List ℕ) → codes "domain" ∷ a ∷ [] ≡ codes "domain" ∷ b ∷ [] → a ≡ b
+second_same a b same = cc
+
+-- what holds of what the words of `account` were read as holds of whatever they say
+pub account_at : (P : Address → List ℕ → Type 0) (words : List (List ℕ)) (a b : Address) (p q : List ℕ) → IsAccount words a p → IsAccount words b q → P a p → P b q
+account_at P words a b p q one other holds =
+    subst (λ (x : Address). P x q) (account_once words a b p q one other)
+    (subst (λ (y : List ℕ). P a y) (third_same one.text other.text p q (sym one.words_are ∙ other.words_are)) holds)
+
+-- so for `domain`
+pub domain_at : (P : List ℕ → Type 0) (words : List (List ℕ)) (a b : List ℕ) → IsDomain words a → IsDomain words b → P a → P b
+domain_at P words a b one other holds = subst P (second_same a b (sym one.words_are ∙ other.words_are)) holds
+
+-- words of no command don't open the journal
+pub none_opens : (words : List (List ℕ)) → IsNoCommand words → OpensJournal words → ⊥
+none_opens words none (OfSession role is) = none.session role is
+none_opens words none (OfAccount address password is) = none.account address password is
+none_opens words none (OfDomain name is) = none.domain name is
+
+left_alone : (octets : Option (List ℕ)) → LeavesRecords octets octets
+left_alone None = refl
+left_alone (Some octets) = inl refl
+
+-- memory was wanting for the words
+pub not_begun : (refusal : Kept → Option StoreFault) (one : Record) (octets : Option (List ℕ)) (a : Telling) → RunsAdding refusal one octets octets a a 3
+not_begun refusal one octets a = Broken (inl (inr refl)) (InJournal (Gives-nil a) (left_alone octets))
