@@ -39,13 +39,13 @@ def best_of(times, take):
     return None if None in found else min(found)
 
 
-def seconds(words, path, times=3, limit=None):
+def seconds(words, path, times=3, limit=None, cwd=None):
     """Wall clock, the best of some runs; None where the limit is passed."""
 
     def take():
         begun = time.perf_counter()
         try:
-            status = ran(words, path, stdout=subprocess.DEVNULL, timeout=limit).returncode
+            status = ran(words, path, cwd=cwd, stdout=subprocess.DEVNULL, timeout=limit).returncode
         except subprocess.TimeoutExpired:
             return None
         took = time.perf_counter() - begun

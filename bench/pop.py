@@ -6,9 +6,8 @@ import sys
 import tempfile
 import time
 
-sys.path.insert(0, os.path.join(os.path.dirname(os.path.dirname(os.path.abspath(__file__))), "tools"))
-
 import dovecot
+import paths
 from bridge import Bridge
 from counting import best_of, heading, instructions, instructions_on, line, mebibytes, milliseconds, peak
 from journal import mailbox

@@ -1,9 +1,10 @@
-"""Serves `dervlask pop` over TCP on 127.0.0.1: one run of the program a connection, with the socket as its standard input
-and output, in the folder where its journal lies.
+"""Serves `dervlask pop` or `dervlask smtp` over TCP on 127.0.0.1: one run of the program a connection, with the socket as its
+standard input and output, in the folder where its journal lies.
 
-    python3 tools/bridge.py PROGRAM FOLDER [PORT]
+    python3 tools/bridge.py PROGRAM FOLDER [PORT [WORD]]
 
-serves until it is broken off. It is for tests, measurements and trying things by hand: there is no TLS and no limit."""
+serves until it is broken off; the word is `pop` where none is given, and the port any that is free. It is for tests, measurements
+and trying things by hand: there is no TLS and no limit."""
 
 import os
 import socket
@@ -15,8 +16,8 @@ import threading
 class Bridge:
     """Listens while its block runs; `port` is where."""
 
-    def __init__(self, program, folder, port=0):
-        self.words = [os.path.abspath(program), "pop"]
+    def __init__(self, program, folder, port=0, word="pop"):
+        self.words = [os.path.abspath(program), word]
         self.folder = folder
         self.listening = socket.create_server(("127.0.0.1", port), backlog=64)
         self.port = self.listening.getsockname()[1]
@@ -47,11 +48,11 @@ class Bridge:
 
 
 def main(arguments):
-    if len(arguments) not in (2, 3):
-        print("usage: python3 tools/bridge.py PROGRAM FOLDER [PORT]", file=sys.stderr)
+    if len(arguments) not in (2, 3, 4):
+        print("usage: python3 tools/bridge.py PROGRAM FOLDER [PORT [WORD]]", file=sys.stderr)
         return 2
-    bridge = Bridge(arguments[0], arguments[1], *map(int, arguments[2:]))
-    print(f"POP3 on 127.0.0.1, port {bridge.port}", flush=True)
+    bridge = Bridge(arguments[0], arguments[1], *map(int, arguments[2:3]), *arguments[3:])
+    print(f"{bridge.words[1]} on 127.0.0.1, port {bridge.port}", flush=True)
     try:
         bridge.serve()
     except KeyboardInterrupt:

@@ -1,4 +1,6 @@
-"""Rows where the outside of `dervlask pop` fails, where words are wrong, and of sessions that are too long."""
+"""Rows where the outside of `dervlask pop` fails, where words are wrong, and of sessions that are too long.
+
+What holds of any command that serves a session is told by its word and its greeting, for smtp_outside.py too."""
 
 import os
 import subprocess
@@ -12,41 +14,47 @@ from harness import SECONDS, differs, in_lanes
 from journal import mailbox
 from pop_rows import LINE_MAX
 from rows import CAFE, little_memory
-from talk import JOURNAL, read_journal, run_whole
+from talk import JOURNAL, POP, read_journal, run_whole
 
 SESSION_MAX = 1 << 30
 LIMIT_SECONDS = 60
+READY = b"+OK ready\r\n"
 
 
-def status_in(program, folder, octets=b"QUIT\r\n", **how):
-    return program.run([b"pop"], octets, cwd=folder, **how)
+def status_in(program, folder, word, **how):
+    return program.run([word], b"QUIT\r\n", cwd=folder, **how)
 
 
-def of_the_outside(program, tally):
+def of_the_outside(program, tally, word=POP, greeting=READY):
     """Rows where standard output, standard input, the journal or memory fails."""
+    name_of = lambda what: f"the word {word.decode()}: {what}"
     with tempfile.TemporaryDirectory(dir=program.folder.name) as folder:
         with open("/dev/full", "wb") as full:
-            tally.note("POP3: standard output is full", differs("status", status_in(program, folder, stdout=full)[0], 1))
+            tally.note(name_of("standard output is full"), differs("status", status_in(program, folder, word, stdout=full)[0], 1))
         unreadable = os.open(folder, os.O_RDONLY)
-        found = program.run_on([b"pop"], unreadable, cwd=folder)
+        found = program.run_on([word], unreadable, cwd=folder)
         os.close(unreadable)
-        tally.note("POP3: standard input can't be read", differs("answer", found, (1, b"+OK ready\r\n")))
-    for name, place in (("a folder", os.mkdir), ("a full device", lambda path: os.symlink("/dev/full", path))):
+        tally.note(name_of("standard input can't be read"), differs("answer", found, (1, greeting)))
+    for what, place in (("a folder", os.mkdir), ("a full device", lambda path: os.symlink("/dev/full", path))):
         with tempfile.TemporaryDirectory(dir=program.folder.name) as folder:
             place(os.path.join(folder, JOURNAL))
-            tally.note(f"POP3: the journal is {name}", differs("answer", status_in(program, folder), (2, b"")))
+            tally.note(name_of(f"the journal is {what}"), differs("answer", status_in(program, folder, word), (2, b"")))
     large = mailbox([b"A: b\r\n\r\n" + b"x" * (32 << 20)])
-    found = run_whole(program, large, b"QUIT\r\n", preexec=little_memory)
-    tally.note("POP3: want of memory", differs("answer", found[:2], (3, b"")) + differs("journal", found[2] == large, True))
+    found = run_whole(program, large, b"QUIT\r\n", word, preexec=little_memory)
+    tally.note(name_of("want of memory"), differs("answer", found[:2], (3, b"")) + differs("journal", found[2] == large, True))
 
 
-def of_words(program, tally):
-    """Wrong words, and those of another command, leave the journal alone."""
-    for words in ([b"pop", b"pop"], [b"POP"], [b"pop", b""], [b"pop3"]):
+def of_words(program, tally, wrong):
+    """Wrong words leave the journal alone."""
+    for words in wrong:
         with tempfile.TemporaryDirectory(dir=program.folder.name) as folder:
             found = program.run(words, b"QUIT\r\n", cwd=folder)
             faults = differs("answer", found, (4, b"words refused\r\n")) + differs("files", os.listdir(folder), [])
         tally.note(f"the words {words}", faults)
+
+
+def of_downgrade(program, tally):
+    """A command without a session leaves the journal alone."""
     with tempfile.TemporaryDirectory(dir=program.folder.name) as folder:
         program.run([b"downgrade"], CAFE, cwd=folder)
         tally.note("downgrade makes no journal", differs("files", os.listdir(folder), []))
@@ -55,12 +63,10 @@ def of_words(program, tally):
 def of_the_limit(program, tally):
     """Sessions of 1,073,741,824 octets: lines of 65,536 octets, and the end."""
     line = b"x" * (LINE_MAX - 2) + b"\r\n"
-    most = SESSION_MAX - len(line)
-    begun = time.perf_counter()
-    run_long(program, line, 32, b"")
-    if (time.perf_counter() - begun) * most / (32 * len(line)) > LIMIT_SECONDS:
+    if is_slow(program, line):
         print("the session limit wasn't tried: this program would take minutes for a session of 1 GiB, as one that is built to find faults")
         return
+    most = SESSION_MAX - len(line)
     cases = [
         ("the session limit", b"y" * LINE_MAX, 6, b""),
         ("the session limit, as a line ends", line, 6, b"-ERR syntax\r\n"),
@@ -70,7 +76,7 @@ def of_the_limit(program, tally):
 
     def one(case):
         _, last, status, reply = case
-        wanted = b"+OK ready\r\n" + b"-ERR syntax\r\n" * (most // len(line)) + reply
+        wanted = READY + b"-ERR syntax\r\n" * (most // len(line)) + reply
         found, given = run_long(program, line, most // len(line), last)
         return differs("status", found, status) + differs("octets", given, wanted)
 
@@ -78,15 +84,23 @@ def of_the_limit(program, tally):
         tally.note(f"POP3: {case[0]}", faults)
 
 
-def run_long(program, line, count, last):
-    """Status and octets where so many lines and a last one come through a pipe."""
+def is_slow(program, line):
+    """Whether so long a session takes too long."""
+    begun = time.perf_counter()
+    run_long(program, line, 32, b"")
+    return (time.perf_counter() - begun) * SESSION_MAX / (32 * len(line)) > LIMIT_SECONDS
+
+
+def run_long(program, line, count, last, word=POP, first=b"", preexec=None):
+    """Status and octets where the first octets, so many lines and the last ones come through a pipe."""
     with tempfile.TemporaryDirectory(dir=program.folder.name) as folder, tempfile.TemporaryFile(dir=folder) as out:
-        how = {"stdin": subprocess.PIPE, "stdout": out, "cwd": folder}
-        with subprocess.Popen([program.path, b"pop"], **how) as running:
+        how = {"stdin": subprocess.PIPE, "stdout": out, "cwd": folder, "preexec_fn": preexec}
+        with subprocess.Popen([program.path, word], **how) as running:
             # one that takes nothing more would hold us up for ever
             watch = threading.Timer(4 * LIMIT_SECONDS, running.kill)
             watch.start()
             try:
+                running.stdin.write(first)
                 for _ in range(count):
                     running.stdin.write(line)
                 running.stdin.write(last)
@@ -118,7 +132,8 @@ def of_the_tool(program, tally):
 
 
 def check(program, tally):
-    of_words(program, tally)
+    of_words(program, tally, [[b"pop", b"pop"], [b"POP"], [b"pop", b""], [b"pop3"]])
+    of_downgrade(program, tally)
     of_the_outside(program, tally)
     of_the_limit(program, tally)
     of_the_tool(program, tally)

@@ -43,11 +43,12 @@ class NoRecord(Exception):
 
 
 class Store:
-    """Address and password of each account; the account of each folder; folder and octets of each message, and whether it is
+    """Address and password of each account; the domains; the account of each folder; folder and octets of each message, and whether it is
     still there; whether each address of an entry of the queue waits."""
 
     def __init__(self):
         self.accounts = []
+        self.domains = []
         self.folders = []
         self.messages = []
         self.live = []
@@ -165,8 +166,9 @@ def add_account(store, text, password):
     store.accounts.append((address, password))
 
 
-def add_domain(_, name):
+def add_domain(store, name):
     need(name.isascii() and normal_form(name) == name)
+    store.domains.append(name)
 
 
 def add_folder(store, account, name):

@@ -1,4 +1,4 @@
-"""Runs of `dervlask pop`, each in a folder of its own, which has the journal."""
+"""Runs of the commands that serve a session, each in a folder of its own, which has the journal."""
 
 import os
 import socket
@@ -9,6 +9,7 @@ import threading
 from harness import SECONDS, differs, show
 
 JOURNAL = "mail.journal"
+POP, SMTP = b"pop", b"smtp"
 
 # octets of one packet, which the program takes at once
 PACKET = 512
@@ -17,7 +18,7 @@ PACKET = 512
 class Talk:
     """A session whose standard input comes in the pieces that are sent: each packet is one read of the program."""
 
-    def __init__(self, program, journal):
+    def __init__(self, program, journal, word=POP):
         self.program = program
         self.folder = tempfile.TemporaryDirectory(dir=program.folder.name)
         self.path = place_journal(self.folder.name, journal)
@@ -25,7 +26,7 @@ class Talk:
         self.socket.settimeout(SECONDS)
         how = {"stdin": theirs, "stdout": subprocess.PIPE, "stderr": subprocess.STDOUT, "bufsize": 0}
         with theirs:
-            self.running = subprocess.Popen([program.path, b"pop"], cwd=self.folder.name, **how)
+            self.running = subprocess.Popen([program.path, word], cwd=self.folder.name, **how)
         self.heard, self.is_over, self.changed = bytearray(), False, threading.Condition()
         self.thread = threading.Thread(target=self.listen, daemon=True)
         self.thread.start()
@@ -92,19 +93,19 @@ def read_journal(path):
         return file.read()
 
 
-def run_whole(program, journal, octets, **how):
+def run_whole(program, journal, octets, word=POP, **how):
     """Status, what was given, and the journal then; the standard input is a file."""
     with tempfile.TemporaryDirectory(dir=program.folder.name) as folder:
         path = place_journal(folder, journal)
-        status, given = program.run([b"pop"], octets, cwd=folder, **how)
+        status, given = program.run([word], octets, cwd=folder, **how)
         return status, given, read_journal(path)
 
 
-def run_cut(program, journal, pieces, due=()):
+def run_cut(program, journal, pieces, due=(), word=POP):
     """The same for an input in pieces, and what is wrong with the replies on the way.
 
     `due` has replies, each with the count of octets behind which it has to come without further input."""
-    talk, sent, faults, due = Talk(program, journal), 0, [], list(due)
+    talk, sent, faults, due = Talk(program, journal, word), 0, [], list(due)
     wanted = b""
     for piece in [b"", *pieces]:
         talk.send(piece)
@@ -144,10 +145,20 @@ def answer_faults(found, wanted):
     return [fault for what, one, other in parts for fault in differs(what, one, other)]
 
 
-def all_cuts(program, journal, octets, wanted, due, sizes):
-    """What is wrong with a session that comes whole, in pieces of these sizes, and in those that end where a reply is due."""
-    faults = [f"whole: {fault}" for fault in answer_faults(run_whole(program, journal, octets), wanted)]
+def as_it_is(journal):
+    return journal
+
+
+def all_cuts(program, journal, octets, wanted, due, sizes, word=POP, seen=as_it_is):
+    """What is wrong with a session that comes whole, in pieces of these sizes, and in those that end where a reply is due.
+
+    The journals that are found are compared as they are `seen`."""
+
+    def faults_of(status, given, after):
+        return answer_faults((status, given, seen(after)), wanted)
+
+    faults = [f"whole: {fault}" for fault in faults_of(*run_whole(program, journal, octets, word))]
     for how, pieces in (("cut", cut(octets, sizes)), ("command by command", cut_at(octets, [count for count, _ in due]))):
-        *found, on_the_way = run_cut(program, journal, pieces, due)
-        faults += [f"{how}: {fault}" for fault in on_the_way or answer_faults(found, wanted)]
+        *found, on_the_way = run_cut(program, journal, pieces, due, word)
+        faults += [f"{how}: {fault}" for fault in on_the_way or faults_of(*found)]
     return faults and [*faults, f"input: {show(octets)}", f"sizes: {sizes}"]
