@@ -1,5 +1,5 @@
 -- What a run of a command does to its wire.
-use Rattle.std.proofs.Common.{◌≡◌, ℕ, ◌≤◌, inl, inr, List, [], ◌∷◌, ◌++◌, length, Option, Some, None, refl, sym, ap, ◌∙◌, arith, append-nil, subst, length-append}
+use Rattle.std.proofs.Common.{◌≡◌, ℕ, ◌+◌, ◌≤◌, inl, inr, List, [], ◌∷◌, ◌++◌, length, Option, Some, None, refl, sym, ap, ◌∙◌, arith, append-nil, subst, length-append}
 use Rattle.std.specs.Prelude.{◌⊎◌, IfSome, IfOk, OnErr, Result, Ok, Err}
 use Rattle.std.specs.Io.KnownBytes.{Consumes, IsAtEnd}
 use Rattle.std.proofs.lemmas.Option.{IfSome_then}
@@ -12,6 +12,7 @@ use Rattle.mail_wire.proofs.Moving.{Moves-trans, taken_of-append, given_of-appen
 use Rattle.mail_wire.proofs.LawfulLemmas.{IsLawful-give}
 use Rattle.mail_command.specs.Taking.{AreTaken, Takes, TakesUpTo}
 use Rattle.mail_command.specs.Outcome.{message_max, DowngradeOutcome}
+use Rattle.mail_command.specs.declared.taking.TheConstants.{PIECE}
 use Rattle.mail_command.specs.Serving.{IsPrefixOf}
 use Rattle.setup_command.specs.Running.{IsBrokenOff}
 use Rattle.mail_command.specs.Running.{Answers, BreaksOff, IsExact, RunsDowngrade}
@@ -70,12 +71,13 @@ prefix_of_each octets status given whole outcome begins other others also =
     subst (IsPrefixOf given) same.given_is begins
 
 -- a prefix of the outcome of what was taken was given
-breaks_by : (a c : Telling) (taken given : List ℕ) → TakesAndGives a c taken given → ((status : ℕ) (whole : List ℕ) → DowngradeOutcome taken status whole → IsPrefixOf given whole)
+breaks_by : (a c : Telling) (taken given : List ℕ) → TakesAndGives a c taken given → length taken ≤ message_max + PIECE → ((status : ℕ) (whole : List ℕ) → DowngradeOutcome taken status whole → IsPrefixOf given whole)
     → IfSome a.left (λ octets. (status : ℕ) (whole : List ℕ) → DowngradeOutcome octets status whole → IsPrefixOf given whole) → BreaksOff a c
-breaks_by a c taken given both begun whole = record {
+breaks_by a c taken given both few begun whole = record {
   entries = both.entries;
   moves = both.moves;
   quiet = both.quiet;
+  few = rw both.taken_is few;
   begun = rw (both.taken_is, both.given_is) begun;
   whole = rw both.given_is whole;
 }
@@ -95,6 +97,7 @@ downgrades a b c taken given status takes outcome gives =
       entries = both.entries;
       moves = both.moves;
       quiet = both.quiet;
+      few = rw both.taken_is takes.few;
       outcome = rw (both.taken_is, both.given_is) outcome;
       whole = rw both.given_is (IfSome_then a.left {P = λ octets. IsEnough octets taken} (enough a b taken takes) (λ octets all. downgrade_whole octets taken status given all outcome));
       all_taken = rw both.taken_is (IfSome_then a.left {P = λ octets. IsEnough octets taken} (enough a b taken takes) (λ octets all fits. all_of octets taken all fits));
@@ -105,14 +108,14 @@ pub downgrades_partly : (a b c : Telling) (taken given : List ℕ) (status : ℕ
     → BreaksOff a c
 downgrades_partly a b c taken given status takes outcome gives =
     let begins : IsPrefixOf gives.given given = (gives.missing, sym gives.whole) in
-    breaks_by a c taken gives.given (takes_and_gives a b c taken gives.given takes.takes gives.gives) (prefix_of_each taken status gives.given given outcome begins)
+    breaks_by a c taken gives.given (takes_and_gives a b c taken gives.given takes.takes gives.gives) takes.few (prefix_of_each taken status gives.given given outcome begins)
     (IfSome_then a.left {P = λ octets. IsEnough octets taken} (enough a b taken takes)
     (λ octets all. prefix_of_each octets status gives.given given (downgrade_whole octets taken status given all outcome) begins))
 
 -- nothing was given yet
-pub takes_partly : (a b : Telling) (taken : List ℕ) → Takes a b taken → BreaksOff a b
-takes_partly a b taken takes =
-    breaks_by a b taken [] (takes_and_gives a b b taken [] takes (Gives-nil b)) (λ status whole outcome. (whole, refl))
+pub takes_partly : (a b : Telling) (taken : List ℕ) → Takes a b taken → length taken ≤ message_max + PIECE → BreaksOff a b
+takes_partly a b taken takes few =
+    breaks_by a b taken [] (takes_and_gives a b b taken [] takes (Gives-nil b)) few (λ status whole outcome. (whole, refl))
     (some_of a.left (λ octets. (status : ℕ) (whole : List ℕ) → DowngradeOutcome octets status whole → IsPrefixOf [] whole) (λ octets status whole outcome. (whole, refl)))
 
 -- the answer is the status of each outcome that the octets have

@@ -1,5 +1,5 @@
 -- Takes, one after another.
-use Rattle.std.proofs.Common.{◌≡◌, ℕ, ◌<◌, List, [], ◌∷◌, ◌++◌, length, take, refl, ◌∙◌, append-nil, arith}
+use Rattle.std.proofs.Common.{◌≡◌, ℕ, ◌<◌, ◌+◌, ◌≤◌, List, [], ◌∷◌, ◌++◌, length, take, refl, ◌∙◌, append-nil, arith, length-append, length-take-le}
 use Rattle.mail_wire.specs.declared.outside.Entry.{Entry}
 use Rattle.mail_wire.specs.declared.outside.Entry.TheVariants.{Taken, Given}
 use Rattle.mail_wire.specs.Telling.{Telling}
@@ -7,6 +7,7 @@ use Rattle.mail_wire.specs.Transcript.{given_of}
 use Rattle.mail_wire.specs.Moves.{TakesPiece, TakesNothing}
 use Rattle.mail_wire.proofs.Moving.{Moves-nil, Moves-trans, Moves-take, Moves-none, taken_of-append}
 use Rattle.mail_command.specs.Taking.{AreTaken, Takes, TakesUpTo}
+use Rattle.mail_command.specs.declared.taking.TheConstants.{PIECE}
 
 AreTaken-append : (xs ys : List Entry) → AreTaken xs → AreTaken ys → AreTaken (xs ++ ys)
 AreTaken-append [] ys first second = second
@@ -30,6 +31,11 @@ Takes-piece a b c taken into n first piece = record {
   octets_are = taken_of-append first.entries (Taken (take n into) ∷ []) ∙ rw (first.octets_are, append-nil) refl;
 }
 
+-- with one more piece it is no more than a piece beyond the greatest number
+pub Takes-few : (max n : ℕ) (taken into : List ℕ) → length taken ≤ max → n ≤ length into → length into ≡ PIECE → length (taken ++ take n into) ≤ max + PIECE
+Takes-few max n taken into before within size =
+    let len = length-take-le n into within in omega (arith, before, within, size, len, length-append taken (take n into))
+
 -- a call that took nothing
 pub Takes-nothing : (a b c : Telling) (taken : List ℕ) → Takes a b taken → TakesNothing b c → Takes a c taken
 Takes-nothing a b c taken first none = record {
@@ -40,12 +46,13 @@ Takes-nothing a b c taken first none = record {
 }
 
 -- the end of input
-pub Takes-end : (a b c : Telling) (max : ℕ) (taken into : List ℕ) (n : ℕ) → Takes a b taken → TakesPiece b c n into → n ≡ 0 → TakesUpTo max a c taken
-Takes-end a b c max taken into n first piece none = record {
+pub Takes-end : (a b c : Telling) (max : ℕ) (taken into : List ℕ) (n : ℕ) → Takes a b taken → length taken ≤ max + PIECE → TakesPiece b c n into → n ≡ 0 → TakesUpTo max a c taken
+Takes-end a b c max taken into n first few piece none = record {
   takes = rw (none, append-nil) at (Takes-piece a b c taken into n first piece);
+  few = few;
   end = λ _. piece.end none;
 }
 
 -- more than the greatest number
-pub Takes-past : (a b : Telling) (max : ℕ) (taken : List ℕ) → Takes a b taken → max < length taken → TakesUpTo max a b taken
-Takes-past a b max taken first past = record { takes = first; end = λ fits. absurd (omega arith) }
+pub Takes-past : (a b : Telling) (max : ℕ) (taken : List ℕ) → Takes a b taken → length taken ≤ max + PIECE → max < length taken → TakesUpTo max a b taken
+Takes-past a b max taken first few past = record { takes = first; few = few; end = λ fits. absurd (omega arith) }

@@ -1,5 +1,5 @@
 -- What the call that runs a command does to its wire and its keeper, by its status.
-use Rattle.std.specs.Prelude.{◌≡◌, ℕ, ◌≤◌, ◌⊎◌, List, [], ◌++◌, length, codes, Option, IfSome}
+use Rattle.std.specs.Prelude.{◌≡◌, ℕ, ◌+◌, ◌≤◌, ◌⊎◌, List, [], ◌++◌, length, codes, Option, IfSome}
 use Rattle.mail_wire.specs.declared.outside.Entry.{Entry}
 use Rattle.mail_wire.specs.Lines.{crlf}
 use Rattle.mail_wire.specs.Telling.{Telling}
@@ -10,6 +10,7 @@ use Rattle.mail_store.specs.StoreState.{StoreState}
 use Rattle.setup_command.specs.Running.{IsBrokenOff, OpensStore, HoldsStore, IsUnopened, BreaksSessionOff, HoldsBegun}
 use Rattle.mail_command.specs.Outcome.{DowngradeOutcome, message_max}
 use Rattle.mail_command.specs.declared.serving.Served.{Served}
+use Rattle.mail_command.specs.declared.taking.TheConstants.{PIECE}
 use Rattle.mail_command.specs.Served.{status_of_served}
 use Rattle.mail_command.specs.Protocols.{Protocol, changes_by}
 use Rattle.mail_command.specs.Serving.{IsPrefixOf, ServesLawfully, ServesAll, ServesUpTo}
@@ -26,28 +27,30 @@ pub data RefusesWords (before now : Telling) (status : ℕ) : Type 0 where
 
 -- ---- `help`
 
--- a text is given, or a part of it
+-- a text is given, or the first octets of it where that was broken off
 abbrev pub GivesHelp : Telling → Telling → ℕ → Type 0
-GivesHelp before now status = ((text : List ℕ) × Gives before now text × (status ≡ 0)) ⊎ IsBrokenOff status
+GivesHelp before now status = (text : List ℕ) × ((Gives before now text × (status ≡ 0)) ⊎ (GivesPrefix before now text × IsBrokenOff status))
 
 -- ---- `downgrade`
 
--- The octets that were taken came to their outcome, and it was given whole. Nothing was given before the last take. Where the
--- wire tells what it had left, the outcome is that of all of it, and all of it was taken, if it isn't more than a message may
--- have.
+-- The octets that were taken, no more than a piece beyond what a message may have, came to their outcome, and it was given whole.
+-- Nothing was given before the last take. Where the wire tells what it had left, the outcome is that of all of it, and all of it
+-- was taken, if it isn't more than a message may have.
 pub record Answers (before now : Telling) (status : ℕ) : Type 0 where
   pub entries : List Entry
   pub moves : Moves before now entries
   pub quiet : IsLawful (λ taken. []) entries
+  pub few : length (taken_of entries) ≤ message_max + PIECE
   pub outcome : DowngradeOutcome (taken_of entries) status (given_of entries)
   pub whole : IfSome before.left (λ octets. DowngradeOutcome octets status (given_of entries))
   pub all_taken : IfSome before.left (λ octets. length octets ≤ message_max → taken_of entries ≡ octets)
 
--- The command was broken off: nothing was given before the last take, and what was given is a prefix of its outcome's octets.
+-- The command was broken off: no more was taken than that, nothing was given before the last take, and what was given is a prefix of its outcome's octets.
 pub record BreaksOff (before now : Telling) : Type 0 where
   pub entries : List Entry
   pub moves : Moves before now entries
   pub quiet : IsLawful (λ taken. []) entries
+  pub few : length (taken_of entries) ≤ message_max + PIECE
   pub begun : (status : ℕ) (given : List ℕ) → DowngradeOutcome (taken_of entries) status given → IsPrefixOf (given_of entries) given
   pub whole : IfSome before.left (λ octets. (status : ℕ) (given : List ℕ) → DowngradeOutcome octets status given → IsPrefixOf (given_of entries) given)
 

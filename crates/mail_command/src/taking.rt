@@ -9,12 +9,12 @@ use mail_wire::values::Octets;
 use std::alloc::Global;
 
 /// The greatest piece that is taken at a time.
-const PIECE: usize = 4096;
+pub const PIECE: usize = 4096;
 
-/// Takes what is left, or the first octets of it, once they are more than `max`.
+/// Takes what is left, or the first octets of it, once they are more than `max`: up to a piece more.
 pub fn take_up_to<W: Wire>(alloc: Global, wire: &mut W, max: usize) -> Result<Octets, Fault>
     ensures taken { IfOk result (TakesUpTo max (W.tells wire.old) (W.tells wire.new)) }
-    ensures some { OnErr result (TakesSome (W.tells wire.old) (W.tells wire.new)) }
+    ensures some { OnErr result (TakesSome max (W.tells wire.old) (W.tells wire.new)) }
     ensures cause { HasWireCause (W.tells wire.old) (W.tells wire.new) result Fault.Wire }
     ensures keeper { ¬ (result ≡ Err Fault.Keeper) }
 {

@@ -6,12 +6,12 @@ pub returns-in_err-taken-clause-broken_off : goal.returns-in_err-taken-clause-br
 returns-in_err-taken-clause-broken_off g c =
     let p = err_from_is_err_and c.from_residual.result c.from_residual.ensures.1 in
     let some = c.in_err-taken.ensures.some in
-    rw p.1 (takes_partly (g.W.Wire.tells c.args.wire.now) (g.W.Wire.tells c.take_up_to.new.wire) some.octets some.takes)
+    rw p.1 (takes_partly (g.W.Wire.tells c.args.wire.now) (g.W.Wire.tells c.take_up_to.new.wire) some.octets some.takes some.few)
 
 pub returns-in_err-reply-clause-broken_off : goal.returns-in_err-reply-clause-broken_off
 returns-in_err-reply-clause-broken_off g c =
     let p = err_from_is_err_and c.from_residual-in_err-reply.result c.from_residual-in_err-reply.ensures.1 in
-    rw p.1 (takes_partly (g.W.Wire.tells c.args.wire.now) (g.W.Wire.tells c.take_up_to.new.wire) c.in_ok-taken.taken c.in_ok-taken.ensures.taken.takes)
+    rw p.1 (takes_partly (g.W.Wire.tells c.args.wire.now) (g.W.Wire.tells c.take_up_to.new.wire) c.in_ok-taken.taken c.in_ok-taken.ensures.taken.takes c.in_ok-taken.ensures.taken.few)
 
 pub returns-in_err-give_all-clause-broken_off : goal.returns-in_err-give_all-clause-broken_off
 returns-in_err-give_all-clause-broken_off g c =

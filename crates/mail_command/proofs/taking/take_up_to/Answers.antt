@@ -1,19 +1,20 @@
-use Rattle.std.proofs.Common.{◌++◌, take}
+use Rattle.std.proofs.Common.{◌++◌, take, arith}
 use Rattle.std.proofs.lemmas.Result.{err_from_is_err_and}
 use Rattle.mail_wire.proofs.Moving.{GoesOn-trans, GoesOn-of}
-use Rattle.mail_command.proofs.TakingLemmas.{Takes-piece, Takes-end}
+use Rattle.mail_command.proofs.TakingLemmas.{Takes-piece, Takes-few, Takes-end}
 use Rattle.mail_command.proofs.taking.take_up_to.Goals as goal
 
 pub returns-then-count-eq0-clause-taken : goal.returns-then-count-eq0-clause-taken
 returns-then-count-eq0-clause-taken g c =
-    Takes-end _ (g.W.Wire.tells c.loop-piece.wire) _ c.args.max c.loop-piece.taken _ c.in_ok-count.count c.loop-piece.invariant.takes c.in_ok-count.ensures.takes
-    c.if-count-eq0.true
+    Takes-end _ (g.W.Wire.tells c.loop-piece.wire) _ c.args.max c.loop-piece.taken _ c.in_ok-count.count c.loop-piece.invariant.takes c.loop-piece.invariant.few
+    c.in_ok-count.ensures.takes c.if-count-eq0.true
 
 pub loop-piece-preserved : goal.loop-piece-preserved
 loop-piece-preserved g c = record {
   takes = rw c.in_ok-push_slice.ensures.ok
       (Takes-piece (g.W.Wire.tells c.args.wire.now) (g.W.Wire.tells c.loop-piece.wire) (g.W.Wire.tells c.take_piece.new.wire) c.loop-piece.taken _ c.in_ok-count.count
       c.loop-piece.invariant.takes c.in_ok-count.ensures.takes);
+  few = rw c.in_ok-push_slice.ensures.ok (Takes-few c.args.max c.in_ok-count.count c.loop-piece.taken c.take_piece.new.into (omega (arith, c.loop-piece-test)) c.in_ok-count.ensures.bound search);
   goes_on = GoesOn-trans (g.W.Wire.tells c.args.wire.now) (g.W.Wire.tells c.loop-piece.wire) (g.W.Wire.tells c.take_piece.new.wire) c.loop-piece.invariant.goes_on
       (GoesOn-of (g.W.Wire.tells c.loop-piece.wire) (g.W.Wire.tells c.take_piece.new.wire) _ _ c.in_ok-count.ensures.cause);
 }
@@ -25,4 +26,5 @@ returns-in_err-push_slice-clause-some g c =
       octets = c.loop-piece.taken ++ take c.in_ok-count.count c.take_piece.new.into;
       takes = Takes-piece (g.W.Wire.tells c.args.wire.now) (g.W.Wire.tells c.loop-piece.wire) (g.W.Wire.tells c.take_piece.new.wire) c.loop-piece.taken _ c.in_ok-count.count
           c.loop-piece.invariant.takes c.in_ok-count.ensures.takes;
+      few = Takes-few c.args.max c.in_ok-count.count c.loop-piece.taken c.take_piece.new.into (omega (arith, c.loop-piece-test)) c.in_ok-count.ensures.bound search;
     })

@@ -1,11 +1,13 @@
-use Rattle.std.proofs.Common.{◌+◌, ◌-◌, length}
+use Rattle.std.proofs.Common.{◌+◌, ◌-◌, ◌≤◌, length}
 use Rattle.mail_wire.specs.Moves.{GoesOn}
 use Rattle.mail_command.specs.Taking.{Takes}
+use Rattle.mail_command.specs.declared.taking.TheConstants.{PIECE}
 use Rattle.mail_command.proofs.taking.take_up_to.Given as goal
 
 abbrev pub invariant-loop-piece : goal.invariant-loop-piece
 invariant-loop-piece g l = record {
   takes : Takes (g.W.Wire.tells l.initial.wire) (g.W.Wire.tells l.wire) l.taken;
+  few : length l.taken ≤ l.max + PIECE;
   goes_on : GoesOn (g.W.Wire.tells l.initial.wire) (g.W.Wire.tells l.wire);
 }
 
