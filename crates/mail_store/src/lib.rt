@@ -1,7 +1,7 @@
 //! The store of a mail system: accounts, domains, folders, messages and a queue, as the fold of a journal's records.
 #![tactic(auto)]
 
-mod addresses;
+pub mod addresses;
 #[cfg(test)]
 mod change_tests;
 pub mod changing;

@@ -11,14 +11,6 @@ use Rattle.mail_store.specs.Addresses.{IsTextOf}
 use Rattle.mail_store.specs.declared.limits.TheConstants.{TEXT_MAX}
 use Rattle.setup_command.specs.WordForms.{IsAccountText, IsAccount}
 
--- where the path was the null path, the text is that of no address
-pub none_found : (found : Option Address) (text path : List ℕ) → path ≡ in_angles text → ((answer : Option Address) → HasPath path answer → found ≡ answer)
-    → IfNone found ((address : Address) → ¬ IsTextOf text address)
-none_found (Some a) text path is exact = tt
-none_found None text path is exact = λ address has.
-    let differs : None ≡ Some address = exact (Some address) (subst (λ (p : List ℕ). HasPath p (Some address)) (sym is) has) in
-    absurd (cc differs)
-
 -- the address that was read
 pub text_of : (found : Option Address) (text : List ℕ) (own : Address) → found ≡ Some own → IfSome found (IsTextOf text) → IsTextOf text own
 text_of found text own is some = rw is at some

@@ -38,8 +38,8 @@ fn all_commands<'a>(alloc: Global) -> Result<Command<'a>, Memory> {
     Ok(all)
 }
 
-/// The text of `help`.
-pub fn help_text(alloc: Global) -> Result<String, Memory> {
+// The text of `help`.
+fn help_text(alloc: Global) -> Result<String, Memory> {
     let mut all = all_commands(alloc)?;
     Ok(all.render_help()?)
 }

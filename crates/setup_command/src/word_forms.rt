@@ -11,7 +11,8 @@ ghost use Rattle.setup_command.specs.WordForms.{IsAccount, IsAccountText, IsDoma
 
 use crate::values::{one_value, two_values};
 use ace_domains::normal;
-use address_lists::{Address, AddressFault, read_path, write_address};
+use address_lists::{Address, write_address};
+use mail_store::addresses::read_text;
 use mail_store::limits::TEXT_MAX;
 use mail_wire::values::{Memory, Octets};
 use mail_wire::words::Words;
@@ -59,21 +60,6 @@ fn is_called(words: &[&str], name: &str) -> bool
     match words.split_first() {
         Some((first, rest)) => *first == name && are_plain(rest),
         None => false,
-    }
-}
-
-// The address of a text, or none where it is the text of no address.
-fn read_text(alloc: Global, text: &[u8]) -> Result<Option<Address>, Memory>
-    ensures some { IfOk result (λ found. IfSome found (IsTextOf text.now)) }
-    ensures none { IfOk result (λ found. IfNone found ((address : AddressValue) → ¬ IsTextOf text.now address)) }
-{
-    let mut path = Octets::from_slice(alloc, b"<")?;
-    path.push_slice(text)?;
-    path.push(b'>')?;
-    match read_path(alloc, path.as_slice()) {
-        Ok(found) => Ok(found),
-        Err(AddressFault::Malformed) => Ok(None),
-        Err(AddressFault::Memory) => Err(Memory),
     }
 }
 
