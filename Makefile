@@ -9,7 +9,7 @@ help:
 	@echo 'make run      builds the program in seconds, before any proof, and shows the surrogate of a message'
 	@echo 'make build    proves and builds the program, and leaves it at $(PROGRAM)'
 	@echo 'make test     proves everything and runs all tests'
-	@echo 'make bench    measures the program (needs python3 and valgrind)'
+	@echo 'make bench    measures the program (needs python3, valgrind and GNU time)'
 	@echo 'make figures  does the same, and writes the figures into docs/PERFORMANCE.md'
 
 # rt try proves nothing

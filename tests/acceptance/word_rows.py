@@ -66,7 +66,7 @@ def refused_words():
         "a" * (TEXT_MAX - 5) + "@x.org"]
     others = [["domain"], ["domain", "x.org", "y.org"], ["DOMAIN", "x.org"], ["account"], ["account", "a@x.org"], ["account", "a@x.org", ""],
         ["account", "a@x.org", "-p"], ["account", "a@x.org", "p", "q"], ["account", "a@x.org", "x" * (TEXT_MAX + 1)], ["Account", "a@x.org", "p"],
-        [], ["gen"], ["gen", "0"], ["gen", "1", "2"], ["gen", "-1"], ["help", "x"], ["help", ""], ["--help"], ["-h"], ["HELP"], ["serve", "pop", "1", "1"]]
+        [], ["post"], ["post", "0"], ["pop", "1"], ["smtp", "-1"], ["help", "x"], ["help", ""], ["--help"], ["-h"], ["HELP"], ["downgrade", "pop", "1", "1"]]
     return [
         *(words_of("domain", word) for word in domains), *(words_of("account", word, "p") for word in addresses), *(words_of(*words) for words in others),
         [b"domain", b"\xff"], [b"account", b"\xff@x.org", b"p"], [b"account", b"a@x.org", b"\xff"],
