@@ -14,3 +14,5 @@ pub mod DroppedLemmas
 pub mod DataSteps
 pub mod KeptLemmas
 pub mod EndLemmas
+pub mod IntakeLemmas
+pub mod KnownRecipients

@@ -20,7 +20,7 @@ use Rattle.smtp_session.specs.Commands.{PathAndRest, announced, are_malformed, i
 use Rattle.smtp_session.specs.Machine.{Readings, State, Step, alone, collecting, data_step, ended, fresh, greeted, is_same_remote, lacks_smtputf8, mail, mail_by, mail_step, mail_to, path_read, rcpt_local, rcpt_remote, rcpt_step, rcpt_to, recipient_count, step, with_room, words_behind}
 use Rattle.smtp_session.specs.Session.{KnowsState, reply_octets, state_of, state_or_ended}
 
-not_zero : (n : ℕ) → (suc n == 0) ≡ false
+pub not_zero : (n : ℕ) → (suc n == 0) ≡ false
 not_zero n = grind (arith, nat_tests)
 
 -- where an octet is put before the first part, some word is left

@@ -1,8 +1,16 @@
-//! Laws of the data and of what may be kept of them.
-ghost use Rattle.std.specs.Prelude.{◌≡◌, ◌≢◌, ℕ, List, Bool, Some, codes};
+//! Laws of the data, of what may be kept of them, and of what is kept.
+ghost use Rattle.std.specs.Prelude.{◌≡◌, ◌≢◌, ℕ, List, [], Bool, Some, codes};
 ghost use Rattle.std.specs.List.{All};
 ghost use Rattle.mail_wire.specs.Lines.{Cut, lines_of};
-ghost use Rattle.smtp_session.specs.Data.{TellsTrees, data_cut};
+ghost use Rattle.mail_store.specs.Answers.{IsFold};
+ghost use Rattle.mail_store.specs.Kept.{Kept};
+ghost use Rattle.mail_store.specs.StoreState.{StoreState};
+ghost use Rattle.smtp_session.specs.Data.{Moment, TellsTrees, data_cut};
+ghost use Rattle.smtp_session.specs.Intake.{AreRecipients, IsKeptOnce, KnowsRecipients, acceptance, kept_after};
+ghost use Rattle.smtp_session.specs.Machine.{Readings, State, fresh, greeted, step, delivery_of, end_data};
+ghost use Rattle.smtp_session.specs.declared.command.Verb.{Verb};
+ghost use Rattle.smtp_session.specs.declared.states.Client.{Client};
+ghost use Rattle.smtp_session.specs.declared.states.Envelope.{Envelope};
 
 /// Some function tells of all octets whether they have a tree of entities.
 pub fn trees_are_told()
@@ -12,4 +20,23 @@ pub fn trees_are_told()
 /// No line of the data is a dot alone.
 pub fn data_end_once()
     ensures { (octets : List ℕ) (cut : Cut) → data_cut octets ≡ Some cut → All (λ line. line ≢ codes ".\r\n") (lines_of cut.line) }
+{}
+
+/// Mail that is accepted is kept once for each of its recipients, and nothing else is kept: neither of mail that isn't accepted
+/// nor by a command. The recipients that a state names are accounts that are there, none of them twice, and different mailboxes
+/// elsewhere: before the first command, after each one, and after data, where none are left.
+pub fn accepted_mail_is_kept_once()
+    ensures stored { (readings : Readings) (store : StoreState) (client : Client) (envelope : Envelope) (moment : Moment) (octets : List ℕ)
+        → IsFold store.kept → AreRecipients store.kept envelope
+        → let taken = end_data readings store client envelope moment octets in taken.reply ≡ acceptance
+        → IsKeptOnce store.kept (kept_after store taken) (delivery_of store client envelope moment octets) }
+    ensures refused { (readings : Readings) (store : StoreState) (client : Client) (envelope : Envelope) (moment : Moment) (octets : List ℕ)
+        → let taken = end_data readings store client envelope moment octets in taken.reply ≢ acceptance → taken.changes ≡ [] }
+    ensures commands { (readings : Readings) (state : State) (store : StoreState) (verb : Verb) (argument : List ℕ)
+        → (step readings state store verb argument).changes ≡ [] }
+    ensures fresh { (kept : Kept) → KnowsRecipients kept fresh }
+    ensures recipients { (readings : Readings) (state : State) (store : StoreState) (verb : Verb) (argument : List ℕ)
+        → KnowsRecipients store.kept state → KnowsRecipients store.kept (step readings state store verb argument).state }
+    ensures forgotten { (readings : Readings) (store : StoreState) (client : Client) (envelope : Envelope) (moment : Moment) (octets : List ℕ)
+        → (end_data readings store client envelope moment octets).state ≡ greeted client }
 {}
