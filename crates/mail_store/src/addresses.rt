@@ -14,7 +14,8 @@ use mail_wire::values::{Memory, Octets};
 use std::alloc::Global;
 use unicode_normalization::to_nfd;
 
-/// The address of a text, or none where it is the text of no address.
+/// The address of a text such as `ann@example.com`, which in angle brackets is a path (RFC 5321, 4.1.2), or none where it is
+/// the text of no address.
 pub fn read_text(alloc: Global, text: &[u8]) -> Result<Option<Address>, Memory>
     ensures some { IfOk result (λ found. IfSome found (IsTextOf text.now)) }
     ensures none { IfOk result (λ found. IfNone found ((address : AddressValue) → ¬ IsTextOf text.now address)) }
@@ -30,7 +31,7 @@ pub fn read_text(alloc: Global, text: &[u8]) -> Result<Option<Address>, Memory>
 }
 
 /// Whether the text is a domain's normal form.
-pub fn is_domain_text(alloc: Global, text: &[u8]) -> Result<bool, Memory>
+pub(crate) fn is_domain_text(alloc: Global, text: &[u8]) -> Result<bool, Memory>
     ensures { IfOk result (λ is. IsTrue is ↔ IsDomainText text.now) }
 {
     let Ok(domain) = std::str::from_utf8(text) else {
@@ -43,7 +44,7 @@ pub fn is_domain_text(alloc: Global, text: &[u8]) -> Result<bool, Memory>
 }
 
 /// What a domain is known by: its normal form, or itself where it has none.
-pub fn domain_key(alloc: Global, domain: &str) -> Result<Octets, Memory>
+pub(crate) fn domain_key(alloc: Global, domain: &str) -> Result<Octets, Memory>
     ensures { IfOk result (λ key. key ≡ compared_form domain.now) }
 {
     match normal(alloc, domain)? {
@@ -63,7 +64,7 @@ fn local_key(alloc: Global, local: &str) -> Result<Octets, Memory>
 }
 
 /// What a mailbox is known by.
-pub fn key_of(alloc: Global, address: &Address) -> Result<Octets, Memory>
+pub(crate) fn key_of(alloc: Global, address: &Address) -> Result<Octets, Memory>
     requires { ComesInPath address.now }
     ensures { IfOk result (λ key. key ≡ mailbox_key address.now) }
 {

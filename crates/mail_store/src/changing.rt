@@ -116,8 +116,8 @@ fn texts_of(alloc: Global, addresses: &[Address]) -> Result<Texts, OutOfMemory>
     Ok(Texts::from_vec(texts))
 }
 
-// The text of a path's address; the null path has none.
-fn path_text(alloc: Global, path: &Option<Address>) -> Result<Octets, OutOfMemory>
+/// The text `local@domain` of a path's address, without angle brackets; the null path `<>` has none (RFC 5321, 4.5.5).
+pub fn path_text(alloc: Global, path: &Option<Address>) -> Result<Octets, OutOfMemory>
     requires { IfSome path.now ComesInPath }
     ensures { IfOk result (λ text. text ≡ path_text_of path.now) }
 {
@@ -271,8 +271,9 @@ fn put_entry(entries: &mut Vec<Entry>, recipients: &mut usize, entry: Option<Ent
     }
 }
 
-// Whether the octets are more than the limit, where somebody is to have them.
-fn has_large_octets(delivery: &Delivery, message_max: u32) -> bool
+/// Whether the octets for the local accounts, or those for the remote recipients, are more than the limit. Octets that nobody
+/// is to have don't count.
+pub fn has_large_octets(delivery: &Delivery, message_max: u32) -> bool
     ensures { result ≡ has_large_octets_of message_max delivery.now }
 {
     (delivery.local.len() > 0 && delivery.local_octets.len() > message_max as usize)
