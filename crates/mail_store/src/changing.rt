@@ -27,7 +27,7 @@ use crate::kept::{Account, Entry, Folder, Message, Recipients};
 use crate::names::{number_of, put_first, take_back};
 use crate::records::{Record, Texts};
 use crate::storing::{Store, take_away};
-use crate::writing::{push_copy, push_expunge, push_record};
+use crate::writing::{push_copy, push_record};
 use address_lists::{Address, write_address};
 use mail_wire::keeping::Keeper;
 use mail_wire::outside::Failed;
@@ -286,7 +286,7 @@ fn expunge_text(alloc: Global, ids: &[u32]) -> Result<Octets, OutOfMemory>
 {
     let mut text = Octets::new(alloc);
     for id in ids {
-        push_expunge(&mut text, *id)?;
+        push_record(&mut text, &Record::Expunge { message: *id })?;
     }
     Ok(text)
 }

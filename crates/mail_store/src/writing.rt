@@ -2,7 +2,6 @@
 ghost use Rattle.std.specs.Prelude.{◌≡◌, ◌+◌, ◌∷◌, ◌++◌, ◌<◌, ◌≤◌, ◌^◌, length};
 ghost use Rattle.std.specs.List.{flat_map, AllByRecursion};
 ghost use Rattle.mail_store.specs.declared.limits.TheConstants.{RECORD_MAX};
-ghost use Rattle.mail_store.specs.declared.records.Record.TheVariants as records;
 ghost use Rattle.mail_store.specs.Changing.{copy_for};
 ghost use Rattle.mail_store.specs.Spelling.{number as number_octets, octet_list, fields_of, record_text, HasLength, Fits};
 ghost use Rattle.mail_store.specs.Writing.{PutsText};
@@ -227,12 +226,4 @@ pub fn push_copy(
 {
     push_number(journal, 14 + date.len() + octets.len())?;
     push_message(journal, folder, 0, date, octets)
-}
-
-/// Puts the record last that a message goes.
-pub fn push_expunge(journal: &mut Octets, message: u32) -> Result<(), Memory>
-    ensures { PutsText journal.old journal.new result (record_text (records.Expunge message)) }
-{
-    push_number(journal, 5)?;
-    push_parts(journal, &[&[6], &message.to_be_bytes()])
 }
