@@ -8,28 +8,34 @@ use mail_wire::values::{Memory, Octets};
 use std::alloc::Global;
 use std::marker::Model;
 
+/// An account: the text `local@domain` of its address, and its password.
 #[derive(Debug, Drop)]
 pub struct Account {
     pub address: Octets,
     pub password: Octets,
 }
 
+/// A folder: the number of its account, and its name, such as `INBOX`.
 #[derive(Debug, Drop)]
 pub struct Folder {
     pub account: u32,
     pub name: Octets,
 }
 
+/// A message: the number of its folder, its flags, whether it lives, its date, and its octets as they were delivered.
 #[derive(Debug, Drop)]
 pub struct Message {
     pub folder: u32,
+    /// A sum of 1 Seen, 2 Answered, 4 Flagged, 8 Deleted and 16 Draft (RFC 3501, 2.3.2), as flags are everywhere here.
     pub flags: u8,
     /// It isn't expunged.
     pub live: bool,
+    /// A date-time (RFC 3501), such as `01-Jan-1970 00:00:00 +0000`.
     pub date: Octets,
     pub octets: Octets,
 }
 
+/// A recipient of the queue: the text `local@domain` of the address, and whether the recipient waits.
 #[derive(Debug, Drop)]
 pub struct Recipient {
     pub address: Octets,
@@ -94,7 +100,7 @@ impl Recipients {
     }
 }
 
-/// A message that waits for its recipients.
+/// A message that waits for its recipients: the text of the path's address, empty for the null path, then they, then its octets.
 #[derive(Debug, Drop)]
 pub struct Entry {
     pub path: Octets,
@@ -102,7 +108,7 @@ pub struct Entry {
     pub octets: Octets,
 }
 
-/// A live message of a folder.
+/// A live message of a folder: its number in the store, its UID in the folder, from 1 on (RFC 3501, 2.3.1.1), and its flags.
 #[derive(Clone, Copy, Debug, PartialEq, Eq)]
 pub struct Listed {
     pub id: u32,
