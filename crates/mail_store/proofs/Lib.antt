@@ -18,6 +18,7 @@ pub mod Readings
 pub mod LawLemmas
 pub mod FollowLemmas
 pub mod ListedLemmas
+pub mod UidLemmas
 pub mod ActLemmas
 pub mod DoingLemmas
 pub mod ReplayLemmas

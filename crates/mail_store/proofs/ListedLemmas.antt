@@ -12,10 +12,10 @@ abbrev id_of : Listed → ℕ
 id_of one = one.id
 
 -- one message more in front of a listing, or not
-abbrev put : Bool → Bool → Listed → (others more : List Listed) → List Listed
+abbrev pub put : Bool → Bool → Listed → (others more : List Listed) → List Listed
 put here live one others more = if here then (if live then one ∷ others else others) else more
 
-all_put : (P : Listed → Type 0) (here live : Bool) (one : Listed) (others more : List Listed) → (live ≡ true → P one) → AllByRecursion P others → AllByRecursion P more
+pub all_put : (P : Listed → Type 0) (here live : Bool) (one : Listed) (others more : List Listed) → (live ≡ true → P one) → AllByRecursion P others → AllByRecursion P more
     → AllByRecursion P (put here live one others more)
 all_put P false live one others more this rest same = same
 all_put P true false one others more this rest same = rest

@@ -1,6 +1,6 @@
 -- What a store keeps, as the fold of a journal's records. Things are named by their numbers in order of their records.
-use Rattle.std.specs.Prelude.{ℕ, zero, suc, ◌+◌, List, [], ◌∷◌, ◌++◌, length, map, count_by, codes, Bool, true, false, Option, Some, None, option_and_then, ◌==◌, if◌then◌else◌, slice_get, slice_index_or}
-use Rattle.std.specs.List.{list_any}
+use Rattle.std.specs.Prelude.{◌≡◌, ◌⊎◌, ◌≤◌, ℕ, zero, suc, ◌+◌, List, [], ◌∷◌, ◌++◌, length, map, count_by, codes, Bool, true, false, Option, Some, None, option_and_then, ◌==◌, if◌then◌else◌, slice_get, slice_index_or}
+use Rattle.std.specs.List.{Any, list_any}
 use Rattle.std.specs.Option.{option_map_or}
 use Rattle.std.specs.Str.{bytes_eq}
 use Rattle.mail_store.specs.declared.records.Record.{Record}
@@ -107,6 +107,11 @@ listed_from folder at uid (message ∷ messages) =
 
 abbrev pub listed : Kept → ℕ → List Listed
 listed kept folder = listed_from folder 0 1 kept.messages
+
+-- the message is listed here with the same UID, or isn't there yet and has a UID that the folder hasn't given
+abbrev pub IsListedOrNew : Kept → ℕ → Listed → Type 0
+IsListedOrNew kept folder one =
+    Any (λ was. (was.id ≡ one.id) × (was.uid ≡ one.uid)) (listed kept folder) ⊎ ((length kept.messages ≤ one.id) × (uid_next kept folder ≤ one.uid))
 
 -- the account's address names the same mailbox; `path_of` reads paths
 abbrev pub is_account_of : (List ℕ → Option (Option Address)) → Address → Account → Bool

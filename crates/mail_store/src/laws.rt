@@ -1,12 +1,13 @@
 //! Laws of journals and stores.
-ghost use Rattle.std.specs.Prelude.{◌≡◌, ◌==◌, ℕ, List, ◌++◌, map, slice_get, Option, Ok, Err};
+ghost use Rattle.std.specs.Prelude.{◌≡◌, ◌==◌, ◌<◌, ◌≤◌, ℕ, List, ◌++◌, map, slice_get, Option, Ok, Err};
 ghost use Rattle.std.specs.List.{AllByRecursion, IsDistinct};
+ghost use Rattle.std.specs.List.Sorted.{IsStrictlyIncreasing};
 ghost use Rattle.mail_store.specs.declared.changing.StoreFault.{StoreFault};
 ghost use Rattle.mail_store.specs.declared.kept.Listed.{Listed as ListedValue};
 ghost use Rattle.mail_store.specs.declared.records.Record.{Record};
 ghost use Rattle.mail_store.specs.Changing.{IsStoreOf, Changes, HoldsFirst};
 ghost use Rattle.mail_store.specs.Following.{Follows, Breaks};
-ghost use Rattle.mail_store.specs.Kept.{Kept, listed};
+ghost use Rattle.mail_store.specs.Kept.{Kept, listed, uid_next, after_all, IsListedOrNew};
 ghost use Rattle.mail_store.specs.Opening.{HasRecords, IsBadAt};
 ghost use Rattle.mail_store.specs.Records.{IsLive};
 ghost use Rattle.mail_store.specs.StoreState.{StoreState};
@@ -40,4 +41,12 @@ pub fn changes_follow()
 pub fn listings_are_live()
     ensures live { (kept : Kept) (folder : ℕ) → AllByRecursion (λ one. IsLive (slice_get kept.messages one.id)) (listed kept folder) }
     ensures distinct { (kept : Kept) (folder : ℕ) → IsDistinct (λ a b. a == b) (map (λ (one : ListedValue). one.id) (listed kept folder)) }
+{}
+
+/// A folder's UIDs rise, a message keeps its own whatever comes later, and none is given again.
+pub fn uids_stay()
+    ensures rise { (kept : Kept) (folder : ℕ) → IsStrictlyIncreasing (map (λ (one : ListedValue). one.uid) (listed kept folder)) }
+    ensures below { (kept : Kept) (folder : ℕ) → AllByRecursion (λ one. one.uid < uid_next kept folder) (listed kept folder) }
+    ensures stay { (kept : Kept) (more : List Record) (folder : ℕ) → AllByRecursion (IsListedOrNew kept folder) (listed (after_all kept more) folder) }
+    ensures next { (kept : Kept) (more : List Record) (folder : ℕ) → uid_next kept folder ≤ uid_next (after_all kept more) folder }
 {}
