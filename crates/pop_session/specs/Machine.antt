@@ -114,10 +114,7 @@ abbrev pub stat_reply : Meanings → Mode → StoreState → List MaildropMessag
 stat_reply meanings mode store maildrop =
     says (two_numbers (codes "+OK ") (length (left_of maildrop)) (sum_by (size_of meanings mode store) (left_of maildrop)))
 
--- what LIST and UIDL tell of a message, behind its number
-abbrev pub size_row : Meanings → Mode → StoreState → Listed → ℕ
-size_row meanings mode store one = size_of meanings mode store one
-
+-- what UIDL tells of a message, behind its number; LIST tells its size
 abbrev pub uid_row : Listed → ℕ
 uid_row one = one.uid
 
@@ -231,9 +228,9 @@ transaction_reply meanings mode maildrop store keyword.Utf8 argument = out_of_or
 transaction_reply meanings mode maildrop store keyword.Capa None = capabilities
 transaction_reply meanings mode maildrop store keyword.Noop None = done
 transaction_reply meanings mode maildrop store keyword.Stat None = stat_reply meanings mode store maildrop
-transaction_reply meanings mode maildrop store keyword.List None = listing_reply (size_row meanings mode store) maildrop
+transaction_reply meanings mode maildrop store keyword.List None = listing_reply (size_of meanings mode store) maildrop
 transaction_reply meanings mode maildrop store keyword.List (Some number) =
-    of_number (listing_one_reply (size_row meanings mode store)) maildrop (number_of number)
+    of_number (listing_one_reply (size_of meanings mode store)) maildrop (number_of number)
 transaction_reply meanings mode maildrop store keyword.Uidl None = listing_reply uid_row maildrop
 transaction_reply meanings mode maildrop store keyword.Uidl (Some number) = of_number (listing_one_reply uid_row) maildrop (number_of number)
 transaction_reply meanings mode maildrop store keyword.Retr (Some number) = of_number (retr_reply meanings mode store) maildrop (number_of number)

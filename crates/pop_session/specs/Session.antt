@@ -1,13 +1,13 @@
 -- A session (RFC 1939, 3): the machine over a stream, and what a session value stands for.
-use Rattle.std.specs.Prelude.{◌≡◌, ℕ, List, [], ◌∷◌, codes, Option, None, Some}
+use Rattle.std.specs.Prelude.{◌≡◌, ℕ, List, [], codes, Option, None, Some}
 use Rattle.mail_wire.specs.Turns.{Turn, all_turns}
-use Rattle.mail_store.specs.Acts.{Act, gives, acts_of}
+use Rattle.mail_store.specs.Acts.{Act, acts_of}
 use Rattle.mail_store.specs.Following.{records_of}
 use Rattle.mail_store.specs.StoreState.{StoreState, with_records}
 use Rattle.surrogate_cache.specs.Served.{legacy, Meanings}
 use Rattle.mail_wire.specs.Framing.{Framed, waiting, whole, too_long, next_line}
 use Rattle.pop_session.specs.Commands.{command_of}
-use Rattle.pop_session.specs.Machine.{Part, line, State, authorization, transaction, ended, says, Step, acts_in, step}
+use Rattle.pop_session.specs.Machine.{Part, State, authorization, transaction, ended, says, Step, acts_in, step}
 use Rattle.pop_session.specs.States.{state_of, KnowsState}
 use Rattle.pop_session.specs.declared.session.PopSession.{PopSession}
 use Rattle.pop_session.specs.declared.session.PopSession.TheVariants as variant
@@ -52,14 +52,6 @@ greeting = says (codes "+OK ready")
 -- a session begins as legacy
 abbrev pub start_of : StoreState → Machine
 start_of store = record { state = authorization legacy None; store = store }
-
--- what a session does of a stream: it gives the greeting, and carries out its whole commands, up to the end
-abbrev pub acts_for : Meanings → StoreState → List ℕ → List (Act Part)
-acts_for meanings store octets = gives (line (codes "+OK ready")) ∷ (turns_of meanings (start_of store) octets).parts
-
--- the store that these commands leave
-abbrev pub store_after : Meanings → StoreState → List ℕ → StoreState
-store_after meanings store octets = (turns_of meanings (start_of store) octets).after.store
 
 -- the machine's state of a session
 abbrev pub session_state : PopSession → State

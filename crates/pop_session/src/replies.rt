@@ -7,7 +7,7 @@ ghost use Rattle.surrogate_rope.specs.Served.{IsShownOf, shown_octets};
 ghost use Rattle.surrogate_cache.specs.Served.{IsServed, HasServedHeaders, Meanings, WithMeanings};
 ghost use Rattle.pop_session.specs.Asked.{IsAsked, IsKnown};
 ghost use Rattle.pop_session.specs.Commands.{number_of};
-ghost use Rattle.pop_session.specs.Machine.{size_of, size_row, uid_row, stat_reply, listing_reply, listing_one_reply, retr_reply, top_reply, message_at as message_at_of, two_numbers};
+ghost use Rattle.pop_session.specs.Machine.{size_of, uid_row, stat_reply, listing_reply, listing_one_reply, retr_reply, top_reply, message_at as message_at_of, two_numbers};
 ghost use Rattle.pop_session.specs.Replies.{reply_octets, AreFit};
 ghost use Rattle.pop_session.specs.States.{Knows};
 
@@ -90,7 +90,7 @@ pub fn list<V: View>(
 ) -> Result<String, Memory>
     requires { Knows store.now maildrop.now }
     ensures { IfOk result (λ text. WithMeanings (λ meanings.
-        string_bytes text ≡ reply_octets meanings (listing_reply (size_row meanings V.mode store.now) maildrop.now))) }
+        string_bytes text ≡ reply_octets meanings (listing_reply (size_of meanings V.mode store.now) maildrop.now))) }
 {
     let mut text = String::from_str(alloc, "+OK\r\n")?;
     for (place, one) in maildrop.iter().enumerate() {
@@ -129,7 +129,7 @@ pub fn list_one<V: View>(
 ) -> Result<String, Memory>
     requires { one.now.id < length store.now.kept.messages }
     ensures { IfOk result (λ text. WithMeanings (λ meanings.
-        string_bytes text ≡ reply_octets meanings (listing_one_reply (size_row meanings V.mode store.now) number one.now))) }
+        string_bytes text ≡ reply_octets meanings (listing_one_reply (size_of meanings V.mode store.now) number one.now))) }
 {
     let size = size::<V>(alloc, cache, store, one)?;
     Ok(format!(in alloc; "+OK {number} {size}\r\n")?)

@@ -1,6 +1,6 @@
 use Rattle.std.proofs.Common.{List, ℕ, subst, ◌∙◌}
 use Rattle.mail_wire.specs.Moves.{GivesOrFails}
-use Rattle.pop_session.specs.Machine.{size_row, uid_row}
+use Rattle.pop_session.specs.Machine.{size_of, uid_row}
 use Rattle.pop_session.proofs.FitLemmas.{listing_one_fit}
 use Rattle.pop_session.proofs.RowLemmas.{is_list, IfOk-always}
 use Rattle.pop_session.proofs.session.give_of_message.Goals as goal
@@ -20,7 +20,7 @@ returns-in_ok-text-in_default g c =
     (record {
       gives = λ meanings are. subst (λ (octets : List ℕ). GivesOrFails (g.W.Wire.tells c.args.wire.now) (g.W.Wire.tells c.give_all-in_default.new.wire) c.give_all-in_default.result octets)
           (c.as_bytes-in_default.ensures.value ∙ c.in_ok-text-in_default.ensures meanings are) c.give_all-in_default.ensures.gives;
-      fit = IfOk-always c.give_all-in_default.result _ (λ meanings are. listing_one_fit meanings (size_row meanings g.V.View.mode c.args.store.now) c.in-Found.number c.in-Found.one);
+      fit = IfOk-always c.give_all-in_default.result _ (λ meanings are. listing_one_fit meanings (size_of meanings g.V.View.mode c.args.store.now) c.in-Found.number c.in-Found.one);
       cause = c.give_all-in_default.ensures.cause;
       keeper = c.give_all-in_default.ensures.keeper;
     })

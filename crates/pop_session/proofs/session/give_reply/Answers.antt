@@ -1,13 +1,13 @@
 use Rattle.std.proofs.Common.{List, ℕ, subst, ◌∙◌}
 use Rattle.mail_wire.specs.Moves.{GivesOrFails}
-use Rattle.pop_session.specs.Machine.{size_row, uid_row}
+use Rattle.pop_session.specs.Machine.{size_of, uid_row}
 use Rattle.pop_session.proofs.FitLemmas.{listing_fit}
 use Rattle.pop_session.proofs.RowLemmas.{IfOk-always}
 use Rattle.pop_session.proofs.session.give_reply.Goals as goal
 
 pub returns-in_ok-text-in-List-None-clause-fit : goal.returns-in_ok-text-in-List-None-clause-fit
 returns-in_ok-text-in-List-None-clause-fit g c = rw (c.in-List-None.is-0, c.in-List-None.is-1)
-    (IfOk-always c.give_all-in-List-None.result _ (λ meanings are. listing_fit meanings (size_row meanings g.V.View.mode c.args.store.now) c.args.maildrop.now))
+    (IfOk-always c.give_all-in-List-None.result _ (λ meanings are. listing_fit meanings (size_of meanings g.V.View.mode c.args.store.now) c.args.maildrop.now))
 
 pub returns-in_ok-text-in-Uidl-None-clause-gives : goal.returns-in_ok-text-in-Uidl-None-clause-gives
 returns-in_ok-text-in-Uidl-None-clause-gives g c = rw (c.in-Uidl-None.is-0, c.in-Uidl-None.is-1)
