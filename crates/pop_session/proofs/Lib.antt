@@ -2,6 +2,7 @@ pub mod Numbers
 pub mod Arguments
 pub mod StuffingLemmas
 pub mod StuffedPieces
+pub mod StuffedLines
 pub mod TopLemmas
 pub mod ListLemmas
 pub mod FitLemmas

@@ -156,10 +156,10 @@ shown_crlf n rest lines after = record {
 }
 
 -- the first line of these octets begins with the first octet
-record BeginsWith (y : ℕ) (octets : List ℕ) : Type 0 where
-  line : List ℕ
-  lines : List (List ℕ)
-  split : lines_of octets ≡ (y ∷ line) ∷ lines
+pub record BeginsWith (y : ℕ) (octets : List ℕ) : Type 0 where
+  pub line : List ℕ
+  pub lines : List (List ℕ)
+  pub split : lines_of octets ≡ (y ∷ line) ∷ lines
 
 -- from the second octet on
 begins_by : (y z : ℕ) (rest : List ℕ) → BeginsWith z (z ∷ rest) → (b : Bool) → is_crlf y z ≡ b → BeginsWith y (y ∷ z ∷ rest)
@@ -169,7 +169,7 @@ begins_by y z rest next true is =
 begins_by y z rest next false is = record { line = z ∷ next.line; lines = next.lines; split = lines_of-other y z rest is ∙ ap (put_before y) next.split }
 
 -- there is such a line
-begins : (y : ℕ) (rest : List ℕ) → BeginsWith y (y ∷ rest)
+pub begins : (y : ℕ) (rest : List ℕ) → BeginsWith y (y ∷ rest)
 unfolding lines_of
 begins y [] = record { line = []; lines = []; split = refl }
 begins y (z ∷ rest) = begins_by y z rest (begins z rest) (is_crlf y z) refl

@@ -13,6 +13,11 @@ abbrev pub stuffed_line : List ℕ → List ℕ
 stuffed_line [] = []
 stuffed_line (x ∷ rest) = if x == 46 then 46 ∷ 46 ∷ rest else x ∷ rest
 
+-- a line without the dot that it begins with, where it begins with one
+abbrev pub unstuffed_line : List ℕ → List ℕ
+unstuffed_line [] = []
+unstuffed_line (x ∷ rest) = if x == 46 then rest else x ∷ rest
+
 -- each line stuffed
 unfoldable pub stuffed : List ℕ → List ℕ
 stuffed octets = flat_map stuffed_line (lines_of octets)

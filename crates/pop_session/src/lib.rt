@@ -2,6 +2,7 @@
 #![tactic(auto)]
 
 pub mod command;
+pub mod laws;
 pub mod replies;
 pub mod session;
 pub mod states;
