@@ -14,7 +14,6 @@ use Rattle.mail_store.specs.Addresses.{IsDomainText}
 use Rattle.mail_store.specs.Changing.{IsSendable}
 use Rattle.mail_store.specs.Doing.{Does}
 use Rattle.mail_store.specs.Following.{records_of}
-use Rattle.mail_store.specs.Kept.{name_of}
 use Rattle.mail_store.specs.StoreState.{StoreState, with_records}
 use Rattle.mail_store.specs.declared.limits.TheConstants.{RECIPIENTS_MAX}
 use Rattle.smtp_session.specs.Commands.{command_of, is_client}
@@ -109,10 +108,6 @@ greeting name = (codes "220 " ++ (name ++ codes " ESMTP")) ∷ []
 
 abbrev pub start_of : StoreState → List Moment → Machine
 start_of store moments = record { state = fresh; store = store; moments = moments }
-
--- what a session does of a stream, with these moments: it gives the greeting, and carries out its whole commands, up to the end
-abbrev pub acts_for : Readings → StoreState → List Moment → List ℕ → List (Act (List ℕ))
-acts_for readings store moments octets = acts_of [] (greeting (name_of store.kept)) ++ (turns_of readings (start_of store moments) octets).parts
 
 -- ---- what values stand for
 
