@@ -1,5 +1,5 @@
 //! Laws of the data, of what may be kept of them, and of what is kept.
-ghost use Rattle.std.specs.Prelude.{◌≡◌, ◌≢◌, ℕ, List, [], Bool, Some, codes};
+ghost use Rattle.std.specs.Prelude.{◌≡◌, ◌≢◌, ◌++◌, ℕ, List, [], Bool, Some, codes};
 ghost use Rattle.std.specs.List.{All};
 ghost use Rattle.mail_wire.specs.Lines.{Cut, lines_of};
 ghost use Rattle.mail_store.specs.Answers.{IsFold};
@@ -17,9 +17,10 @@ pub fn trees_are_told()
     ensures { (has_tree : List ℕ → Bool) × TellsTrees has_tree }
 {}
 
-/// No line of the data is a dot alone.
+/// No line of the data is a dot alone, and behind the data stand such a line and the rest.
 pub fn data_end_once()
-    ensures { (octets : List ℕ) (cut : Cut) → data_cut octets ≡ Some cut → All (λ line. line ≢ codes ".\r\n") (lines_of cut.line) }
+    ensures none { (octets : List ℕ) (cut : Cut) → data_cut octets ≡ Some cut → All (λ line. line ≢ codes ".\r\n") (lines_of cut.line) }
+    ensures split { (octets : List ℕ) (cut : Cut) → data_cut octets ≡ Some cut → octets ≡ cut.line ++ (codes ".\r\n" ++ cut.rest) }
 {}
 
 /// Mail that is accepted is kept once for each of its recipients, and nothing else is kept: neither of mail that isn't accepted
