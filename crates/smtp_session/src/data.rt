@@ -2,9 +2,9 @@
 ghost use Rattle.std.specs.Prelude.{◌≡◌, ◌+◌, ◌<◌, ◌≤◌, ◌++◌, None, Some, MatchOption, IfOk, IfSome, OnOk, length, take, drop};
 ghost use Rattle.smtp_session.specs.Data.{end_cut, unstuffed, unstuffed_line, received, return_path as return_path_of};
 ghost use Rattle.address_lists.specs.Paths.{ComesInPath};
-ghost use Rattle.mail_store.specs.Changing.{path_text as path_text_of};
 
-use address_lists::{Address, write_address};
+use address_lists::Address;
+use mail_store::changing::path_text;
 use mail_wire::text::lines;
 use mail_wire::values::{Memory, Octets};
 use memchr::memmem;
@@ -67,27 +67,14 @@ pub fn received_field(
     Ok(field)
 }
 
-// Puts the text of a path's address last; the null path has none.
-fn push_path(into: &mut Octets, alloc: Global, path: &Option<Address>) -> Result<(), Memory>
-    requires { IfSome path.now ComesInPath }
-    ensures { OnOk result (into.new ≡ into.old ++ path_text_of path.now) }
-{
-    match path {
-        Some(address) => {
-            let text = write_address(alloc, address)?;
-            into.push_slice(text.as_slice())
-        }
-        None => Ok(()),
-    }
-}
-
 /// The field that tells the path which a message came from.
 pub fn return_path_field(alloc: Global, path: &Option<Address>) -> Result<Octets, Memory>
     requires { IfSome path.now ComesInPath }
     ensures { IfOk result (λ field. field ≡ return_path_of path.now) }
 {
+    let text = path_text(alloc, path)?;
     let mut field = Octets::from_slice(alloc, b"Return-Path: <")?;
-    push_path(&mut field, alloc, path)?;
+    field.push_slice(text.as_slice())?;
     field.push_slice(b">\r\n")?;
     Ok(field)
 }
