@@ -74,9 +74,8 @@ due_is has_tree octets store client delivery tells stored small taken =
     ap (λ (s : Step). s.changes) (last_of (has_large_octets store.message_max delivery) (has_tree octets) (delivery_refusal store delivery) _ _ _ _ small (tells_true has_tree octets tells stored) taken)
 
 -- octets that were found to have a tree may be kept
-pub found_stored : (is : Bool) (text into front octets : List ℕ) → is ≡ true → (IsTrue is → IsStored text) → text ≡ into → into ≡ front ++ octets → front ≡ [] → IsStored octets
-found_stored is text into front octets found tells p q r =
-    subst IsStored (p ∙ (q ∙ ap (λ (l : List ℕ). l ++ octets) r)) (tells (let f = found in search rules))
+pub found_stored : (is : Bool) (octets : List ℕ) → is ≡ true → (IsTrue is → IsStored octets) → IsStored octets
+found_stored is octets found tells = tells (let f = found in search rules)
 
 -- the keeper failed in it
 pub Makes-fails : (T : Type 0) (has_tree : List ℕ → Bool) (octets : List ℕ) (old new : StoreState) (had has : Option (List ℕ)) (client : Client) (delivery : Delivery) (max : ℕ) (met : StoreFault)
@@ -154,10 +153,10 @@ said_is false message_max lines octets is said = said
 said_is true message_max lines octets is said = cc
 
 -- what is delivered is what is due at the end of the data
-pub end_is : (readings : Readings) (dropped : Bool) (store : StoreState) (client : Client) (envelope : Envelope) (moment : Moment) (lines octets : List ℕ) (delivery : Delivery)
-    → dropped ≡ false → IsSaid dropped store.message_max lines octets → delivery ≡ delivery_of store client envelope moment (unstuffed lines)
-    → end_by (readings.has_tree (unstuffed lines)) store client delivery ≡ end_data readings store client envelope moment octets
-end_is readings dropped store client envelope moment lines octets delivery is said made = rw (said_is dropped store.message_max lines octets is said, made) refl
+pub end_is : (readings : Readings) (dropped : Bool) (store : StoreState) (client : Client) (envelope : Envelope) (moment : Moment) (lines octets content : List ℕ) (delivery : Delivery)
+    → dropped ≡ false → IsSaid dropped store.message_max lines octets → content ≡ unstuffed lines → delivery ≡ delivery_of store client envelope moment (unstuffed lines)
+    → end_by (readings.has_tree content) store client delivery ≡ end_data readings store client envelope moment octets
+end_is readings dropped store client envelope moment lines octets content delivery is said same made = rw (said_is dropped store.message_max lines octets is said, same, made) refl
 
 -- and may be delivered
 pub end_deliverable : (store : StoreState) (client : Client) (envelope : Envelope) (moment : Moment) (octets : List ℕ) (delivery : Delivery) → KnowsState store (collecting client envelope)

@@ -12,12 +12,17 @@ use Rattle.smtp_session.specs.Data.{Moment, unstuffed}
 use Rattle.smtp_session.specs.Machine.{Readings}
 use Rattle.smtp_session.specs.Session.{AreFitActs, HasRestIn, IsTold, IsUnfinished, KnowsState, Machine, WithReadings, line_octets, state_of, state_or_ended, turns_of}
 use Rattle.smtp_session.specs.declared.states.SmtpState.{SmtpState}
+use Rattle.smtp_session.specs.declared.session.Accepted.{Accepted}
 use Rattle.smtp_session.specs.declared.session.Came.{Came}
 use Rattle.smtp_session.specs.declared.session.Stamp.{Stamp}
 
 -- the moment of these texts
 abbrev pub moment_of : Stamp → Moment
 moment_of stamp = record { date = stamp.date; internal = stamp.internal }
+
+-- the content of a message, which stands behind the trace
+abbrev pub content_of : Accepted → List ℕ
+content_of accepted = drop accepted.trace_len accepted.delivery.remote_octets
 
 -- what a call that gives nothing does of these changes
 abbrev pub Makes : {T : Type 0} → (old new : StoreState) (had has : Option (List ℕ)) → Result T Fault → List (List Record) → Type 0

@@ -5,7 +5,7 @@ ghost use Rattle.mail_wire.specs.Keeping.{HasKeeperCause};
 ghost use Rattle.mail_wire.specs.Moves.{GivesOrFails, HasWireCause};
 ghost use Rattle.mail_store.specs.Kept.{name_of};
 ghost use Rattle.mail_store.specs.StoreState.{StoreState};
-ghost use Rattle.mail_store.specs.Changing.{IsDeliverable, has_large_octets};
+ghost use Rattle.mail_store.specs.Changing.{IsDeliverable};
 ghost use Rattle.mail_store.specs.Doing.{Does};
 ghost use Rattle.mail_store.specs.Stored.{IsStored};
 ghost use Rattle.address_lists.specs.Paths.{ComesInPath};
@@ -13,12 +13,12 @@ ghost use Rattle.smtp_session.specs.Commands.{command_of};
 ghost use Rattle.smtp_session.specs.Data.{IsMoment, Moment, TellsTrees, end_cut, protocol as protocol_of, unstuffed};
 ghost use Rattle.smtp_session.specs.Machine.{acts_in, ended, delivery_of, end_by, end_data as end_of, step};
 ghost use Rattle.smtp_session.specs.Session.{FeedsBy, HasRest, HasRestIn, IsName, IsReady, IsTold, KnowsState, ReadsLines, WithReadings, greeting, line_octets, machine_of, reply_octets, session_state, start_of, state_of, state_or_ended, turns_of};
-ghost use Rattle.smtp_session.specs.Steps.{HasRestAfter, IsReadyAfter, IsSaid, Makes, Steps, moment_of};
+ghost use Rattle.smtp_session.specs.Steps.{HasRestAfter, IsReadyAfter, IsSaid, Makes, Steps, content_of, moment_of};
 
 use crate::data::{find_data_end, push_unstuffed, received_field, return_path_field};
 use crate::rows::{Reply, answer};
 use crate::states::{Client, Data, Envelope, Fresh, Greeted, Smtp, SmtpState};
-use mail_store::changing::StoreFault;
+use mail_store::changing::{StoreFault, has_large_octets};
 use mail_store::delivery::Delivery;
 use mail_store::storing::Store;
 use mail_wire::clock::Clock;
@@ -93,18 +93,27 @@ fn read_stamp<C: Clock>(alloc: Global, clock: &mut C) -> Result<Stamp, Memory>
     })
 }
 
+// What is kept of data, and how long the trace is that stands before their content.
+#[derive(Debug, Drop)]
+struct Accepted {
+    delivery: Delivery,
+    trace_len: usize,
+}
+
 // What is kept of data that came at this moment.
-fn make_delivery(
+fn accept_data(
     alloc: Global,
     client: &Client,
     envelope: Envelope,
     name: &[u8],
     lines: &[u8],
     stamp: Stamp,
-) -> Result<Delivery, Memory>
+) -> Result<Accepted, Memory>
     requires { IfSome envelope.path ComesInPath }
-    ensures { IfOk result (λ delivery. (store : StoreState) → name.now ≡ name_of store.kept
-        → delivery ≡ delivery_of store client.now envelope (moment_of stamp) (unstuffed lines.now)) }
+    ensures delivery { IfOk result (λ accepted. (store : StoreState) → name.now ≡ name_of store.kept
+        → accepted.delivery ≡ delivery_of store client.now envelope (moment_of stamp) (unstuffed lines.now)) }
+    ensures within { IfOk result (λ accepted. accepted.trace_len ≤ length accepted.delivery.remote_octets) }
+    ensures content { IfOk result (λ accepted. content_of accepted ≡ unstuffed lines.now) }
 {
     let with = protocol(envelope.smtputf8, client.extended);
     let mut remote_octets = received_field(
@@ -114,25 +123,22 @@ fn make_delivery(
         with,
         stamp.date.as_slice(),
     )?;
+    let trace_len = remote_octets.len();
     push_unstuffed(&mut remote_octets, lines)?;
     let mut local_octets = return_path_field(alloc, &envelope.path)?;
     local_octets.push_slice(remote_octets.as_slice())?;
-    Ok(Delivery {
+    let delivery = Delivery {
         path: envelope.path,
         local: envelope.local,
         local_octets,
         remote: envelope.remote,
         remote_octets,
         date: stamp.internal,
+    };
+    Ok(Accepted {
+        delivery,
+        trace_len,
     })
-}
-
-// Whether octets that are to be kept are more than the limit.
-fn is_too_large(delivery: &Delivery, max: u32) -> bool
-    ensures { result ≡ has_large_octets max delivery.now }
-{
-    (delivery.local.len() > 0 && delivery.local_octets.len() > max as usize)
-        || (delivery.remote.len() > 0 && delivery.remote_octets.len() > max as usize)
 }
 
 // Whether octets have a tree of entities.
@@ -149,29 +155,32 @@ fn is_message(alloc: Global, octets: &[u8]) -> Result<bool, Memory>
 // Keeps a message, or tells why not.
 fn deliver<J: Keeper>(
     alloc: Global,
-    delivery: &Delivery,
-    lines: &[u8],
+    accepted: &Accepted,
     store: &mut Store,
     keeper: &mut J,
 ) -> Result<&'static [u8], Fault>
     requires works { store.old.failed ≡ false }
-    requires deliverable { IsStored (unstuffed lines.now) → IsDeliverable store.old delivery.now }
+    requires within { accepted.now.trace_len ≤ length accepted.now.delivery.remote_octets }
+    requires deliverable { IsStored (content_of accepted.now) → IsDeliverable store.old accepted.now.delivery }
     ensures reply { IfOk result (λ reply. (has_tree : List ℕ → Bool) → TellsTrees has_tree → (client : Client)
-        → reply.now ≡ reply_octets (end_by (has_tree (unstuffed lines.now)) store.old client delivery.now).reply) }
+        → reply.now ≡ reply_octets (end_by (has_tree (content_of accepted.now)) store.old client accepted.now.delivery).reply) }
     ensures makes { (has_tree : List ℕ → Bool) → TellsTrees has_tree → (client : Client) → Makes store.old store.new (J.tells keeper.old).octets (J.tells keeper.new).octets result
-        (end_by (has_tree (unstuffed lines.now)) store.old client delivery.now).changes }
+        (end_by (has_tree (content_of accepted.now)) store.old client accepted.now.delivery).changes }
     ensures works { ¬ (result ≡ Err Fault.Keeper) → store.new.failed ≡ false }
     ensures limit { store.new.message_max ≡ store.old.message_max }
     ensures name { name_of store.new.kept ≡ name_of store.old.kept }
     ensures wire { ¬ (result ≡ Err Fault.Wire) }
     ensures keeper { HasKeeperCause (J.tells keeper.old) (J.tells keeper.new) result Fault.Keeper }
 {
-    if is_too_large(delivery, store.message_max()) {
+    let delivery = &accepted.delivery;
+    if has_large_octets(delivery, store.message_max()) {
         return Ok(TOO_LARGE);
     }
-    let mut text = Octets::new(alloc);
-    push_unstuffed(&mut text, lines)?;
-    if !is_message(alloc, text.as_slice())? {
+    let (_, content) = delivery
+        .remote_octets
+        .as_slice()
+        .split_at(accepted.trace_len);
+    if !is_message(alloc, content)? {
         return Ok(NOT_A_MESSAGE);
     }
     match store.deliver(keeper, delivery) {
@@ -217,8 +226,8 @@ fn end_data<W: Wire, J: Keeper>(
         return Ok(Smtp::greeted(client));
     }
     let name = store.name().as_bytes();
-    let delivery = make_delivery(alloc, &client, envelope, name, lines, stamp)?;
-    let reply = deliver(alloc, &delivery, lines, store, keeper)?;
+    let accepted = accept_data(alloc, &client, envelope, name, lines, stamp)?;
+    let reply = deliver(alloc, &accepted, store, keeper)?;
     give_all(wire, reply)?;
     Ok(Smtp::greeted(client))
 }
