@@ -7,6 +7,7 @@ pub mod FindingEnd
 pub mod UnstuffingLemmas
 pub mod TreeLemmas
 pub mod PathLemmas
+pub mod WrittenPaths
 pub mod ParameterLemmas
 pub mod FeedLemmas
 pub mod LineSteps

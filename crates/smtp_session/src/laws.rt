@@ -1,10 +1,14 @@
-//! Laws of the data, of what may be kept of them, and of what is kept.
-ghost use Rattle.std.specs.Prelude.{◌≡◌, ◌≢◌, ◌++◌, ℕ, List, [], Bool, Some, codes};
+//! Laws of the data, of what may be kept of them, of paths, and of what is kept.
+ghost use Rattle.std.specs.Prelude.{◌≡◌, ◌≢◌, ◌++◌, ◌∷◌, ℕ, List, [], Bool, Option, Some, IfSome, true, codes};
 ghost use Rattle.std.specs.List.{All};
 ghost use Rattle.mail_wire.specs.Lines.{Cut, lines_of};
+ghost use Rattle.address_lists.specs.declared.Address.{Address};
+ghost use Rattle.address_lists.specs.Paths.{ComesInPath, in_angles};
 ghost use Rattle.mail_store.specs.Answers.{IsFold};
+ghost use Rattle.mail_store.specs.Changing.{path_text};
 ghost use Rattle.mail_store.specs.Kept.{Kept};
 ghost use Rattle.mail_store.specs.StoreState.{StoreState};
+ghost use Rattle.smtp_session.specs.Commands.{path_behind, stands_apart};
 ghost use Rattle.smtp_session.specs.Data.{Moment, TellsTrees, data_cut};
 ghost use Rattle.smtp_session.specs.Intake.{AreRecipients, IsKeptOnce, KnowsRecipients, acceptance, kept_after};
 ghost use Rattle.smtp_session.specs.Machine.{Readings, State, fresh, greeted, step, delivery_of, end_data};
@@ -21,6 +25,15 @@ pub fn trees_are_told()
 pub fn data_end_once()
     ensures none { (octets : List ℕ) (cut : Cut) → data_cut octets ≡ Some cut → All (λ line. line ≢ codes ".\r\n") (lines_of cut.line) }
     ensures split { (octets : List ℕ) (cut : Cut) → data_cut octets ≡ Some cut → octets ≡ cut.line ++ (codes ".\r\n" ++ cut.rest) }
+{}
+
+/// The path that is written for an address is found whole behind any word, also where a space stands between, and so is the
+/// null path, where nothing follows or white does.
+pub fn written_paths_are_found()
+    ensures behind { (word : List ℕ) (path : Option Address) → IfSome path ComesInPath → (rest : List ℕ) → stands_apart rest ≡ true
+        → path_behind word (word ++ (in_angles (path_text path) ++ rest)) ≡ Some (record { path = in_angles (path_text path); rest = rest }) }
+    ensures spaced { (word : List ℕ) (path : Option Address) → IfSome path ComesInPath → (rest : List ℕ) → stands_apart rest ≡ true
+        → path_behind word (word ++ 32 ∷ (in_angles (path_text path) ++ rest)) ≡ Some (record { path = in_angles (path_text path); rest = rest }) }
 {}
 
 /// Mail that is accepted is kept once for each of its recipients, and nothing else is kept: neither of mail that isn't accepted
