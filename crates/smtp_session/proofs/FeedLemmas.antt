@@ -1,5 +1,5 @@
 -- The turns of a stream that comes in pieces, and what a session has done by then.
-use Rattle.std.proofs.Common.{◌≡◌, ℕ, ◌+◌, ◌<◌, ◌≤◌, List, [], ◌∷◌, ◌++◌, ◌==◌, length, arith, refl, sym, ap, subst, ◌∙◌, Bool, true, false, Some, None, Option, Ok, Err, Result, inl, inr, append_assoc, append-nil}
+use Rattle.std.proofs.Common.{◌≡◌, ℕ, ◌<◌, ◌≤◌, List, [], ◌∷◌, ◌++◌, ◌==◌, length, arith, refl, sym, ap, subst, ◌∙◌, Bool, true, Some, None, Option, Ok, Err, Result, inl, inr, append_assoc, append-nil}
 use Rattle.std.specs.Prelude.{drop, IsTrue}
 use Rattle.std.specs.List.{All}
 use Rattle.std.specs.Option.{option_map}
@@ -16,7 +16,7 @@ use Rattle.mail_wire.specs.Turns.{Turn, stay, behind, followed_by, IsFramed}
 use Rattle.mail_wire.specs.declared.outside.Fault.{Fault}
 use Rattle.mail_wire.specs.declared.outside.Fault.TheVariants as fault
 use Rattle.mail_wire.proofs.FramingLemmas.{IsSteady, steady}
-use Rattle.mail_wire.proofs.TurnsLemmas.{all_turns-stop, all_turns-go}
+use Rattle.mail_wire.proofs.TurnsLemmas.{all_turns-stop}
 use Rattle.mail_store.specs.Acts.{Act}
 use Rattle.mail_store.specs.Doing.{Does}
 use Rattle.mail_store.specs.Following.{records_of}
@@ -34,7 +34,7 @@ use Rattle.smtp_session.specs.declared.states.SmtpState.{SmtpState}
 use Rattle.smtp_session.specs.declared.states.SmtpState.TheVariants as smtp
 use Rattle.smtp_session.specs.Data.{Moment, behind_command, data_cut, end_cut}
 use Rattle.smtp_session.specs.Machine.{Readings, State, fresh, greeted, mail, collecting, ended, Step, acts_in}
-use Rattle.smtp_session.specs.Session.{AreReadings, FeedsBy, HasRestIn, IsFit, IsTold, IsUnfinished, Machine, StandsFor, WithReadings, data_turn, line_octets, line_turn, next_turn, state_of, state_or_ended, turn_in, turns_of}
+use Rattle.smtp_session.specs.Session.{FeedsBy, HasRestIn, IsFit, IsTold, IsUnfinished, Machine, WithReadings, data_turn, line_octets, line_turn, next_turn, state_of, state_or_ended, turn_in, turns_of}
 use Rattle.smtp_session.specs.Steps.{HasRestAfter, Steps}
 use Rattle.smtp_session.proofs.DataLemmas.{data_cut-shorter, data_cut-stays}
 

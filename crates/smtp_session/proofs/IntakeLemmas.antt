@@ -91,7 +91,7 @@ now_found account at (folder ∷ folders) one own =
     ]
 
 -- each account has an INBOX
-abbrev HaveInboxes : Kept → Type 0
+abbrev pub HaveInboxes : Kept → Type 0
 HaveInboxes kept = (account : ℕ) → account < length kept.accounts → IsSome (inbox_of kept account)
 
 inboxes_after : (kept : Kept) (one : Record) → HaveInboxes kept → HaveInboxes (after kept one)
@@ -108,12 +108,12 @@ inboxes_after kept (records.Expunge message) have = have
 inboxes_after kept (records.Queue path addresses octets) have = have
 inboxes_after kept (records.Settle entry index) have = have
 
-inboxes_after_all : (kept : Kept) (all : List Record) → HaveInboxes kept → HaveInboxes (after_all kept all)
+pub inboxes_after_all : (kept : Kept) (all : List Record) → HaveInboxes kept → HaveInboxes (after_all kept all)
 inboxes_after_all kept [] have = have
 inboxes_after_all kept (one ∷ others) have = inboxes_after_all (after kept one) others (inboxes_after kept one have)
 
 -- so it is in every store
-have_inboxes : (kept : Kept) → IsFold kept → HaveInboxes kept
+pub have_inboxes : (kept : Kept) → IsFold kept → HaveInboxes kept
 have_inboxes kept fold = subst HaveInboxes (sym fold.kept_is) (inboxes_after_all nothing fold.all (λ account there. absurd (omega (arith, there))))
 
 -- ---- one copy for each account
@@ -291,8 +291,15 @@ left_is is_message store client delivery =
     (λ message. cond_both (is_some (delivery_refusal store delivery)) _ _ P (λ refused. refl) (λ room. refl)))
 
 -- the accounts among the recipients have INBOXes
-recipients_have : (kept : Kept) (envelope : Envelope) → IsFold kept → AreRecipients kept envelope → All (λ account. IsSome (inbox_of kept account)) envelope.local
-recipients_have kept envelope fold are = All-weaker (λ account. account < length kept.accounts) (λ account. IsSome (inbox_of kept account)) (have_inboxes kept fold) envelope.local are.there
+recipients_have : (kept : Kept) (envelope : Envelope) → HaveInboxes kept → AreRecipients kept envelope → All (λ account. IsSome (inbox_of kept account)) envelope.local
+recipients_have kept envelope have are = All-weaker (λ account. account < length kept.accounts) (λ account. IsSome (inbox_of kept account)) have envelope.local are.there
+
+-- what is delivered to them is kept once for each
+pub delivered_once : (kept : Kept) (delivery : Delivery) (envelope : Envelope) → delivery.local ≡ envelope.local → delivery.remote ≡ envelope.remote → HaveInboxes kept
+    → AreRecipients kept envelope → IsKeptOnce kept (after_all kept (delivered kept delivery)) delivery
+delivered_once kept delivery envelope local remote have are =
+    rw (delivered_leaves kept delivery)
+    (delivery_once kept delivery (rw local (recipients_have kept envelope have are)) (rw local are.local) (rw remote are.remote))
 
 -- ---- the law
 
@@ -302,8 +309,7 @@ pub accepted_kept_once : (readings : Readings) (store : StoreState) (client : Cl
 accepted_kept_once readings store client envelope moment octets fold are accepted =
     let delivery = delivery_of store client envelope moment octets in
     let made = accepted_is (readings.has_tree octets) store client delivery accepted in
-    rw made (rw (append-nil (delivered store.kept delivery)) (rw (delivered_leaves store.kept delivery)
-    (delivery_once store.kept delivery (recipients_have store.kept envelope fold are) are.local are.remote)))
+    rw made (rw (append-nil (delivered store.kept delivery)) (delivered_once store.kept delivery envelope refl refl (have_inboxes store.kept fold) are))
 
 pub refused_kept_none : (readings : Readings) (store : StoreState) (client : Client) (envelope : Envelope) (moment : Moment) (octets : List ℕ)
     → (end_data readings store client envelope moment octets).reply ≢ acceptance → (end_data readings store client envelope moment octets).changes ≡ []

@@ -1,4 +1,5 @@
 pub mod ReplyLemmas
+pub mod SaidLines
 pub mod FitLemmas
 pub mod RecipientLemmas
 pub mod RowLemmas
@@ -17,3 +18,4 @@ pub mod KeptLemmas
 pub mod EndLemmas
 pub mod IntakeLemmas
 pub mod KnownRecipients
+pub mod StreamLemmas

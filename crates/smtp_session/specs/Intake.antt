@@ -6,6 +6,8 @@ use Rattle.address_lists.specs.Addresses.{address_text}
 use Rattle.mail_store.specs.declared.delivery.Delivery.{Delivery}
 use Rattle.mail_store.specs.declared.kept.Entry.{Entry}
 use Rattle.mail_store.specs.declared.kept.Message.{Message}
+use Rattle.mail_store.specs.declared.records.Record.{Record}
+use Rattle.mail_store.specs.Acts.{Act, gives, changes}
 use Rattle.mail_store.specs.Changing.{path_text}
 use Rattle.mail_store.specs.Delivering.{copied}
 use Rattle.mail_store.specs.Following.{records_of}
@@ -32,9 +34,13 @@ KnowsRecipients kept ended = Unit {0}
 
 -- ---- what is kept of it
 
--- the reply to data that are accepted
+-- the line that answers data that are accepted
+abbrev pub stored_line : List ℕ
+stored_line = codes "250 2.0.0 stored"
+
+-- the reply to them
 abbrev pub acceptance : List (List ℕ)
-acceptance = codes "250 2.0.0 stored" ∷ []
+acceptance = stored_line ∷ []
 
 -- what is kept after a step
 abbrev pub kept_after : StoreState → Step → Kept
@@ -65,3 +71,15 @@ pub record IsKeptOnce (old new : Kept) (delivery : Delivery) : Type 0 where
   pub accounts : new.accounts ≡ old.accounts
   pub domains : new.domains ≡ old.domains
   pub folders : new.folders ≡ old.folders
+
+-- ---- over a whole stream
+
+-- Of what a session does, from a store on: what is kept is messages, each of them once for each of its recipients; each is told
+-- to be stored next, and nothing else is told so.
+pub data KeepsAccepted : StoreState → List (Act (List ℕ)) → Type 0 where
+  NoMore : (store : StoreState) → KeepsAccepted store []
+  -- another line
+  Says : (store : StoreState) (line : List ℕ) (more : List (Act (List ℕ))) → line ≢ stored_line → KeepsAccepted store more → KeepsAccepted store (gives line ∷ more)
+  Keeps : (store : StoreState) (delivery : Delivery) (records : List Record) (more : List (Act (List ℕ)))
+      → IsKeptOnce store.kept (with_records store records).kept delivery → KeepsAccepted (with_records store records) more
+      → KeepsAccepted store (changes records ∷ gives stored_line ∷ more)

@@ -1,5 +1,5 @@
 -- The SMTP machine (RFC 5321, 4; RFC 6531, 3).
-use Rattle.std.specs.Prelude.{◌≡◌, ℕ, ◌+◌, ◌++◌, ◌==◌, ◌&&◌, ◌||◌, not, List, [], ◌∷◌, Bool, true, false, Option, None, Some, length, codes, nat_lt, nat_le, is_some, sum_by, option_and_then, decimal, if◌then◌else◌}
+use Rattle.std.specs.Prelude.{ℕ, ◌+◌, ◌++◌, ◌==◌, ◌&&◌, not, List, [], ◌∷◌, Bool, true, false, Option, None, Some, length, codes, nat_lt, nat_le, is_some, sum_by, option_and_then, decimal, if◌then◌else◌}
 use Rattle.std.specs.List.{list_any, list_all}
 use Rattle.std.specs.Str.{bytes_eq}
 use Rattle.address_lists.specs.declared.Address.{Address}
@@ -7,7 +7,7 @@ use Rattle.mail_wire.specs.Octets.{is_ascii}
 use Rattle.mail_store.specs.Acts.{Act, acts_of}
 use Rattle.mail_store.specs.Addresses.{is_same_domain}
 use Rattle.mail_store.specs.Changing.{path_text, delivered, delivery_refusal, has_large_octets}
-use Rattle.mail_store.specs.Kept.{Kept, find_account, is_local, name_of}
+use Rattle.mail_store.specs.Kept.{find_account, is_local, name_of}
 use Rattle.mail_store.specs.StoreState.{StoreState}
 use Rattle.mail_store.specs.declared.delivery.Delivery.{Delivery}
 use Rattle.mail_store.specs.declared.limits.TheConstants.{RECIPIENTS_MAX, TEXT_MAX}
@@ -16,7 +16,7 @@ use Rattle.smtp_session.specs.declared.command.Verb.{Verb}
 use Rattle.smtp_session.specs.declared.command.Verb.TheVariants as verb
 use Rattle.smtp_session.specs.declared.states.Client.{Client}
 use Rattle.smtp_session.specs.declared.states.Envelope.{Envelope}
-use Rattle.smtp_session.specs.Commands.{Command, PathAndRest, is_client, path_behind, words_of, parameter_of, are_malformed, is_unknown, is_smtputf8, announced}
+use Rattle.smtp_session.specs.Commands.{PathAndRest, is_client, path_behind, words_of, parameter_of, are_malformed, is_unknown, is_smtputf8, announced}
 use Rattle.smtp_session.specs.Data.{Moment, protocol, return_path, received}
 
 -- ---- what is taken from other definitions

@@ -6,12 +6,13 @@ ghost use Rattle.address_lists.specs.declared.Address.{Address};
 ghost use Rattle.address_lists.specs.Paths.{ComesInPath, in_angles};
 ghost use Rattle.mail_store.specs.Answers.{IsFold};
 ghost use Rattle.mail_store.specs.Changing.{path_text};
-ghost use Rattle.mail_store.specs.Kept.{Kept};
+ghost use Rattle.mail_store.specs.Kept.{Kept, name_of};
 ghost use Rattle.mail_store.specs.StoreState.{StoreState};
 ghost use Rattle.smtp_session.specs.Commands.{path_behind, stands_apart};
 ghost use Rattle.smtp_session.specs.Data.{Moment, TellsTrees, data_cut};
-ghost use Rattle.smtp_session.specs.Intake.{AreRecipients, IsKeptOnce, KnowsRecipients, acceptance, kept_after};
+ghost use Rattle.smtp_session.specs.Intake.{AreRecipients, IsKeptOnce, KeepsAccepted, KnowsRecipients, acceptance, kept_after};
 ghost use Rattle.smtp_session.specs.Machine.{Readings, State, fresh, greeted, step, delivery_of, end_data};
+ghost use Rattle.smtp_session.specs.Session.{IsName, start_of, turns_of};
 ghost use Rattle.smtp_session.specs.declared.command.Verb.{Verb};
 ghost use Rattle.smtp_session.specs.declared.states.Client.{Client};
 ghost use Rattle.smtp_session.specs.declared.states.Envelope.{Envelope};
@@ -38,7 +39,8 @@ pub fn written_paths_are_found()
 
 /// Mail that is accepted is kept once for each of its recipients, and nothing else is kept: neither of mail that isn't accepted
 /// nor by a command. The recipients that a state names are accounts that are there, none of them twice, and different mailboxes
-/// elsewhere: before the first command, after each one, and after data, where none are left.
+/// elsewhere: before the first command, after each one, and after data, where none are left. So over a whole stream each message
+/// that is kept is kept once for each of its recipients and then told to be stored, and nothing else is kept or told so.
 pub fn accepted_mail_is_kept_once()
     ensures stored { (readings : Readings) (store : StoreState) (client : Client) (envelope : Envelope) (moment : Moment) (octets : List ℕ)
         → IsFold store.kept → AreRecipients store.kept envelope
@@ -53,4 +55,6 @@ pub fn accepted_mail_is_kept_once()
         → KnowsRecipients store.kept state → KnowsRecipients store.kept (step readings state store verb argument).state }
     ensures forgotten { (readings : Readings) (store : StoreState) (client : Client) (envelope : Envelope) (moment : Moment) (octets : List ℕ)
         → (end_data readings store client envelope moment octets).state ≡ greeted client }
+    ensures stream { (readings : Readings) (store : StoreState) (moments : List Moment) (octets : List ℕ) → IsFold store.kept → IsName (name_of store.kept)
+        → KeepsAccepted store (turns_of readings (start_of store moments) octets).parts }
 {}

@@ -1,6 +1,7 @@
 use Rattle.smtp_session.proofs.IntakeLemmas.{accepted_kept_once, data_forget, refused_kept_none}
 use Rattle.smtp_session.proofs.KnownRecipients.{step-recipients}
 use Rattle.smtp_session.proofs.RowLemmas.{step-changes}
+use Rattle.smtp_session.proofs.StreamLemmas.{stream_kept}
 use Rattle.smtp_session.proofs.laws.accepted_mail_is_kept_once.Goals as goal
 
 pub returns-clause-stored : goal.returns-clause-stored
@@ -17,3 +18,6 @@ returns-clause-recipients c = step-recipients
 
 pub returns-clause-forgotten : goal.returns-clause-forgotten
 returns-clause-forgotten c = data_forget
+
+pub returns-clause-stream : goal.returns-clause-stream
+returns-clause-stream c = stream_kept

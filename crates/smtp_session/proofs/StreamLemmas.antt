@@ -1,0 +1,223 @@
+-- What is kept and told over a whole stream.
+use Rattle.std.proofs.Common.{◌≡◌, ◌≢◌, ℕ, zero, suc, ◌≤◌, List, [], ◌∷◌, ◌++◌, ◌==◌, Bool, false, not, eq-eqb, length, arith, refl, sym, ap, subst, ◌∙◌, Option, Some, None, codes, inl, inr, is_some, append-nil}
+use Rattle.std.specs.Prelude.{drop, slice_index_or}
+use Rattle.std.specs.List.{AllByRecursion}
+use Rattle.std.specs.Fmt.{decimal}
+use Rattle.std.specs.Option.{option_map}
+use Rattle.std.proofs.lemmas.Bool.{cond_both}
+use Rattle.ace_domains.proofs.FormLemmas.{form_name}
+use Rattle.mail_wire.specs.Framing.{Framed, waiting, whole, too_long, next_line}
+use Rattle.mail_wire.specs.Lines.{Cut}
+use Rattle.mail_wire.specs.Turns.{Turn, all_turns}
+use Rattle.mail_wire.proofs.TurnsLemmas.{all_turns-stop, all_turns-go}
+use Rattle.mail_store.specs.declared.delivery.Delivery.{Delivery}
+use Rattle.mail_store.specs.declared.records.Record.{Record}
+use Rattle.mail_store.specs.Acts.{Act, gives, changes, acts_of}
+use Rattle.mail_store.specs.Answers.{IsFold}
+use Rattle.mail_store.specs.Changing.{delivered, delivery_refusal, has_large_octets}
+use Rattle.mail_store.specs.Kept.{Kept, name_of}
+use Rattle.mail_store.specs.StoreState.{StoreState, with_records}
+use Rattle.smtp_session.specs.declared.command.Verb.{Verb}
+use Rattle.smtp_session.specs.declared.states.Client.{Client}
+use Rattle.smtp_session.specs.declared.states.Envelope.{Envelope}
+use Rattle.smtp_session.specs.Commands.{command_of}
+use Rattle.smtp_session.specs.Data.{Moment, data_cut, unstuffed}
+use Rattle.smtp_session.specs.Intake.{AreRecipients, IsKeptOnce, KeepsAccepted, KnowsRecipients, Keeps, NoMore, Says, acceptance, stored_line}
+use Rattle.smtp_session.specs.Machine.{Readings, State, fresh, greeted, mail, collecting, ended, Step, acts_in, delivery_of, end_by, end_data, step}
+use Rattle.smtp_session.specs.Session.{IsName, Machine, after_step, data_turn, later, line_too_long, line_turn, next_moment, next_turn, start_of, turn_in, turns_of}
+use Rattle.smtp_session.proofs.FeedLemmas.{next_turn-framed}
+use Rattle.smtp_session.proofs.IntakeLemmas.{HaveInboxes, delivered_once, have_inboxes, inboxes_after_all}
+use Rattle.smtp_session.proofs.KnownRecipients.{step-recipients}
+use Rattle.smtp_session.proofs.RowLemmas.{step-changes}
+use Rattle.smtp_session.proofs.SaidLines.{SaidLines, step_said}
+
+-- ---- no other line tells that a message is stored
+
+abbrev IsOther : List ℕ → Type 0
+IsOther line = line ≢ stored_line
+
+-- an octet differs
+differs_at : (k : ℕ) (line : List ℕ) → (slice_index_or line k 0 == slice_index_or stored_line k 0) ≡ false → IsOther line
+differs_at k line other same = absurd (cc (sym other ∙ eq-eqb _ _ (ap (λ l. slice_index_or l k 0) same)))
+
+-- no name has a space
+no_name : IsName (codes "2.0.0 stored") → ⊥
+no_name (inl text) = let is = (form_name (codes "2.0.0 stored") (codes "2.0.0 stored") text).octets in cc is
+no_name (inr local) = let two : 50 ≡ 108 = ap (λ l. slice_index_or l 0 0) local in omega (arith, two)
+
+no_greeting : (name : List ℕ) → IsName name → IsOther (codes "250 " ++ name)
+no_greeting name named same = no_name (subst IsName (ap (drop 4) same) named)
+
+other_lines : (store : StoreState) → IsName (name_of store.kept) → SaidLines IsOther store
+other_lines store named = record {
+  greeting = no_greeting (name_of store.kept) named;
+  first_offer = differs_at 3 (codes "250-" ++ name_of store.kept) refl;
+  eight_bits = differs_at 3 _ refl;
+  size = differs_at 3 (codes "250-SIZE " ++ decimal store.message_max) refl;
+  smtputf8 = differs_at 3 _ refl;
+  codes_offered = differs_at 4 _ refl;
+  fine = differs_at 10 _ refl;
+  path_taken = differs_at 6 _ refl;
+  recipient_taken = differs_at 6 _ refl;
+  data_wanted = differs_at 0 _ refl;
+  unverified = differs_at 2 _ refl;
+  goodbye = differs_at 1 _ refl;
+  full = differs_at 0 _ refl;
+  unknown = differs_at 0 _ refl;
+  bad = differs_at 0 _ refl;
+  disordered = differs_at 0 _ refl;
+  nobody = differs_at 0 _ refl;
+  large = differs_at 0 _ refl;
+  plain_only = differs_at 0 _ refl;
+  parameter = differs_at 0 _ refl;
+}
+
+-- ---- one turn
+
+-- what stays through a session
+record Stays (machine : Machine) : Type 0 where
+  inboxes : HaveInboxes machine.store.kept
+  recipients : KnowsRecipients machine.store.kept machine.state
+  named : IsName (name_of machine.store.kept)
+
+-- what one turn brings
+data Brings (store : StoreState) (turn : Turn Machine (Act (List ℕ))) : Type 0 where
+  Answers : (reply : List (List ℕ)) → AllByRecursion IsOther reply → turn.parts ≡ acts_of [] reply → turn.after.store ≡ store → Brings store turn
+  Stores : (delivery : Delivery) (records : List Record) → IsKeptOnce store.kept (with_records store records).kept delivery
+      → turn.parts ≡ changes records ∷ gives stored_line ∷ [] → turn.after.store ≡ with_records store records → Brings store turn
+
+record IsTurn (store : StoreState) (turn : Turn Machine (Act (List ℕ))) : Type 0 where
+  brings : Brings store turn
+  stays : Stays turn.after
+
+-- a command
+command_turn : (readings : Readings) (machine : Machine) (word : Verb) (argument rest : List ℕ) → Stays machine
+    → let taken = step readings machine.state machine.store word argument in
+    IsTurn machine.store (record { parts = acts_in taken; after = after_step machine.store machine.moments taken; rest = rest })
+command_turn readings machine word argument rest stays =
+    let taken = step readings machine.state machine.store word argument in
+    let none = step-changes readings machine.state machine.store word argument in
+    rw none
+    (record {
+      brings = Answers taken.reply (step_said IsOther readings machine.state machine.store word argument (other_lines machine.store stays.named)) refl refl;
+      stays = record {
+        inboxes = stays.inboxes;
+        recipients = step-recipients readings machine.state machine.store word argument stays.recipients;
+        named = stays.named;
+      };
+    })
+
+unsome : {a b : Turn Machine (Act (List ℕ))} → Some a ≡ Some b → a ≡ b
+unsome h = cc
+
+no_turn : {turn : Turn Machine (Act (List ℕ))} → None ≡ Some turn → ⊥
+no_turn h = cc
+
+-- a line
+line_brings : (readings : Readings) (machine : Machine) (framed : Framed) (turn : Turn Machine (Act (List ℕ))) → Stays machine → line_turn readings machine framed ≡ Some turn
+    → IsTurn machine.store turn
+line_brings readings machine waiting turn stays is = absurd (no_turn is)
+line_brings readings machine (whole text rest) turn stays is =
+    subst (IsTurn machine.store) (unsome is) (command_turn readings machine (command_of text).verb (command_of text).argument rest stays)
+line_brings readings machine (too_long rest) turn stays is =
+    subst (IsTurn machine.store) (unsome is)
+    (record {
+      brings = Answers line_too_long (differs_at 0 _ refl, tt) refl refl;
+      stays = record { inboxes = stays.inboxes; recipients = tt; named = stays.named };
+    })
+
+-- what the end of data does
+data Ends (store : StoreState) (client : Client) (delivery : Delivery) (taken : Step) : Type 0 where
+  Stored : taken ≡ (let kept : Step = record { changes = delivered store.kept delivery ∷ []; reply = acceptance; state = greeted client } in kept) → Ends store client delivery taken
+  Refused : (line : List ℕ) → IsOther line → taken ≡ (let told : Step = record { changes = []; reply = line ∷ []; state = greeted client } in told) → Ends store client delivery taken
+
+ends_by : (is_message : Bool) (store : StoreState) (client : Client) (delivery : Delivery) → Ends store client delivery (end_by is_message store client delivery)
+ends_by is_message store client delivery =
+    let P : Step → Type 0 = Ends store client delivery in
+    cond_both (has_large_octets store.message_max delivery) _ _ P (λ large. Refused _ (differs_at 0 _ refl) refl)
+    (λ small. cond_both (not is_message) _ _ P (λ none. Refused _ (differs_at 0 _ refl) refl)
+    (λ message. cond_both (is_some (delivery_refusal store delivery)) _ _ P (λ refused. Refused _ (differs_at 0 _ refl) refl) (λ room. Stored refl)))
+
+-- a delivery leaves the domains
+named_after : (old new : Kept) → new.domains ≡ old.domains → IsName (name_of old) → IsName (name_of new)
+named_after old new same named = subst (λ (domains : List (List ℕ)). IsName (slice_index_or domains 0 (codes "localhost"))) (sym same) named
+
+-- the end of data
+end_turn : (store : StoreState) (client : Client) (delivery : Delivery) (envelope : Envelope) (moments : List Moment) (rest : List ℕ) (taken : Step)
+    → delivery.local ≡ envelope.local → delivery.remote ≡ envelope.remote → HaveInboxes store.kept → AreRecipients store.kept envelope → IsName (name_of store.kept)
+    → Ends store client delivery taken → IsTurn store (record { parts = acts_in taken; after = after_step store moments taken; rest = rest })
+end_turn store client delivery envelope moments rest taken local remote have are named (Stored is) =
+    let records = delivered store.kept delivery in
+    let once = delivered_once store.kept delivery envelope local remote have are in
+    rw is (rw (append-nil records)
+    (record {
+      brings = Stores delivery records once refl refl;
+      stays = record {
+        inboxes = inboxes_after_all store.kept records have;
+        recipients = tt;
+        named = named_after store.kept (with_records store records).kept once.domains named;
+      };
+    }))
+end_turn store client delivery envelope moments rest taken local remote have are named (Refused line other is) =
+    rw is
+    (record {
+      brings = Answers (line ∷ []) (other, tt) refl refl;
+      stays = record { inboxes = have; recipients = tt; named = named };
+    })
+
+data_brings : (readings : Readings) (machine : Machine) (client : Client) (envelope : Envelope) (found : Option Cut) (turn : Turn Machine (Act (List ℕ))) → Stays machine
+    → AreRecipients machine.store.kept envelope → option_map (data_turn readings machine client envelope) found ≡ Some turn → IsTurn machine.store turn
+data_brings readings machine client envelope None turn stays are is = absurd (no_turn is)
+data_brings readings machine client envelope (Some cut) turn stays are is =
+    let moment = next_moment machine.moments in
+    let delivery = delivery_of machine.store client envelope moment (unstuffed cut.line) in
+    subst (IsTurn machine.store) (unsome is)
+    (end_turn machine.store client delivery envelope (later machine.moments) cut.rest (end_data readings machine.store client envelope moment (unstuffed cut.line)) refl refl
+    stays.inboxes are stays.named (ends_by (readings.has_tree (unstuffed cut.line)) machine.store client delivery))
+
+turn_brings : (readings : Readings) (state : State) (machine : Machine) (octets : List ℕ) (turn : Turn Machine (Act (List ℕ))) → Stays machine
+    → KnowsRecipients machine.store.kept state → turn_in readings state machine octets ≡ Some turn → IsTurn machine.store turn
+turn_brings readings fresh machine octets turn stays known is = line_brings readings machine (next_line octets) turn stays is
+turn_brings readings (greeted client) machine octets turn stays known is = line_brings readings machine (next_line octets) turn stays is
+turn_brings readings (mail client envelope) machine octets turn stays known is = line_brings readings machine (next_line octets) turn stays is
+turn_brings readings (collecting client envelope) machine octets turn stays known is = data_brings readings machine client envelope (data_cut octets) turn stays known is
+turn_brings readings ended machine octets turn stays known is = absurd (no_turn is)
+
+next_brings : (readings : Readings) (machine : Machine) (octets : List ℕ) (turn : Turn Machine (Act (List ℕ))) → Stays machine → next_turn readings machine octets ≡ Some turn
+    → IsTurn machine.store turn
+unfolding next_turn
+next_brings readings machine octets turn stays is = turn_brings readings machine.state machine octets turn stays stays.recipients is
+
+-- ---- all turns
+
+-- a reply in front
+behind_reply : (store : StoreState) (reply : List (List ℕ)) (more : List (Act (List ℕ))) → AllByRecursion IsOther reply → KeepsAccepted store more
+    → KeepsAccepted store (acts_of [] reply ++ more)
+behind_reply store [] more others keeps = keeps
+behind_reply store (line ∷ reply) more others keeps = Says store line (acts_of [] reply ++ more) others.0 (behind_reply store reply more others.1 keeps)
+
+-- a turn in front
+behind_turn : (store : StoreState) (turn : Turn Machine (Act (List ℕ))) (more : List (Act (List ℕ))) → Brings store turn → KeepsAccepted turn.after.store more
+    → KeepsAccepted store (turn.parts ++ more)
+behind_turn store turn more (Answers reply others parts same) keeps =
+    rw parts (behind_reply store reply more others (subst (λ (s : StoreState). KeepsAccepted s more) same keeps))
+behind_turn store turn more (Stores delivery records once parts same) keeps =
+    rw parts (Keeps store delivery records more once (subst (λ (s : StoreState). KeepsAccepted s more) same keeps))
+
+turns_keep : (readings : Readings) (n : ℕ) (machine : Machine) (octets : List ℕ) → length octets ≤ n → Stays machine → (found : Option (Turn Machine (Act (List ℕ))))
+    → next_turn readings machine octets ≡ found → KeepsAccepted machine.store (all_turns (next_turn readings) machine octets).parts
+turns_keep readings n machine octets low stays None is = rw (all_turns-stop (next_turn readings) machine octets is) (NoMore machine.store)
+turns_keep readings zero machine octets low stays (Some turn) is =
+    let shorter = (next_turn-framed readings).shorter machine octets turn is in
+    absurd (omega (arith, shorter, low))
+turns_keep readings (suc n) machine octets low stays (Some turn) is =
+    let shorter = (next_turn-framed readings).shorter machine octets turn is in
+    let one = next_brings readings machine octets turn stays is in
+    let later = turns_keep readings n turn.after turn.rest (omega (arith, shorter, low)) one.stays (next_turn readings turn.after turn.rest) refl in
+    rw (all_turns-go (next_turn readings) (next_turn-framed readings) machine octets turn is) (behind_turn machine.store turn _ one.brings later)
+
+pub stream_kept : (readings : Readings) (store : StoreState) (moments : List Moment) (octets : List ℕ) → IsFold store.kept → IsName (name_of store.kept)
+    → KeepsAccepted store (turns_of readings (start_of store moments) octets).parts
+stream_kept readings store moments octets fold named =
+    let start = start_of store moments in
+    turns_keep readings (length octets) start octets (omega arith) (record { inboxes = have_inboxes store.kept fold; recipients = tt; named = named }) (next_turn readings start octets) refl
