@@ -1,27 +1,24 @@
 -- What the command of a session does, exit by exit.
-use Rattle.std.proofs.Common.{◌≡◌, ℕ, List, ◌++◌, Option, Some, None, Result, Err, refl, inl, inr}
-use Rattle.std.specs.Prelude.{IfSome}
+use Rattle.std.proofs.Common.{◌≡◌, ℕ, List, [], Option, Result, Ok, Err, refl, sym, subst, inl, inr}
+use Rattle.std.specs.Prelude.{IfSome, codes}
 use Rattle.mail_wire.specs.declared.outside.Fault.{Fault}
 use Rattle.mail_wire.specs.declared.outside.Fault.TheVariants as fault
 use Rattle.mail_wire.specs.Telling.{Telling}
-use Rattle.mail_wire.specs.Moves.{Gives, GivesPrefix}
+use Rattle.mail_wire.specs.Moves.{Gives}
 use Rattle.mail_wire.specs.Transcript.{taken_of, given_of}
 use Rattle.mail_store.specs.declared.opening.OpenFault.{OpenFault}
 use Rattle.mail_store.specs.declared.opening.OpenFault.TheVariants as faults
-use Rattle.mail_store.specs.declared.records.Record.{Record}
 use Rattle.mail_store.specs.Answers.{IsFold, OpensTo, IsJournalFault, LeavesRecords}
-use Rattle.mail_store.specs.Changing.{IsStoreOf}
-use Rattle.mail_store.specs.Following.{Follows}
 use Rattle.mail_store.specs.StoreState.{StoreState}
-use Rattle.mail_store.proofs.FollowLemmas.{followed}
 use Rattle.mail_store.proofs.Readings.{records_not_bad}
 use Rattle.mail_command.specs.declared.roles.Role.{Role}
 use Rattle.mail_command.specs.declared.serving.Served.{Served}
 use Rattle.mail_command.specs.declared.serving.Served.TheVariants as came_to
-use Rattle.mail_command.specs.Protocols.{acts_for, WithProtocol}
+use Rattle.mail_command.specs.Protocols.{Protocol, acts_for, WithProtocol}
 use Rattle.mail_command.specs.Served.{answer_of, status_of_served}
 use Rattle.mail_command.specs.Serving.{Serves}
-use Rattle.setup_command.specs.Running.{BreaksSessionOff, HoldsStore, IsToldBy, IsExactJournal}
+use Rattle.setup_command.specs.Running.{BreaksSessionOff, IsExactJournal, place_line}
+use Rattle.setup_command.specs.AddingRuns.{TellsUnopened}
 use Rattle.mail_command.specs.Running.{InJournal, InLine, InSession, RunsSession, Ended, Limit, Unopened, Broken}
 use Rattle.setup_command.specs.Statuses.{status_of}
 use Rattle.mail_wire.proofs.Moving.{Gives-nil}
@@ -31,31 +28,26 @@ use Rattle.mail_command.proofs.BegunLemmas.{begun_held}
 use Rattle.mail_command.proofs.RoleLemmas.{of_each, with_protocol}
 use Rattle.mail_command.proofs.RunLemmas.{some_of}
 
--- each fault breaks a command off
-pub broken_by : (result : Result ℕ Fault) (met : Fault) → result ≡ Err met → BreaksSessionOff (status_of result)
-broken_by result fault.Wire is = rw is (inl (inl refl))
-broken_by result fault.Keeper is = rw is (inr refl)
-broken_by result fault.Memory is = rw is (inl (inr refl))
+quiet : (a b : Telling) → b ≡ a → Gives a b []
+quiet a b same = subst (λ (t : Telling). Gives a t []) (sym same) (Gives-nil a)
 
--- a line tells why
-pub told : (role : Role) (reading : Option ℕ) (max : ℕ) (old new : Option (List ℕ)) (a b : Telling) (met : OpenFault) (status : ℕ) (line : List ℕ)
-    → IfSome old (λ octets. IsJournalFault octets new met) → IsToldBy met status line → Gives a b line → WithProtocol role reading (λ protocol. RunsSession protocol max old new a b status)
-told role reading max old new a b met status line is tells gives =
-    of_each role reading (λ protocol. RunsSession protocol max old new a b status) (λ protocol. Unopened line (record { fault = met; told = tells; is = is }) gives)
+unopened_by : (protocol : Protocol) (max : ℕ) (old new : Option (List ℕ)) (a b : Telling) (met : OpenFault) (result : Result ℕ Fault) → LeavesRecords old new
+    → IfSome old (λ octets. IsJournalFault octets new met) → TellsUnopened met a b result → RunsSession protocol max old new a b (status_of result)
+unopened_by protocol max old new a b faults.Keeper result leaves is tells = rw tells.1 (Broken (inr refl) (InJournal (quiet a b tells.0) leaves))
+unopened_by protocol max old new a b faults.Memory result leaves is tells = rw tells.1 (Broken (inl (inr refl)) (InJournal (quiet a b tells.0) leaves))
+unopened_by protocol max old new a b (faults.BadJournal at) (Ok status) leaves is tells =
+    Unopened (place_line (codes "bad journal at ") at) (record { fault = faults.BadJournal at; told = (tells.1, refl); is = is }) tells.0
+unopened_by protocol max old new a b (faults.BadJournal at) (Err fault.Wire) leaves is tells =
+    Broken (inl (inl refl)) (InLine 5 (place_line (codes "bad journal at ") at) (record { fault = faults.BadJournal at; told = (refl, refl); is = is }) tells leaves)
+unopened_by protocol max old new a b (faults.BadJournal at) (Err fault.Memory) leaves is tells =
+    Broken (inl (inr refl)) (InLine 5 (place_line (codes "bad journal at ") at) (record { fault = faults.BadJournal at; told = (refl, refl); is = is }) tells leaves)
+unopened_by protocol max old new a b (faults.BadJournal at) (Err fault.Keeper) leaves is tells = absurd tells
 
--- the line was broken off
-pub told_partly : (role : Role) (reading : Option ℕ) (max : ℕ) (old new : Option (List ℕ)) (a b : Telling) (met : OpenFault) (told status : ℕ) (line : List ℕ) → LeavesRecords old new
-    → IfSome old (λ octets. IsJournalFault octets new met) → IsToldBy met told line → GivesPrefix a b line → BreaksSessionOff status
-    → WithProtocol role reading (λ protocol. RunsSession protocol max old new a b status)
-told_partly role reading max old new a b met told status line leaves is tells gives off =
-    of_each role reading (λ protocol. RunsSession protocol max old new a b status)
-    (λ protocol. Broken off (InLine told line (record { fault = met; told = tells; is = is }) gives leaves))
-
--- the journal wasn't opened
-pub untold : (role : Role) (reading : Option ℕ) (max : ℕ) (old new : Option (List ℕ)) (a : Telling) (status : ℕ) → LeavesRecords old new → BreaksSessionOff status
-    → WithProtocol role reading (λ protocol. RunsSession protocol max old new a a status)
-untold role reading max old new a status leaves off =
-    of_each role reading (λ protocol. RunsSession protocol max old new a a status) (λ protocol. Broken off (InJournal (Gives-nil a) leaves))
+-- why the journal wasn't opened was told, or that was broken off
+pub unopened : (role : Role) (reading : Option ℕ) (max : ℕ) (old new : Option (List ℕ)) (a b : Telling) (met : OpenFault) (result : Result ℕ Fault) → LeavesRecords old new
+    → IfSome old (λ octets. IsJournalFault octets new met) → TellsUnopened met a b result → WithProtocol role reading (λ protocol. RunsSession protocol max old new a b (status_of result))
+unopened role reading max old new a b met result leaves is tells =
+    of_each role reading (λ protocol. RunsSession protocol max old new a b (status_of result)) (λ protocol. unopened_by protocol max old new a b met result leaves is tells)
 
 -- a session was served
 pub served : (role : Role) (reading : Option ℕ) (max : ℕ) (old opened new : Option (List ℕ)) (a b : Telling) (store after : StoreState) (came : Served) → came ≡ came_to.Ended → LeavesRecords old opened
@@ -92,16 +84,19 @@ served_partly role reading max old opened new a b store after came status is off
 
 -- ---- the answer is exact for the journal
 
-bad_by : (octets : List ℕ) (new : Option (List ℕ)) (met : OpenFault) (status : ℕ) (line : List ℕ) → IsToldBy met status line → IsJournalFault octets new met → status ≡ 5
-bad_by octets new (faults.BadJournal place) status line told is = told.0
-bad_by octets new faults.Keeper status line told is = absurd told
-bad_by octets new faults.Memory status line told is = absurd told
+told_exact : (octets : List ℕ) (a b : Telling) (met : OpenFault) (result : Result ℕ Fault) → TellsUnopened met a b result → IsExactJournal octets (status_of result)
+told_exact octets a b faults.Keeper result tells = λ at bad. rw tells.1 (inr (inr refl))
+told_exact octets a b faults.Memory result tells = λ at bad. rw tells.1 (inr (inl (inr refl)))
+told_exact octets a b (faults.BadJournal place) (Ok status) tells = λ at bad. inl tells.1
+told_exact octets a b (faults.BadJournal place) (Err fault.Wire) tells = λ at bad. inr (inl (inl refl))
+told_exact octets a b (faults.BadJournal place) (Err fault.Memory) tells = λ at bad. inr (inl (inr refl))
+told_exact octets a b (faults.BadJournal place) (Err fault.Keeper) tells = absurd tells
 
--- the journal was told to be bad
-pub unopened_exact : (old new : Option (List ℕ)) (met : OpenFault) (status : ℕ) (line : List ℕ) → IsToldBy met status line → IfSome old (λ octets. IsJournalFault octets new met)
-    → IfSome old (λ octets. IsExactJournal octets status)
-unopened_exact old new met status line told is =
-    IfSome_then old {P = λ octets. IsJournalFault octets new met} is (λ octets found at bad. inl (bad_by octets new met status line told found))
+-- the journal was told to be bad, or that was broken off
+pub unopened_exact : (old : Option (List ℕ)) (a b : Telling) (met : OpenFault) (result : Result ℕ Fault) → TellsUnopened met a b result
+    → IfSome old (λ octets. IsExactJournal octets (status_of result))
+unopened_exact old a b met result tells =
+    some_of old (λ octets. IsExactJournal octets (status_of result)) (λ octets. told_exact octets a b met result tells)
 
 -- the command was broken off
 pub broken_exact : (old : Option (List ℕ)) (status : ℕ) → BreaksSessionOff status → IfSome old (λ octets. IsExactJournal octets status)

@@ -3,8 +3,8 @@
 
 pub mod adding;
 pub mod helping;
-pub mod lines;
-mod refusals;
+mod lines;
+pub mod refusals;
 #[cfg(test)]
 mod tests;
 mod values;

@@ -1,42 +1,17 @@
 use Rattle.std.proofs.Common.{refl, sym, ap, inl, inr}
-use Rattle.std.proofs.lemmas.Result.{err_from_is_err_and}
 use Rattle.mail_command.specs.Served.{status_of_served}
-use Rattle.mail_command.proofs.SessionLemmas.{broken_by, untold, told, told_partly, served, served_up_to, served_partly, unopened_exact, broken_exact, opened_exact}
+use Rattle.mail_command.proofs.SessionLemmas.{unopened, served, served_up_to, served_partly, unopened_exact, broken_exact, opened_exact}
 use Rattle.mail_command.proofs.sessions.run_session.Goals as goal
-
-pub returns-in_err-reply-in-Err-clause-runs : goal.returns-in_err-reply-in-Err-clause-runs
-returns-in_err-reply-in-Err-clause-runs g c =
-    let p = err_from_is_err_and c.from_residual.result c.from_residual.ensures.1 in
-    untold c.args.role (g.C.Clock.tells c.args.clock.now) 1073741824 (g.J.Keeper.tells c.args.keeper.now).octets (g.J.Keeper.tells c.open_desk.new.keeper).octets (g.W.Wire.tells c.args.wire.now) _
-    c.open_desk.ensures.leaves (broken_by c.from_residual.result p.0 p.1)
-
-pub returns-in_err-reply-in-Err-clause-journal : goal.returns-in_err-reply-in-Err-clause-journal
-returns-in_err-reply-in-Err-clause-journal g c =
-    let p = err_from_is_err_and c.from_residual.result c.from_residual.ensures.1 in
-    broken_exact (g.J.Keeper.tells c.args.keeper.now).octets _ (broken_by c.from_residual.result p.0 p.1)
-
-pub returns-in_err-give_all-in-Err-clause-runs : goal.returns-in_err-give_all-in-Err-clause-runs
-returns-in_err-give_all-in-Err-clause-runs g c =
-    let p = err_from_is_err_and c.from_residual-in_err-give_all-in-Err.result c.from_residual-in_err-give_all-in-Err.ensures.1 in
-    told_partly c.args.role (g.C.Clock.tells c.args.clock.now) 1073741824 (g.J.Keeper.tells c.args.keeper.now).octets (g.J.Keeper.tells c.open_desk.new.keeper).octets (g.W.Wire.tells c.args.wire.now)
-    (g.W.Wire.tells c.give_all.new.wire) c.in-Err.fault c.in_ok-reply-in-Err.reply.status _ c.in_ok-reply-in-Err.reply.given c.open_desk.ensures.leaves c.in-Err.ensures.fault
-    c.in_ok-reply-in-Err.ensures.told (rw c.as_slice.ensures at c.in_err-give_all-in-Err.ensures.gives) (broken_by c.from_residual-in_err-give_all-in-Err.result p.0 p.1)
-
-pub returns-in_err-give_all-in-Err-clause-journal : goal.returns-in_err-give_all-in-Err-clause-journal
-returns-in_err-give_all-in-Err-clause-journal g c =
-    let p = err_from_is_err_and c.from_residual-in_err-give_all-in-Err.result c.from_residual-in_err-give_all-in-Err.ensures.1 in
-    broken_exact (g.J.Keeper.tells c.args.keeper.now).octets _ (broken_by c.from_residual-in_err-give_all-in-Err.result p.0 p.1)
 
 pub returns-in-Err-clause-runs : goal.returns-in-Err-clause-runs
 returns-in-Err-clause-runs g c =
-    told c.args.role (g.C.Clock.tells c.args.clock.now) 1073741824 (g.J.Keeper.tells c.args.keeper.now).octets (g.J.Keeper.tells c.open_desk.new.keeper).octets (g.W.Wire.tells c.args.wire.now)
-    (g.W.Wire.tells c.give_all.new.wire) c.in-Err.fault c.in_ok-reply-in-Err.reply.status c.in_ok-reply-in-Err.reply.given c.in-Err.ensures.fault c.in_ok-reply-in-Err.ensures.told
-    (rw c.as_slice.ensures at c.in_ok-give_all-in-Err.ensures.gives)
+    unopened c.args.role (g.C.Clock.tells c.args.clock.now) 1073741824 (g.J.Keeper.tells c.args.keeper.now).octets (g.J.Keeper.tells c.open_desk.new.keeper).octets (g.W.Wire.tells c.args.wire.now)
+    (g.W.Wire.tells c.tell_unopened.new.wire) c.in-Err.fault c.tell_unopened.result c.open_desk.ensures.leaves c.in-Err.ensures.fault c.tell_unopened.ensures.tells
 
 pub returns-in-Err-clause-journal : goal.returns-in-Err-clause-journal
 returns-in-Err-clause-journal g c =
-    unopened_exact (g.J.Keeper.tells c.args.keeper.now).octets (g.J.Keeper.tells c.open_desk.new.keeper).octets c.in-Err.fault c.in_ok-reply-in-Err.reply.status c.in_ok-reply-in-Err.reply.given
-    c.in_ok-reply-in-Err.ensures.told c.in-Err.ensures.fault
+    unopened_exact (g.J.Keeper.tells c.args.keeper.now).octets (g.W.Wire.tells c.args.wire.now) (g.W.Wire.tells c.tell_unopened.new.wire) c.in-Err.fault c.tell_unopened.result
+    c.tell_unopened.ensures.tells
 
 pub returns-in-Ended-clause-runs : goal.returns-in-Ended-clause-runs
 returns-in-Ended-clause-runs g c =
