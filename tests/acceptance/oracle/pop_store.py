@@ -1,0 +1,218 @@
+"""The store of a journal, told anew from the rules. Nothing here was taken from the program.
+
+A journal is `MAILJNL1` and records: a length of four octets (big-endian, from 1 to 67,108,864) and so many octets, which
+are a kind and its fields. Fewer than eight octets that begin `MAILJNL1` are begun anew; at the end a prefix of a record
+is cut off. Other octets are no record. Numbers have four octets, flags one (below 32), and texts stand behind their length.
+
+1. account: address, password (at most 65,536 octets). It brings a folder, its INBOX.
+2. domain: a normal form.
+3. folder: account, name (1 to 255 octets of UTF-8 in NFC, without controls, `*` and `%`).
+4. message: folder, flags, date, octets. They have a tree of entities (trees.py); their last line may lack its CRLF.
+5. flags: message, flags.
+6. expunge: message.
+7. queue: path (an address or nothing), the count of addresses and each of them, octets as those of a message.
+8. settle: entry of the queue, and the place of one of its addresses.
+
+An address is any text of one with at most 65,536 octets. Each number names what an earlier record brought, counted from 0: a
+message that wasn't expunged, an address of an entry that wasn't settled."""
+
+import re
+import unicodedata
+
+from oracle import trees
+from oracle.blocks import Refused, is_sound
+from oracle.store_names import is_same_mailbox, is_utf8, known, normal_form, read_address
+
+FIRST_OCTETS = b"MAILJNL1"
+RECORD_MAX = 67_108_864
+TEXT_MAX = 65_536
+NAME_MAX = 255
+DATE = re.compile(rb"[0-9 ][0-9]-(jan|feb|mar|apr|may|jun|jul|aug|sep|oct|nov|dec)-[0-9]{4} [0-9]{2}:[0-9]{2}:[0-9]{2} [+-][0-9]{4}", re.IGNORECASE)
+
+
+class Unopened(Exception):
+    """The journal is bad at this place."""
+
+    def __init__(self, at):
+        super().__init__(at)
+        self.answer = 5, b"bad journal at %d\r\n" % at
+
+
+class NoRecord(Exception):
+    """The octets are no record."""
+
+
+class Store:
+    """Address and password of each account; the domains; the account of each folder; folder and octets of each message, and whether it is
+    still there; whether each address of an entry of the queue waits."""
+
+    def __init__(self):
+        self.accounts = []
+        self.domains = []
+        self.folders = []
+        self.messages = []
+        self.live = []
+        self.entries = []
+
+    def login(self, name, password):
+        """The number of the first account whose mailbox the name names, where the password is that account's; or None."""
+        meant = read_address(name)
+        for number, (address, kept) in enumerate(self.accounts):
+            if meant and is_same_mailbox(address, meant):
+                return number if kept == password else None
+        return None
+
+    def inbox(self, account):
+        """Number, UID and octets of each message in the account's first folder that is still there."""
+        inbox = self.folders.index(account)
+        had = [(place, octets) for place, (folder, octets) in enumerate(self.messages) if folder == inbox]
+        return [(place, uid, octets) for uid, (place, octets) in enumerate(had, 1) if self.live[place]]
+
+
+def open_journal(octets):
+    """The store, and the journal as it stands then; or Unopened."""
+    if len(octets) < len(FIRST_OCTETS) and FIRST_OCTETS.startswith(octets):
+        return Store(), FIRST_OCTETS
+    if not octets.startswith(FIRST_OCTETS):
+        raise Unopened(0)
+    store, at = Store(), len(FIRST_OCTETS)
+    while len(octets) - at >= 4:
+        size = int.from_bytes(octets[at : at + 4], "big")
+        if not 0 < size <= RECORD_MAX:
+            raise Unopened(at)
+        if len(octets) - at - 4 < size:
+            break
+        try:
+            add(store, octets[at + 4 : at + 4 + size])
+        except NoRecord as error:
+            raise Unopened(at) from error
+        at += 4 + size
+    return store, octets[:at]
+
+
+class Fields:
+    """Reads the fields of a record from left to right."""
+
+    def __init__(self, octets):
+        self.rest = octets
+
+    def take(self, count):
+        if len(self.rest) < count:
+            raise NoRecord
+        taken, self.rest = self.rest[:count], self.rest[count:]
+        return taken
+
+    def number(self):
+        return int.from_bytes(self.take(4), "big")
+
+    def octet(self):
+        return self.take(1)[0]
+
+    def octets(self):
+        return self.take(self.number())
+
+    def texts(self):
+        return [self.octets() for _ in range(self.number())]
+
+
+def add(store, record):
+    """Keeps what the record brings; or NoRecord."""
+    kind, fields = record[0], Fields(record[1:])
+    if kind not in KINDS:
+        raise NoRecord
+    takes, adds = KINDS[kind]
+    values = [take(fields) for take in takes]
+    need(not fields.rest)
+    adds(store, *values)
+
+
+def need(is_so):
+    if not is_so:
+        raise NoRecord
+
+
+def need_address(text):
+    """What the text says of an address."""
+    found = read_address(text) if len(text) <= TEXT_MAX else None
+    need(found)
+    return found
+
+
+def need_live(store, message):
+    need(message < len(store.live) and store.live[message])
+
+
+def need_tree(octets):
+    need(is_sound(octets))
+    try:
+        trees.check(octets)
+    except Refused as error:
+        raise NoRecord from error
+
+
+def is_folder_name(name):
+    if not 0 < len(name) <= NAME_MAX or not is_utf8(name):
+        return False
+    characters = name.decode()
+    if any(it in "*%" or unicodedata.category(it) == "Cc" for it in characters):
+        return False
+    return unicodedata.is_normalized("NFC", known(characters))
+
+
+def add_account(store, text, password):
+    address = need_address(text)
+    need(len(password) <= TEXT_MAX)
+    store.folders.append(len(store.accounts))
+    store.accounts.append((address, password))
+
+
+def add_domain(store, name):
+    need(name.isascii() and normal_form(name) == name)
+    store.domains.append(name)
+
+
+def add_folder(store, account, name):
+    need(account < len(store.accounts) and is_folder_name(name))
+    store.folders.append(account)
+
+
+def add_message(store, folder, flags, date, octets):
+    need(folder < len(store.folders) and flags < 32 and DATE.fullmatch(date))
+    need_tree(octets)
+    store.messages.append((folder, octets))
+    store.live.append(True)
+
+
+def set_flags(store, message, flags):
+    need_live(store, message)
+    need(flags < 32)
+
+
+def expunge(store, message):
+    need_live(store, message)
+    store.live[message] = False
+
+
+def add_entry(store, path, recipients, octets):
+    for text in [path, *recipients] if path else recipients:
+        need_address(text)
+    need_tree(octets)
+    store.entries.append([True for _ in recipients])
+
+
+def settle(store, entry, place):
+    need(entry < len(store.entries) and place < len(store.entries[entry]) and store.entries[entry][place])
+    store.entries[entry][place] = False
+
+
+# the fields of each kind, and what keeps them
+KINDS = {
+    1: ([Fields.octets, Fields.octets], add_account),
+    2: ([Fields.octets], add_domain),
+    3: ([Fields.number, Fields.octets], add_folder),
+    4: ([Fields.number, Fields.octet, Fields.octets, Fields.octets], add_message),
+    5: ([Fields.number, Fields.octet], set_flags),
+    6: ([Fields.number], expunge),
+    7: ([Fields.octets, Fields.texts, Fields.octets], add_entry),
+    8: ([Fields.number, Fields.number], settle),
+}

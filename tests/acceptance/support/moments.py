@@ -1,0 +1,92 @@
+"""The dates that the program writes into a journal, which nobody knows before: they are replaced by those of another moment.
+
+A record that a session appends has its moment once or twice: a message as the date of the record and in its line Received, an
+entry of the queue in its line Received. All dates of one form have the same length, so no other octet of a journal depends on
+them."""
+
+import calendar
+import re
+import time
+
+from oracle.pop_store import FIRST_OCTETS, Fields, NoRecord
+
+MESSAGE, QUEUE = 4, 7
+IN_RECORD, IN_FIELD = "%d-%b-%Y %H:%M:%S +0000", "%a, %d %b %Y %H:%M:%S +0000"
+RECEIVED = re.compile(rb"(?:Return-Path: <[^\r\n]*>\r\n)?Received: from [^\r\n]* with [^\r\n;]*; ([^\r\n]*)\r\n")
+
+
+def written(form, seconds):
+    return time.strftime(form, time.gmtime(seconds)).encode()
+
+
+class Moments:
+    """What is appended to a journal from now on has a moment from now on."""
+
+    def __init__(self, before, seconds):
+        self.known, self.seconds, self.begun = end_of_records(before or b""), seconds, int(time.time())
+
+    def seen(self, journal):
+        """The journal as it would be at the other moment. A record that has a wrong date stays as it is."""
+        if journal is None:
+            return None
+        return journal[: self.known] + b"".join(map(self.dated, records_of(journal[self.known :])))
+
+    def dated(self, record):
+        places = list(dates_of(record))
+        moments = {seconds_of(record[begin:end], form) for begin, end, form in places}
+        if len(moments) != 1 or None in moments or not self.begun <= max(moments) <= time.time():
+            return record
+        for begin, end, form in places:
+            record = record[:begin] + written(form, self.seconds) + record[end:]
+        return record
+
+
+def end_of_records(journal):
+    """Where what is appended begins, once a record that was cut off is taken away."""
+    end = len(FIRST_OCTETS)
+    for record in records_of(journal[end:]):
+        if len(record) >= 4 and len(record) == size_of(record):
+            end += len(record)
+    return end
+
+
+def size_of(record):
+    """How many octets it has, or ought to have, with its length."""
+    return 4 + int.from_bytes(record[:4], "big")
+
+
+def records_of(octets):
+    """The records with their lengths, and last what is no whole one."""
+    while octets:
+        record, octets = octets[: size_of(octets)], octets[size_of(octets) :]
+        yield record
+
+
+def dates_of(record):
+    """Begin, end and form of each date of this record, which has its length before it."""
+    kind, fields = record[4:5], Fields(record[5:])
+    try:
+        if kind == bytes([MESSAGE]):
+            fields.take(5)
+            date = fields.octets()
+            end = len(record) - len(fields.rest)
+            yield end - len(date), end, IN_RECORD
+        elif kind == bytes([QUEUE]):
+            fields.octets(), fields.texts()
+        else:
+            return
+        found = RECEIVED.match(fields.octets())
+    except NoRecord:
+        return
+    if found:
+        at = len(record) - len(found.string)
+        yield at + found.start(1), at + found.end(1), IN_FIELD
+
+
+def seconds_of(text, form):
+    """The moment of a date, or None where it isn't one in this form, octet for octet."""
+    try:
+        seconds = calendar.timegm(time.strptime(text.decode(), form))
+    except ValueError:
+        return None
+    return seconds if written(form, seconds) == text else None
