@@ -2,11 +2,15 @@
 
 import concurrent.futures
 import os
+import re
 import subprocess
-import sys
 import tempfile
 
 SECONDS = 120
+
+# the statuses of a program that something outside of it failed: it says what, in one line on standard error
+FAILURES = (1, 2, 3)
+TOLD = re.compile(rb"dervlask: [!-~][ -~]*\n")
 
 
 def show(octets):
@@ -41,6 +45,10 @@ class Program:
         self.folder = tempfile.TemporaryDirectory(prefix="dervlask-acceptance-")
         # seconds that a reply which is due may take
         self.patience = 20
+        # rounds of the programs that run at once on one journal
+        self.rounds = 10
+        # runs, and what is wrong with what they said on standard error
+        self.runs, self.misspoken = 0, []
 
     def run(self, words, octets, **how):
         """Exit status and what was written, for these words and this standard input."""
@@ -53,12 +61,19 @@ class Program:
     def run_on(self, words, stdin, stdout=subprocess.PIPE, preexec=None, cwd=None):
         how = {"stdin": stdin, "stdout": stdout, "stderr": subprocess.PIPE, "cwd": cwd or self.folder.name}
         ran = subprocess.run([self.path, *words], timeout=SECONDS, preexec_fn=preexec, **how)
-        if ran.stderr:
-            print(f"note: the program wrote to standard error: {show(ran.stderr)}", file=sys.stderr)
+        self.runs += 1
+        self.misspoken += error_faults(ran.returncode, ran.stderr, words)
         return ran.returncode, ran.stdout or b""
 
     def downgrade(self, octets):
         return self.run([b"downgrade"], octets)
+
+
+def error_faults(status, said, words):
+    """What is wrong with what a run said on standard error: it is one line where something outside failed, and nothing else."""
+    if TOLD.fullmatch(said) if status in FAILURES else not said:
+        return []
+    return [f"{words} ended with status {status} and said {show(said)!r} on standard error"]
 
 
 def differs(what, found, wanted):
