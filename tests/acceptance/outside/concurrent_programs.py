@@ -4,18 +4,23 @@ A round begins with a journal of some accounts, each with some messages. Session
 fetch, and `account` run at once. In every other round the sessions get their input only once all of them have had the time to open the
 journal: each that did so knows nothing of what the others bring. Afterwards the journal opens; each message that was told
 `250 2.0.0 stored` is there once for each recipient, and each of those from before, but for what a session took out that was told
-`+OK bye`; each account is there once. So what a round accepts depends on nothing but what it was told."""
+`+OK bye`; each account is there once. So what a round accepts depends on nothing but what it was told.
+
+Before the rounds two sessions are watched: the second one waits for the end of the first, which may be any, and then knows what that
+did; commands that need no journal don't wait."""
 
 import collections
 import os
 import re
+import select
 import subprocess
 import tempfile
 import time
 
 from journal import account, domain, journal, message
 from oracle.pop_store import Fields, Unopened, open_journal
-from support.harness import differs, show
+from rows.downgrade_rows import CAFE, CAFE_SURROGATE
+from support.harness import SECONDS, differs, show
 from support.talk import place_journal, read_journal
 
 SMTP_PROGRAMS, POP_PROGRAMS, ACCOUNT_PROGRAMS = 8, 8, 4
@@ -23,11 +28,13 @@ ACCOUNTS = 4
 OLD_MESSAGES = 3
 # what each session sends, and what it fetches and deletes
 SENT, FETCHED = 3, 2
-ROUND_SECONDS = 60
+# seconds that a round may take, and that a program is given to open a journal, which another one may have
+ROUND_SECONDS = SECONDS
 OPENING_SECONDS = 0.2
 BODY = b"x" * 70 + b"\r\n"
 BODY_LINES = 20
 PASSWORD = b"pw"
+READY = b"+OK ready\r\n"
 STORED, SMTP_BYE, POP_BYE = b"250 2.0.0 stored", b"221 2.0.0 bye", b"+OK bye"
 MARK = re.compile(rb"^Subject: ([a-z0-9-]+)\r$", re.MULTILINE)
 
@@ -234,7 +241,55 @@ def round_faults(program, number):
         return faults + kept_faults(read_journal(path), it.works, ended, marks)
 
 
+def session(program, folder):
+    """A session of POP3 whose input is still to come."""
+    how = {"stdin": subprocess.PIPE, "stdout": subprocess.PIPE, "stderr": subprocess.STDOUT, "cwd": folder, "bufsize": 0}
+    return subprocess.Popen([program.path, b"pop"], **how)
+
+
+def heard(run, seconds):
+    """What the session says next, or nothing where it says nothing for so long."""
+    is_there, _, _ = select.select([run.stdout], [], [], seconds)
+    return os.read(run.stdout.fileno(), len(READY)) if is_there else b""
+
+
+def end_by_quit(run):
+    """Deletes a message."""
+    return run.communicate(b"USER %s\r\nPASS %s\r\nDELE 1\r\nQUIT\r\n" % (address(0), PASSWORD), SECONDS)[0]
+
+
+def end_by_signal(run):
+    run.kill()
+    return run.communicate(timeout=SECONDS)[0]
+
+
+def turn_faults(program, end, wanted, left):
+    """What is wrong with a session that begins while another one has the journal, which ends so. So many messages have to be left then."""
+    with tempfile.TemporaryDirectory(dir=program.folder.name) as folder:
+        place_journal(folder, before()[0])
+        first, second = session(program, folder), None
+        try:
+            faults = differs("greeting", heard(first, SECONDS), READY)
+            faults += differs("downgrade meanwhile", program.run([b"downgrade"], CAFE, cwd=folder), (0, CAFE_SURROGATE))
+            faults += differs("help meanwhile", program.run([b"help"], b"", cwd=folder)[0], 0)
+            second = session(program, folder)
+            faults += differs("what the second session is told before the first one ends", heard(second, OPENING_SECONDS), b"")
+            faults += differs("what the first session is told at its end", end(first), wanted)
+            told = second.communicate(b"USER %s\r\nPASS %s\r\nLIST\r\nQUIT\r\n" % (address(0), PASSWORD), SECONDS)[0]
+            numbers = re.findall(rb"^([0-9]+) [0-9]+\r$", told, re.MULTILINE)
+            return faults + differs("messages that the second session has", numbers, [b"%d" % it for it in range(1, left + 1)])
+        except subprocess.TimeoutExpired as error:
+            return [f"still running after {error.timeout} s"]
+        finally:
+            for run in filter(None, (first, second)):
+                run.kill()
+                run.communicate()
+
+
 def check(program, tally):
+    bye = b"+OK\r\n+OK\r\n+OK\r\n+OK bye\r\n"
+    for name, *how in (("says QUIT", end_by_quit, bye, OLD_MESSAGES - 1), ("is killed", end_by_signal, b"", OLD_MESSAGES)):
+        tally.note(f"a session waits until another one {name}", turn_faults(program, *how))
     for number in range(1, program.rounds + 1):
         faults = round_faults(program, number)
         tally.note(f"programs at once on one journal, round {number} of {program.rounds}", faults)
