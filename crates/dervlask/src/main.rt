@@ -3,16 +3,21 @@
 
 use mail_command::command::run;
 use mail_wire::clock::SystemClock;
-use mail_wire::edge::StdWire;
+use mail_wire::edge::{StdWire, WireFailure};
 use mail_wire::file_keeper::FileKeeper;
 use mail_wire::values::Memory;
 use mail_wire::words::Words;
 use std::alloc::{Alloc, Global};
 use std::env::{self, Env};
-use std::io;
+use std::fs::{File, Files};
+use std::io::{self, Eprint, Read, Write};
 use std::process::ExitCode;
 
-/// The status of want of memory.
+/// The statuses of a program that something outside of it failed.
+const WIRE_FAULT: u8 = 1;
+
+const KEEPER_FAULT: u8 = 2;
+
 const WANT_OF_MEMORY: u8 = 3;
 
 /// The journal, in the current folder.
@@ -33,12 +38,53 @@ fn words<R: Env + Alloc<A = Global>>(rt: &R) -> Result<Words, Memory> {
     }
 }
 
+// Says on standard error what failed, and why, as the system puts it.
+fn tell<T: Eprint + Alloc<A = Global>>(rt: &T, place: &str, error: io::Error) -> io::Result<()> {
+    let text = format!(in rt.alloc(); "{error}")?;
+    let reason = match text.split_once(" (os error ") {
+        Some((reason, _)) => reason,
+        None => text.as_str(),
+    };
+    eprintln!(rt; "dervlask: {place}: {reason}")
+}
+
+// Says on standard error why a command ended with this status, where the outside failed or memory was wanting.
+fn tell_failure<T, R, W, F>(
+    rt: &T,
+    status: u8,
+    wire: &StdWire<R, W>,
+    keeper: &FileKeeper<F>,
+) -> io::Result<()>
+where
+    T: Eprint + Alloc<A = Global>,
+    R: Read,
+    W: Write,
+    F: Files<File = File>,
+{
+    match status {
+        WIRE_FAULT => match wire.failure() {
+            Some(WireFailure::Input(error)) => tell(rt, "standard input", error),
+            Some(WireFailure::Output(error)) => tell(rt, "standard output", error),
+            None => Ok(()),
+        },
+        KEEPER_FAULT => match keeper.failure() {
+            Some(error) => tell(rt, JOURNAL, error),
+            None => Ok(()),
+        },
+        WANT_OF_MEMORY => eprintln!(rt; "dervlask: out of memory"),
+        _ => Ok(()),
+    }
+}
+
 fn main(rt: HostRuntime) -> ExitCode {
     let Ok(words) = words(&rt) else {
+        let _told = eprintln!(rt; "dervlask: out of memory");
         return ExitCode::from(WANT_OF_MEMORY);
     };
     let mut wire = StdWire::new(rt.reader(), io::writer(&rt));
     let mut keeper = FileKeeper::new(&rt, JOURNAL);
     let mut clock = SystemClock::new(&rt);
-    ExitCode::from(run(rt.alloc(), &words, &mut wire, &mut keeper, &mut clock))
+    let status = run(rt.alloc(), &words, &mut wire, &mut keeper, &mut clock);
+    let _told = tell_failure(&rt, status, &wire, &keeper);
+    ExitCode::from(status)
 }

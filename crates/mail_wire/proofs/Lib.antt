@@ -13,3 +13,4 @@ pub mod LineEnd
 pub mod Feeding
 pub mod DateLemmas
 pub mod FramingLemmas
+pub mod NumberLemmas

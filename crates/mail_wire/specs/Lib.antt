@@ -1,6 +1,8 @@
+pub mod Numbers
 pub mod Octets
 pub mod Spans
 pub mod Lines
+pub mod Dots
 pub mod Folds
 pub mod Message
 pub mod Causes

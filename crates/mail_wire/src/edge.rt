@@ -1,21 +1,29 @@
 //! The wire over standard input and output. It tells nothing of what it carries, and counts its failures.
-ghost use Rattle.std.specs.Prelude.{◌≤◌, None, false, length, IfSome};
+ghost use Rattle.std.specs.Prelude.{◌≤◌, None, false, length, IfOk};
 
+use crate::faults::Faults;
 use crate::outside::{Failed, Wire};
-use std::io::{ErrorKind, Read, Write};
+use std::io::{self, ErrorKind, Read, Write};
 
 // Reads once, and again where a signal came in between.
-fn read_some<R: Read>(reader: &mut R, into: &mut [u8]) -> Option<usize>
-    ensures { IfSome result (λ n. n ≤ length into.new) }
+fn read_some<R: Read>(reader: &mut R, into: &mut [u8]) -> io::Result<usize>
+    ensures { IfOk result (λ n. n ≤ length into.new) }
 {
     for _ in 0..u64::MAX {
         match reader.read(into) {
-            Ok(count) => return Some(count),
+            Ok(count) => return Ok(count),
             Err(error) if error.kind() == ErrorKind::Interrupted => {}
-            Err(_) => return None,
+            Err(error) => return Err(error),
         }
     }
-    None
+    Err(io::Error::from(ErrorKind::Interrupted))
+}
+
+/// Which side of a wire failed, and why.
+#[derive(Clone, Copy)]
+pub enum WireFailure {
+    Input(io::Error),
+    Output(io::Error),
 }
 
 /// A reader and a writer as a wire.
@@ -23,7 +31,7 @@ fn read_some<R: Read>(reader: &mut R, into: &mut [u8]) -> Option<usize>
 pub struct StdWire<R, W> {
     reader: R,
     writer: W,
-    faults: u64,
+    faults: Faults<WireFailure>,
 }
 
 impl<R: Read, W: Write> StdWire<R, W> {
@@ -31,32 +39,29 @@ impl<R: Read, W: Write> StdWire<R, W> {
         StdWire {
             reader,
             writer,
-            faults: 0,
+            faults: Faults::none(),
         }
+    }
+
+    /// Why the last call that failed did.
+    pub fn failure(&self) -> Option<WireFailure> {
+        self.faults.last
     }
 }
 
 impl<R: Read, W: Write> Wire for StdWire<R, W> {
-    ghost tells = { λ wire. record { left = None; transcript = None; faults = wire.faults; never_fails = false } };
+    ghost tells = { λ wire. record { left = None; transcript = None; faults = wire.faults.count; never_fails = false } };
 
     fn take(&mut self, into: &mut [u8]) -> Result<usize, Failed> {
-        match read_some(&mut self.reader, into) {
-            Some(count) => Ok(count),
-            None => {
-                self.faults = self.faults.saturating_add(1);
-                Err(Failed::Outside)
-            }
-        }
+        let done = read_some(&mut self.reader, into);
+        self.faults
+            .counted(done.map_err(|error| WireFailure::Input(error)))
     }
 
     fn give(&mut self, from: &[u8]) -> Result<(), Failed> {
         let written = self.writer.write_all(from);
-        match written.and_then(|_| self.writer.flush()) {
-            Ok(()) => Ok(()),
-            Err(_) => {
-                self.faults = self.faults.saturating_add(1);
-                Err(Failed::Outside)
-            }
-        }
+        let done = written.and_then(|_| self.writer.flush());
+        self.faults
+            .counted(done.map_err(|error| WireFailure::Output(error)))
     }
 }

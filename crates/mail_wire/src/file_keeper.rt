@@ -1,47 +1,75 @@
-//! The keeper over a file. It tells nothing of what it keeps, and counts its failures.
-ghost use Rattle.std.specs.Prelude.{None, false};
-ghost use Rattle.mail_wire.specs.Causes.{HasCause};
+//! The keeper over a file. It tells nothing of what it keeps, and counts its failures. One program at a time has the file.
+ghost use Rattle.std.specs.Prelude.{◌≡◌, None, false};
 
+use crate::faults::Faults;
 use crate::keeping::Keeper;
 use crate::outside::Failed;
-use std::fs::{Files, OpenFile, OpenOptions};
+use std::fs::{File, Files, OpenFile, OpenOptions};
 use std::io::{self, Read, Seek, SeekFrom, Write};
 
-/// A file as a keeper. The file is opened, or made where there is none, by the first call that needs it.
+/// A file as a keeper. The file is opened, or made where there is none, by the first call that needs it, and its exclusive
+/// lock is taken before it is looked at: that call waits while another program has it. The lock is held until the keeper
+/// is dropped or `release` is called.
 #[derive(Drop)]
-pub struct FileKeeper<F: Files> {
+pub struct FileKeeper<F: Files<File = File>> {
     files: F,
     path: &'static str,
-    file: Option<F::File>,
-    faults: u64,
+    file: Option<File>,
+    faults: Faults<io::Error>,
 }
 
-impl<F: Files> FileKeeper<F> {
+impl<F: Files<File = File>> FileKeeper<F> {
     /// A keeper over the file at this path, which isn't opened yet.
     pub fn new(files: F, path: &'static str) -> Self {
         FileKeeper {
             files,
             path,
             file: None,
-            faults: 0,
+            faults: Faults::none(),
         }
+    }
+
+    /// Closes the file, so that another program may have it. The next call opens it again.
+    pub fn release(&mut self)
+        ensures faults { self.new.faults.count ≡ self.old.faults.count }
+    {
+        self.file = None;
+    }
+
+    /// Why the last call that failed did.
+    pub fn failure(&self) -> Option<io::Error> {
+        self.faults.last
     }
 }
 
-fn open<F: Files>(files: &F, path: &str) -> io::Result<F::File> {
-    OpenOptions::new()
+// The file, which is this program's alone from here on.
+fn open<F: Files<File = File>>(files: &F, path: &str) -> io::Result<File> {
+    let file = OpenOptions::new()
         .read(true)
         .write(true)
         .create(true)
-        .open(files, path)
+        .open(files, path)?;
+    lock(&file)?;
+    Ok(file)
+}
+
+// Takes the exclusive lock, again where a signal came in between.
+fn lock(file: &File) -> io::Result<()> {
+    for _ in 0..u64::MAX {
+        match file.lock() {
+            Err(error) if error.kind() == io::ErrorKind::Interrupted => {}
+            done => return done,
+        }
+    }
+    Err(io::Error::from(io::ErrorKind::Interrupted))
 }
 
 // The file, which is opened now if it isn't yet.
-fn opened<'a, F: Files>(
-    file: &'a mut Option<F::File>,
+fn opened<'a, F: Files<File = File>>(
+    file: &'a mut Option<File>,
     files: &F,
     path: &str,
-) -> io::Result<&'a mut F::File> {
+) -> io::Result<&'a mut File> {
     if file.is_none() {
         *file = Some(open(files, path)?);
     }
@@ -63,42 +91,29 @@ fn write_last<T: Write + Seek>(file: &mut T, from: &[u8]) -> io::Result<()> {
     file.write_all(from)
 }
 
-// Counts a failure.
-fn counted<T: Drop>(faults: &mut u64, done: io::Result<T>) -> Result<T, Failed>
-    ensures { HasCause faults.old faults.new result }
-{
-    match done {
-        Ok(value) => Ok(value),
-        Err(_) => {
-            *faults = faults.saturating_add(1);
-            Err(Failed::Outside)
-        }
-    }
-}
-
-impl<F: Files> Keeper for FileKeeper<F> {
-    ghost tells = { λ keeper. record { octets = None; faults = keeper.faults; never_fails = false } };
+impl<F: Files<File = File>> Keeper for FileKeeper<F> {
+    ghost tells = { λ keeper. record { octets = None; faults = keeper.faults.count; never_fails = false } };
 
     fn len(&mut self) -> Result<u64, Failed> {
         let file = opened(&mut self.file, &self.files, self.path);
-        counted(&mut self.faults, file.and_then(len_of))
+        self.faults.counted(file.and_then(len_of))
     }
 
     fn read_at(&mut self, at: u64, into: &mut [u8]) -> Result<(), Failed> {
         let file = opened(&mut self.file, &self.files, self.path);
         let done = file.and_then(|file| read_from(file, at, into));
-        counted(&mut self.faults, done)
+        self.faults.counted(done)
     }
 
     fn append(&mut self, from: &[u8]) -> Result<(), Failed> {
         let file = opened(&mut self.file, &self.files, self.path);
         let done = file.and_then(|file| write_last(file, from));
-        counted(&mut self.faults, done)
+        self.faults.counted(done)
     }
 
     fn cut(&mut self, len: u64) -> Result<(), Failed> {
         let file = opened(&mut self.file, &self.files, self.path);
         let done = file.and_then(|file| file.set_len(len));
-        counted(&mut self.faults, done)
+        self.faults.counted(done)
     }
 }

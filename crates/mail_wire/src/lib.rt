@@ -4,15 +4,15 @@
 pub mod clock;
 pub mod dates;
 pub mod edge;
+pub mod faults;
 pub mod file_keeper;
 pub mod framing;
 pub mod in_memory;
 pub mod keeping;
 pub mod mem_keeper;
 pub mod message;
+pub mod numbers;
 pub mod outside;
-#[cfg(test)]
-mod tests;
 pub mod text;
 pub mod traffic;
 pub mod values;

@@ -4,6 +4,9 @@ ghost use Rattle.mail_wire.specs.Message.{IsFirstFaulty, IsSound, IsEnded, IsMes
 
 use memchr::memchr3;
 
+/// The most octets of a message: 32 MiB.
+pub const MESSAGE_MAX: u32 = 33_554_432;
+
 // Whether CRLF comes first.
 fn begins_crlf(octets: &[u8]) -> bool
     ensures { IsTrue result ↔ BeginsCrlf octets.now }

@@ -4,6 +4,9 @@ ghost use Rattle.mail_wire.specs.Moves.{GivesOrFails, TakesPiece, TakesNothing, 
 
 use crate::outside::{Fault, Wire};
 
+/// The most octets that are taken at a time.
+pub const PIECE: usize = 4096;
+
 /// Gives all the octets, or a prefix of them where it fails.
 pub fn give_all<W: Wire>(wire: &mut W, octets: &[u8]) -> Result<(), Fault>
     ensures gives { GivesOrFails (W.tells wire.old) (W.tells wire.new) result octets.now }

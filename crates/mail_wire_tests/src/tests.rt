@@ -1,16 +1,19 @@
 //! Texts, words, wires and keepers, each public call once with ample memory.
-use crate::clock::{CLOCK_END, Clock, FixedClock, SystemClock};
-use crate::dates::{date_text, internal_date};
-use crate::file_keeper::FileKeeper;
-use crate::in_memory::{Failure, MemWire};
-use crate::keeping::Keeper;
-use crate::mem_keeper::MemKeeper;
-use crate::message::{first_faulty, is_message};
-use crate::outside::{Entry, Failed, Fault};
-use crate::text::{lines, unfold};
-use crate::traffic::{give_all, take_piece};
-use crate::values::Octets;
-use crate::words::Words;
+use mail_wire::clock::{CLOCK_END, Clock, FixedClock, SystemClock};
+use mail_wire::dates::{date_text, internal_date};
+use mail_wire::edge::{StdWire, WireFailure};
+use mail_wire::file_keeper::FileKeeper;
+use mail_wire::in_memory::{Failure, MemWire};
+use mail_wire::keeping::Keeper;
+use mail_wire::mem_keeper::MemKeeper;
+use mail_wire::message::{first_faulty, is_message};
+use mail_wire::outside::{Entry, Failed, Fault};
+use mail_wire::text::{lines, unfold};
+use mail_wire::traffic::{give_all, take_piece};
+use mail_wire::values::Octets;
+use mail_wire::words::Words;
+use std::fs::OpenOptions;
+use std::io::{self, ErrorKind, Read, Write};
 use std::test::Fail;
 
 #[test]
@@ -118,12 +121,69 @@ fn a_keeper_over_a_file_keeps_and_counts(rt: HostRuntime) -> Result<(), Fail> {
     assert_eq!(rt; keeper.read_at(1, &mut buffer), Ok(()));
     assert_eq!(rt; buffer, *b"zab");
     assert_eq!(rt; keeper.cut(3), Ok(()));
-    assert_eq!(rt; FileKeeper::new(rt, "journal").len(), Ok(3));
+    assert!(rt; keeper.failure().is_none());
     assert_eq!(rt; keeper.read_at(1, &mut buffer), Err(Failed::Outside));
-    assert_eq!(rt;
-        FileKeeper::new(rt, "none/journal").len(),
-        Err(Failed::Outside)
-    );
+    let failure = keeper.failure().map(|error| error.kind());
+    assert_eq!(rt; failure, Some(ErrorKind::UnexpectedEof));
+    Ok(())
+}
+
+#[test]
+fn a_file_that_cannot_be_opened_is_told(rt: HostRuntime) -> Result<(), Fail> {
+    let mut keeper = FileKeeper::new(rt, "none/journal");
+    assert_eq!(rt; keeper.len(), Err(Failed::Outside));
+    let failure = keeper.failure().map(|error| error.kind());
+    assert_eq!(rt; failure, Some(ErrorKind::NotFound));
+    Ok(())
+}
+
+// Whether another open of the file has its lock.
+fn is_locked(rt: &HostRuntime) -> Result<bool, Fail> {
+    let file = OpenOptions::new().read(true).open(rt, "locked")?;
+    Ok(file.try_lock().is_err())
+}
+
+#[test]
+fn a_keeper_has_its_file_alone_until_it_is_released(rt: HostRuntime) -> Result<(), Fail> {
+    let mut keeper = FileKeeper::new(rt, "locked");
+    assert_eq!(rt; keeper.len(), Ok(0));
+    assert!(rt; is_locked(&rt)?);
+    keeper.release();
+    assert!(rt; !is_locked(&rt)?);
+    assert_eq!(rt; keeper.append(b"abc"), Ok(()));
+    assert!(rt; is_locked(&rt)?);
+    Ok(())
+}
+
+// A side that always fails.
+#[derive(Drop)]
+struct Broken;
+
+impl Read for Broken {
+    fn read(&mut self, _into: &mut [u8]) -> io::Result<usize> {
+        Err(io::Error::from(ErrorKind::ConnectionReset))
+    }
+}
+
+impl Write for Broken {
+    fn write(&mut self, _from: &[u8]) -> io::Result<usize> {
+        Err(io::Error::from(ErrorKind::BrokenPipe))
+    }
+
+    fn flush(&mut self) -> io::Result<()> {
+        Ok(())
+    }
+}
+
+#[test]
+fn a_wire_tells_which_side_failed(rt: HostRuntime) -> Result<(), Fail> {
+    let mut wire = StdWire::new(Broken, Broken);
+    assert!(rt; wire.failure().is_none());
+    let mut buffer = [0; 8];
+    assert_eq!(rt; take_piece(&mut wire, &mut buffer), Err(Fault::Wire));
+    assert!(rt; matches!(wire.failure(), Some(WireFailure::Input(_))));
+    assert_eq!(rt; give_all(&mut wire, b"x"), Err(Fault::Wire));
+    assert!(rt; matches!(wire.failure(), Some(WireFailure::Output(_))));
     Ok(())
 }
 
