@@ -1,38 +1,55 @@
-# Everything that one does with this repository. It needs the command `rt` of rattle-kit-13f on the PATH.
+# Everything that one does with this repository. To build and prove it needs the command `rt` of rattle-kit-13f on the PATH.
 
 PROGRAM := bin/dervlask
+PAGE := man/dervlask.1
+PREFIX := /usr/local
 SOURCES := crates.txt HANDLES $(shell find crates -name out -prune -o -type f \( -name '*.rt' -o -name '*.antt' \) -print)
 
-.PHONY: help run build test bench figures rt
+define needs_rt
+@command -v rt > /dev/null || { echo 'the command rt of rattle-kit-13f is not on the PATH'; exit 1; }
+endef
+
+.PHONY: help run build test install uninstall bench figures
 
 help:
-	@echo 'make run      builds the program in seconds, before any proof, and shows the surrogate of a message'
-	@echo 'make build    proves and builds the program, and leaves it at $(PROGRAM)'
-	@echo 'make test     proves everything and runs all tests'
-	@echo 'make bench    measures the program (needs python3, valgrind and GNU time)'
-	@echo 'make figures  does the same, and writes the figures into docs/PERFORMANCE.md'
+	@echo 'make run        builds the program before any proof, shows the surrogate of a message, and keeps nothing'
+	@echo 'make build      proves and builds the program, and leaves it at $(PROGRAM); the first time takes @BUILD_MINUTES@ minutes'
+	@echo 'make install    does the same, and copies the program and its man page below PREFIX, which is $(PREFIX)'
+	@echo 'make uninstall  takes these two files away'
+	@echo 'make test       proves everything and runs all tests; the first time takes @TEST_MINUTES@ minutes'
+	@echo 'make bench      measures the program (needs python3, valgrind and GNU time)'
+	@echo 'make figures    does the same, and writes the figures into docs/PERFORMANCE.md'
+	@echo 'The times are those of a quiet machine with four processors.'
 
-# rt try proves nothing
-run: rt
+# rt try proves nothing, and takes the program away when it has run
+run:
+	$(needs_rt)
 	@echo 'The message:'
 	@sed 's/^/    /' crates/dervlask/stdin
 	@echo 'Its surrogate, by the program as it is built before any proof (`make build` proves it):'
 	@cd crates/dervlask && rt try -- downgrade < stdin
-	@echo 'Nothing was proved by this.'
+	@echo 'Nothing was proved by this, and the program is gone again.'
 
 build: $(PROGRAM)
 
-$(PROGRAM): $(SOURCES) | rt
+$(PROGRAM): $(SOURCES)
+	$(needs_rt)
 	tools/build_program
 
-test: rt
+test:
+	$(needs_rt)
 	bash .ci/run
+
+install: $(PROGRAM)
+	install -d $(DESTDIR)$(PREFIX)/bin $(DESTDIR)$(PREFIX)/share/man/man1
+	install -m 755 $(PROGRAM) $(DESTDIR)$(PREFIX)/bin/dervlask
+	install -m 644 $(PAGE) $(DESTDIR)$(PREFIX)/share/man/man1/dervlask.1
+
+uninstall:
+	rm -f $(DESTDIR)$(PREFIX)/bin/dervlask $(DESTDIR)$(PREFIX)/share/man/man1/dervlask.1
 
 bench: $(PROGRAM)
 	python3 bench/run $(PROGRAM)
 
 figures: $(PROGRAM)
 	python3 bench/run --write $(PROGRAM)
-
-rt:
-	@command -v rt > /dev/null || { echo 'the command rt of rattle-kit-13f is not on the PATH'; exit 1; }
