@@ -3,6 +3,7 @@
 
 pub mod comments;
 mod groups;
+pub mod kinds;
 pub mod laws;
 mod places;
 pub mod reading;
@@ -11,8 +12,9 @@ pub mod squeezing;
 mod tests;
 pub mod trees;
 
+pub use kinds::{is_blank, is_comment};
 use mail_wire::values::Span;
-pub use reading::tokens;
+pub use reading::{read_tokens, tokens};
 pub use squeezing::squeezed;
 pub use trees::comment_tree;
 
