@@ -5,8 +5,6 @@ ghost use Rattle.std.specs.Prelude.{◌≡◌, ◌↔◌, IfOk, IfSome, IsAscii,
 ghost use Rattle.ace_domains.specs.Domains.{IsDomain, IsDnsName, SameDomain, compared_form, normal_form};
 
 pub mod laws;
-#[cfg(test)]
-mod tests;
 
 use idna::Errors;
 use mail_wire::values::{Memory, Octets};

@@ -81,31 +81,3 @@ pub fn push_words(made: &mut Octets, white: u8, text: &[u8]) -> Result<(), Memor
     }
     Ok(())
 }
-
-#[cfg(test)]
-mod tests {
-    use super::*;
-    use std::test::Fail;
-
-    #[test]
-    fn words_hold_as_many_characters_as_fit(rt: HostRuntime) -> Result<(), Fail> {
-        let mut pieces = Vec::new(rt.alloc());
-        write_words(rt.alloc(), "café".as_bytes(), &mut pieces).map_err(|_| "memory")?;
-        write_words(rt.alloc(), "ああああああああああああああああ".as_bytes(), &mut pieces).map_err(|_| "memory")?;
-        assert_eq!(rt; pieces.len(), 3);
-        assert_eq!(rt; pieces[0].as_slice(), b"=?UTF-8?B?Y2Fmw6k=?=".as_slice());
-        assert_eq!(rt; pieces[1].len(), 72);
-        assert_eq!(rt; pieces[2].as_slice(), b"=?UTF-8?B?44GC?=".as_slice());
-        Ok(())
-    }
-
-    #[test]
-    fn words_are_put_on_lines(rt: HostRuntime) -> Result<(), Fail> {
-        let mut made = Octets::from_slice(rt.alloc(), b"Subject:").map_err(|_| "memory")?;
-        push_words(&mut made, b'\t', "ああああああああああああああああ".as_bytes()).map_err(|_| "memory")?;
-        let lines =
-            "Subject:\r\n\t=?UTF-8?B?44GC44GC44GC44GC44GC44GC44GC44GC44GC44GC44GC44GC44GC44GC44GC?=\r\n =?UTF-8?B?44GC?=";
-        assert_eq!(rt; made.as_slice(), lines.as_bytes());
-        Ok(())
-    }
-}

@@ -18,27 +18,3 @@ pub fn read_units(alloc: Global, context: Context, text: &[u8]) -> Result<Vec<Un
         Context::Comment => read_comment(alloc, text),
     }
 }
-
-#[cfg(test)]
-mod tests {
-    use super::*;
-    use std::test::Fail;
-
-    #[test]
-    fn a_backslash_quotes_in_a_comment_alone(rt: HostRuntime) -> Result<(), Fail> {
-        let text = br" a\)";
-        let unstructured = read_units(rt.alloc(), Context::Unstructured, text).map_err(
-            |_| "memory",
-        )?;
-        let [Unit::Text(octets)] = unstructured.as_slice() else {
-            return Err(Fail::from("other units"));
-        };
-        assert_eq!(rt; octets.as_slice(), text.as_slice());
-        let comment = read_units(rt.alloc(), Context::Comment, text).map_err(|_| "memory")?;
-        let [Unit::Text(octets)] = comment.as_slice() else {
-            return Err(Fail::from("other units"));
-        };
-        assert_eq!(rt; octets.as_slice(), b"a)".as_slice());
-        Ok(())
-    }
-}

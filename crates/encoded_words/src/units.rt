@@ -145,34 +145,3 @@ pub fn read_unstructured(alloc: Global, text: &[u8]) -> Result<Vec<Unit>, Memory
     units.end_text(alloc)?;
     Ok(units.into_done())
 }
-
-#[cfg(test)]
-mod tests {
-    use super::*;
-    use std::test::Fail;
-
-    #[test]
-    fn other_charsets_stay_apart(rt: HostRuntime) -> Result<(), Fail> {
-        let units = read_unstructured(rt.alloc(), "é =?ISO-8859-1?Q?x?= z".as_bytes()).map_err(
-            |_| "memory",
-        )?;
-        let [
-            Unit::Text(before),
-            Unit::Opaque {
-                charset,
-                octets,
-                source,
-            },
-            Unit::Text(behind),
-        ] = units.as_slice()
-        else {
-            return Err(Fail::from("other units"));
-        };
-        assert_eq!(rt; before.as_slice(), "é ".as_bytes());
-        assert_eq!(rt; charset.as_slice(), b"iso-8859-1".as_slice());
-        assert_eq!(rt; octets.as_slice(), b"x".as_slice());
-        assert_eq!(rt; source.as_slice(), b"=?ISO-8859-1?Q?x?=".as_slice());
-        assert_eq!(rt; behind.as_slice(), b" z".as_slice());
-        Ok(())
-    }
-}

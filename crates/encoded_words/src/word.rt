@@ -295,28 +295,3 @@ pub fn read_word(alloc: Global, word: &[u8]) -> Result<Option<Unit>, Memory>
     let unit = unit_of(alloc, parts.charset, octets, word)?;
     Ok(Some(unit))
 }
-
-#[cfg(test)]
-mod tests {
-    use super::*;
-    use std::test::Fail;
-
-    fn reads(rt: &HostRuntime, word: &[u8], text: &[u8]) -> Result<bool, Fail> {
-        match read_word(rt.alloc(), word).map_err(|_| "memory")? {
-            Some(Unit::Text(octets)) => Ok(octets.as_slice() == text),
-            _ => Ok(false),
-        }
-    }
-
-    #[test]
-    fn words_of_both_letters_are_read(rt: HostRuntime) -> Result<(), Fail> {
-        assert!(rt; reads(&rt, b"=?UTF-8?B?Y2Fmw6k=?=", "café".as_bytes())?);
-        assert!(rt; reads(&rt, b"=?utf-8*fr?q?caf=C3=a9_1?=", "café 1".as_bytes())?);
-        assert!(rt;
-            read_word(rt.alloc(), b"=?utf-8?Q?caf=C?=")
-                .map_err(|_| "memory")?
-                .is_none()
-        );
-        Ok(())
-    }
-}

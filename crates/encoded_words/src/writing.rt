@@ -37,24 +37,3 @@ pub fn write_units(alloc: Global, units: &[Unit], pieces: &mut Vec<Octets>) -> R
     }
     Ok(())
 }
-
-#[cfg(test)]
-mod tests {
-    use super::*;
-    use crate::units::read_unstructured;
-    use std::test::Fail;
-
-    #[test]
-    fn units_are_written(rt: HostRuntime) -> Result<(), Fail> {
-        let text = "é =?x?Q?a?=";
-        let Ok(units) = read_unstructured(rt.alloc(), text.as_bytes()) else {
-            return Err(Fail::from("memory"));
-        };
-        let mut pieces = Vec::new(rt.alloc());
-        write_units(rt.alloc(), &units, &mut pieces).map_err(|_| "memory")?;
-        assert_eq!(rt; pieces.len(), 2);
-        assert_eq!(rt; pieces[0].as_slice(), b"=?UTF-8?B?w6kg?=".as_slice());
-        assert_eq!(rt; pieces[1].as_slice(), b"=?x?Q?a?=".as_slice());
-        Ok(())
-    }
-}

@@ -3,27 +3,27 @@
 
 pub mod comments;
 mod groups;
+pub mod kinds;
 pub mod laws;
 mod places;
 pub mod reading;
 pub mod squeezing;
-#[cfg(test)]
-mod tests;
 pub mod trees;
 
+pub use kinds::{is_blank, is_comment};
 use mail_wire::values::Span;
-pub use reading::tokens;
+pub use reading::{read_tokens, tokens};
 pub use squeezing::squeezed;
 pub use trees::comment_tree;
 
 /// How a text is cut into tokens: as addresses are (RFC 5322), or as parameters are (RFC 2045).
-#[derive(Clone, Copy, Debug, PartialEq, Eq)]
+#[derive(Clone, Copy, PartialEq, Eq)]
 pub enum Style {
     Mail,
     Mime,
 }
 
-#[derive(Clone, Copy, Debug, PartialEq, Eq)]
+#[derive(Clone, Copy, PartialEq, Eq)]
 pub enum TokenKind {
     Atom,
     Quoted,
@@ -34,21 +34,21 @@ pub enum TokenKind {
 }
 
 /// A token of a text: what it is, and where its octets stand.
-#[derive(Clone, Copy, Debug, PartialEq, Eq)]
+#[derive(Clone, Copy, PartialEq, Eq)]
 pub struct Token {
     pub kind: TokenKind,
     pub span: Span,
 }
 
 /// Why a text was not cut into tokens.
-#[derive(Clone, Copy, Debug, PartialEq, Eq)]
+#[derive(Clone, Copy, PartialEq, Eq)]
 pub enum TokenFault {
     Malformed,
     Memory,
 }
 
 /// What stands in a comment: text without the white at its ends, or a comment.
-#[derive(Debug, Drop)]
+#[derive(Drop)]
 #[cycle(comments)]
 pub enum Item {
     Run(Span),
@@ -56,7 +56,7 @@ pub enum Item {
 }
 
 /// What stands between two parentheses.
-#[derive(Debug, Drop)]
+#[derive(Drop)]
 #[cycle(comments)]
 pub struct Comment {
     pub items: Vec<Item>,

@@ -10,7 +10,7 @@ ghost use Rattle.field_tokens.specs.declared.TokenKind.{TokenKind};
 use crate::groups::{COMMENT, LITERAL, QUOTED, group_rest, is_control};
 use crate::{Style, Token, TokenFault, TokenKind};
 use mail_wire::text::{is_utf8, is_white, split_white};
-use mail_wire::values::Span;
+use mail_wire::values::{Memory, Span};
 use std::alloc::Global;
 
 /// Whether an octet is a token of its own.
@@ -147,4 +147,16 @@ pub fn tokens(alloc: Global, style: Style, text: &[u8]) -> Result<Vec<Token>, To
         rest = after;
     }
     Ok(tokens)
+}
+
+/// The tokens of an unfolded text, and nothing exactly where it has none.
+pub fn read_tokens(alloc: Global, style: Style, text: &[u8]) -> Result<Option<Vec<Token>>, Memory>
+    ensures some { IfOk result (λ o. IfSome o (λ tokens. HasTokens style text.now tokens.items)) }
+    ensures none { IfOk result (λ o. IfNone o ((tokens : List Token) → ¬ HasTokens style text.now tokens)) }
+{
+    match tokens(alloc, style, text) {
+        Ok(found) => Ok(Some(found)),
+        Err(TokenFault::Malformed) => Ok(None),
+        Err(TokenFault::Memory) => Err(Memory),
+    }
 }

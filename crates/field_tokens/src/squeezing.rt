@@ -1,18 +1,12 @@
 //! Squeezed text.
 ghost use Rattle.std.specs.Prelude.{◌≡◌, [], ◌∷◌, ◌++◌, if◌then◌else◌, IfOk, OnOk};
-ghost use Rattle.field_tokens.specs.Squeezed.{is_blank as is_blank_of, squeezed_text, AreNeighbours};
+ghost use Rattle.field_tokens.specs.Squeezed.{squeezed_text, AreNeighbours};
 
+use crate::Token;
+use crate::kinds::is_blank;
 use crate::places::octets_of;
-use crate::{Token, TokenKind};
 use mail_wire::values::{Memory, Octets};
 use std::alloc::Global;
-
-/// Whether a token only stands between others.
-fn is_blank(kind: TokenKind) -> bool
-    ensures { result ≡ is_blank_of kind }
-{
-    matches!(kind, TokenKind::Gap | TokenKind::Comment)
-}
 
 fn push_token(made: &mut Octets, is_apart: bool, octets: &[u8]) -> Result<(), Memory>
     ensures { OnOk result (made.new ≡ made.old ++ ((if is_apart then 32 ∷ [] else []) ++ octets.now)) }

@@ -88,7 +88,7 @@ pub struct Block {
 }
 
 /// Why octets have no header block.
-#[derive(Clone, Copy, Debug, PartialEq, Eq)]
+#[derive(Clone, Copy, PartialEq, Eq)]
 pub enum FieldFault {
     /// The line that stands there is no field line.
     NotField { at: usize },

@@ -5,6 +5,4 @@ pub mod block;
 pub mod laws;
 pub mod parts;
 pub mod reading;
-#[cfg(test)]
-mod tests;
 pub mod values;

@@ -1,10 +1,10 @@
 //! The worked rows, by the public calls.
-use crate::block::{Field, FieldFault, Fields};
-use crate::parts::split_field;
-use crate::reading::{read_block, read_block_at, write_block};
-use crate::values::value_of;
 use mail_wire::values::Span;
 use std::test::Fail;
+use utf8_fields::block::{Field, FieldFault, Fields};
+use utf8_fields::parts::{Parts, split_field};
+use utf8_fields::reading::{read_block, read_block_at, write_block};
+use utf8_fields::values::value_of;
 
 fn field(at: usize, name: usize, raw: usize) -> Field {
     Field {
@@ -67,56 +67,86 @@ fn the_first_faulty_line_is_told(rt: HostRuntime) -> Result<(), Fail> {
     Ok(())
 }
 
-#[test]
-fn blocks_are_read_and_written(rt: HostRuntime) -> Result<(), Fail> {
-    let octets = "A: b\r\n c\r\nSubject : é\r\n\r\nbody\r\n".as_bytes();
-    let block = read_block(rt.alloc(), octets)?;
-    assert!(rt; block.fields.as_slice() == [field(0, 1, 10), field(10, 7, 14)].as_slice());
-    assert!(rt; block.end == 24);
-    let made = write_block(rt.alloc(), octets, &block)?;
-    assert!(rt; made.as_slice() == &octets[..24]);
-    let second = read_block_at(rt.alloc(), octets, 10)?;
-    assert!(rt; second.fields.as_slice() == [field(10, 7, 14)].as_slice());
-    for none in [&b""[..], &b"\r\n"[..], &b"\r\nA: b\r\n"[..]] {
-        let block = read_block(rt.alloc(), none)?;
-        assert!(rt; block.fields.is_empty());
-        assert!(rt; block.end == 0);
+// Whether the block at the place has these fields, and ends there.
+fn reads(rt: &HostRuntime, octets: &[u8], at: usize, fields: &[Field], end: usize) -> bool {
+    if at > octets.len() {
+        return false;
     }
+    match read_block_at(rt.alloc(), octets, at) {
+        Ok(block) => block.fields.as_slice() == fields && block.end == end,
+        Err(_) => false,
+    }
+}
+
+// Whether the block of the octets is written so.
+fn writes(rt: &HostRuntime, octets: &[u8], written: &[u8]) -> bool {
+    let Ok(block) = read_block(rt.alloc(), octets) else {
+        return false;
+    };
+    match write_block(rt.alloc(), octets, &block) {
+        Ok(made) => made.as_slice() == written,
+        Err(_) => false,
+    }
+}
+
+const BLOCK: &[u8] = b"A: b\r\n c\r\nSubject : \xC3\xA9\r\n\r\nbody\r\n";
+
+#[test]
+fn blocks_are_read(rt: HostRuntime) -> Result<(), Fail> {
+    assert!(rt; reads(&rt, BLOCK, 0, &[field(0, 1, 10), field(10, 7, 14)], 24));
+    assert!(rt; reads(&rt, BLOCK, 10, &[field(10, 7, 14)], 24));
+    for none in [&b""[..], &b"\r\n"[..], &b"\r\nA: b\r\n"[..]] {
+        assert!(rt; reads(&rt, none, 0, &[], 0));
+    }
+    Ok(())
+}
+
+#[test]
+fn blocks_are_written(rt: HostRuntime) -> Result<(), Fail> {
+    assert!(rt; writes(&rt, BLOCK, &BLOCK[..24]));
     Ok(())
 }
 
 #[test]
 fn fields_are_a_list(rt: HostRuntime) -> Result<(), Fail> {
     let mut fields = Fields::new(rt.alloc());
-    fields.push(field(0, 1, 10))?;
+    fields.push(field(0, 1, 10)).map_err(|_| "memory")?;
     assert!(rt; fields.len() == 1);
     let fields = Fields::from_vec(fields.into_vec());
     assert!(rt; fields.as_slice() == [field(0, 1, 10)].as_slice());
     Ok(())
 }
 
-// Whether the octets are these fields, joined from their parts.
-fn has_parts(rt: &HostRuntime, octets: &[u8], parts: &[[&[u8]; 4]]) -> bool {
+// Whether these are the parts of a field.
+fn are_parts(cut: &Parts, parts: [&[u8]; 4]) -> bool {
+    let [name, white, body, ending] = parts;
+    cut.name == name && cut.white == white && cut.body == body && cut.ending == ending
+}
+
+// Whether the octets are one field of these parts.
+fn has_parts(rt: &HostRuntime, octets: &[u8], parts: [&[u8]; 4]) -> bool {
     let Ok(block) = read_block(rt.alloc(), octets) else {
         return false;
     };
-    let mut found = parts.iter();
-    for field in block.fields.as_slice() {
-        let cut = split_field(&octets[field.raw.at..field.raw.at + field.raw.len]);
-        let Some([name, white, body, ending]) = found.next() else {
-            return false;
-        };
-        if cut.name != *name || cut.white != *white || cut.body != *body || cut.ending != *ending {
-            return false;
-        }
+    match block.fields.as_slice() {
+        [field] => are_parts(
+            &split_field(&octets[field.raw.at..field.raw.at + field.raw.len]),
+            parts,
+        ),
+        _ => false,
     }
-    found.next().is_none()
 }
 
 #[test]
 fn fields_are_split(rt: HostRuntime) -> Result<(), Fail> {
-    let parts: [[&[u8]; 4]; 2] = [[b"A", b" \t", b" b\r\n c", b"\r\n"], [b"B", b"", b"", b""]];
-    assert!(rt; has_parts(&rt, b"A \t: b\r\n c\r\nB:", &parts));
+    assert!(rt;
+        has_parts(
+            &rt,
+            b"A \t: b\r\n c\r\n",
+            [b"A", b" \t", b" b\r\n c", b"\r\n"]
+        )
+    );
+    assert!(rt; has_parts(&rt, b"B:", [b"B", b"", b"", b""]));
     Ok(())
 }
 
