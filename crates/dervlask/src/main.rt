@@ -9,7 +9,7 @@ use mail_wire::values::Memory;
 use mail_wire::words::Words;
 use std::alloc::{Alloc, Global};
 use std::env::{self, Env};
-use std::fs::{File, Files};
+use std::fs::{File, Files, OpenOptions};
 use std::io::{self, Eprint, Read, Write};
 use std::process::ExitCode;
 
@@ -38,13 +38,23 @@ fn words<R: Env + Alloc<A = Global>>(rt: &R) -> Result<Words, Memory> {
     }
 }
 
+// The root folder, opened.
+fn root_folder<F: Files<File = File>>(files: &F) -> Option<File> {
+    OpenOptions::new().read(true).open(files, "/").ok()
+}
+
+// The text of an error without the system's number for it.
+fn without_number(text: &str) -> &str {
+    match text.split_once(" (os error ") {
+        Some((reason, _)) => reason,
+        None => text,
+    }
+}
+
 // Says on standard error what failed, and why, as the system puts it.
 fn tell<T: Eprint + Alloc<A = Global>>(rt: &T, place: &str, error: io::Error) -> io::Result<()> {
     let text = format!(in rt.alloc(); "{error}")?;
-    let reason = match text.split_once(" (os error ") {
-        Some((reason, _)) => reason,
-        None => text.as_str(),
-    };
+    let reason = without_number(text.as_str());
     eprintln!(rt; "dervlask: {place}: {reason}")
 }
 
@@ -77,6 +87,9 @@ where
 }
 
 fn main(rt: HostRuntime) -> ExitCode {
+    // Of standard input, output and error those that are closed become a folder, which nothing can be read from or written
+    // to: else the journal would be opened in the place of one.
+    let _taken = [root_folder(&rt), root_folder(&rt), root_folder(&rt)];
     let Ok(words) = words(&rt) else {
         let _told = eprintln!(rt; "dervlask: out of memory");
         return ExitCode::from(WANT_OF_MEMORY);
