@@ -130,31 +130,3 @@ pub fn unitext_of(alloc: Global, address: &[u8]) -> Result<Octets, Memory>
     }
     Ok(text)
 }
-
-#[cfg(test)]
-mod tests {
-    use super::*;
-    use std::test::Fail;
-
-    #[test]
-    fn characters_are_escaped_by_their_number(rt: HostRuntime) -> Result<(), Fail> {
-        let text = xtext_of(rt.alloc(), "josé@example.com".as_bytes()).map_err(|_| "memory")?;
-        assert_eq!(rt; text.as_slice(), b"jos\\x{E9}@example.com".as_slice());
-        let text = xtext_of(rt.alloc(), "a+ あ😀\u{10FFFF}".as_bytes()).map_err(|_| "memory")?;
-        assert_eq!(rt;
-            text.as_slice(),
-            b"a\\x{2B}\\x{20}\\x{3042}\\x{1F600}\\x{10FFFF}".as_slice()
-        );
-        Ok(())
-    }
-
-    #[test]
-    fn characters_above_127_stay_in_the_utf8_form(rt: HostRuntime) -> Result<(), Fail> {
-        let address = "josé@example.com".as_bytes();
-        let text = unitext_of(rt.alloc(), address).map_err(|_| "memory")?;
-        assert_eq!(rt; text.as_slice(), address);
-        let text = unitext_of(rt.alloc(), "é=\\\u{7F}".as_bytes()).map_err(|_| "memory")?;
-        assert_eq!(rt; text.as_slice(), "é\\x{3D}\\x{5C}\\x{7F}".as_bytes());
-        Ok(())
-    }
-}

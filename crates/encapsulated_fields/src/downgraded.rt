@@ -27,19 +27,3 @@ pub fn encapsulate(alloc: Global, name: &[u8], value: &[u8]) -> Result<Octets, M
     field.push_slice(b"\r\n")?;
     Ok(field)
 }
-
-#[cfg(test)]
-mod tests {
-    use super::*;
-    use std::test::Fail;
-
-    #[test]
-    fn a_message_identifier_is_kept(rt: HostRuntime) -> Result<(), Fail> {
-        let field = encapsulate(rt.alloc(), b"Message-ID", "<é@x>".as_bytes()).map_err(
-            |_| "memory",
-        )?;
-        let lines = "Downgraded-Message-ID:\r\n =?UTF-8?B?PMOpQHg+?=\r\n";
-        assert_eq!(rt; field.as_slice(), lines.as_bytes());
-        Ok(())
-    }
-}
