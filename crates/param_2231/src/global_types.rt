@@ -65,31 +65,3 @@ pub fn find_global(alloc: Global, text: &[u8]) -> Result<Option<usize>, Memory>
     let words = solid(alloc, &tokens)?;
     Ok(third_place(&words))
 }
-
-#[cfg(test)]
-mod tests {
-    use super::*;
-    use std::test::Fail;
-
-    fn place(rt: &HostRuntime, text: &[u8]) -> Result<Option<usize>, Fail> {
-        let place = find_global(rt.alloc(), text).map_err(|_| "memory")?;
-        Ok(place)
-    }
-
-    #[test]
-    fn global_is_found(rt: HostRuntime) -> Result<(), Fail> {
-        assert_eq!(rt; place(&rt, b"message/global")?, Some(8));
-        assert_eq!(rt; place(&rt, b"Message/ GLOBAL (x)")?, Some(9));
-        assert_eq!(rt; place(&rt, b"(global) message/global; a=global")?, Some(17));
-        Ok(())
-    }
-
-    #[test]
-    fn other_types_are_none(rt: HostRuntime) -> Result<(), Fail> {
-        assert_eq!(rt; place(&rt, b"text/global")?, None);
-        assert_eq!(rt; place(&rt, b"message/rfc822; a=global")?, None);
-        assert_eq!(rt; place(&rt, b"message/global; x")?, None);
-        assert_eq!(rt; place(&rt, b"message/global(")?, None);
-        Ok(())
-    }
-}

@@ -115,36 +115,3 @@ pub fn read_name(name: &[u8]) -> Option<Name<'_>>
         is_extended,
     })
 }
-
-#[cfg(test)]
-mod tests {
-    use super::*;
-    use std::test::Fail;
-
-    fn is_read(name: &[u8], base: &[u8], number: &[u8], is_extended: bool) -> bool {
-        match read_name(name) {
-            Some(parts) => {
-                parts.base == base
-                    && parts.number.unwrap_or(b"") == number
-                    && parts.is_extended == is_extended
-            }
-            None => false,
-        }
-    }
-
-    #[test]
-    fn names_are_read(rt: HostRuntime) -> Result<(), Fail> {
-        assert!(rt; is_read(b"a", b"a", b"", false));
-        assert!(rt; is_read(b"a*", b"a", b"", true));
-        assert!(rt; is_read(b"a*0", b"a", b"0", false));
-        assert!(rt; is_read(b"a*10*", b"a", b"10", true));
-        assert!(rt; read_name(b"*").is_none());
-        assert!(rt; read_name(b"a*01").is_none());
-        assert!(rt; read_name(b"a**").is_none());
-        assert!(rt; read_name(b"a*1*1").is_none());
-        assert!(rt;
-            read_name(b"aaaaaaaaaaaaaaaaaaaaaaaaaaaaaaaaaaaaaaaaaaaaaaaaaaaaaaaaaaaaa").is_none()
-        );
-        Ok(())
-    }
-}

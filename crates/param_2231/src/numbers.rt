@@ -49,18 +49,3 @@ pub fn number_below(digits: &[u8], bound: usize) -> Option<usize>
     }
     None
 }
-
-#[cfg(test)]
-mod tests {
-    use super::*;
-    use std::test::Fail;
-
-    #[test]
-    fn numbers_are_below_a_bound(rt: HostRuntime) -> Result<(), Fail> {
-        assert_eq!(rt; number_below(b"0", 1), Some(0));
-        assert_eq!(rt; number_below(b"12", 13), Some(12));
-        assert_eq!(rt; number_below(b"12", 12), None);
-        assert_eq!(rt; number_below(b"99999999999999999999999999", 13), None);
-        Ok(())
-    }
-}
