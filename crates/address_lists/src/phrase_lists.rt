@@ -19,7 +19,7 @@ use crate::writing::write_phrase;
 use mail_wire::values::{Memory, Octets};
 use std::alloc::Global;
 
-/// Puts the pieces of the phrase in a place last.
+// Puts the pieces of the phrase in a place last.
 fn push_phrase(
     alloc: Global,
     lexemes: &[Lexeme<'_>],
@@ -47,7 +47,7 @@ fn push_comma(alloc: Global, pieces: &mut Vec<Octets>) -> Result<(), Memory>
     Ok(())
 }
 
-/// The pieces of phrases divided by commas.
+// The pieces of phrases divided by commas.
 fn write_phrases(alloc: Global, lexemes: &[Lexeme<'_>]) -> Result<Vec<Octets>, AddressFault>
     requires utf8 { AllByRecursion IsUtf8Item (phrase_items (values_of lexemes.now)) }
     requires comments { AreWritableComments (comments_of (values_of lexemes.now)) }

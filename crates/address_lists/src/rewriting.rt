@@ -22,7 +22,7 @@ use crate::{AddressFault, Element};
 use mail_wire::values::{Memory, Octets};
 use std::alloc::Global;
 
-/// Puts the pieces of an element last.
+// Puts the pieces of an element last.
 fn write_element(
     alloc: Global,
     lexemes: &[Lexeme<'_>],
@@ -44,7 +44,7 @@ fn write_element(
     }
 }
 
-/// Puts the pieces of a place last: those of its element, or its comments.
+// Puts the pieces of a place last: those of its element, or its comments.
 fn write_place(
     alloc: Global,
     lexemes: &[Lexeme<'_>],
@@ -67,7 +67,7 @@ fn write_place(
     Ok(())
 }
 
-/// Whether a token stands there that no empty place has.
+// Whether a token stands there that no empty place has.
 fn has_element(lexemes: &[Lexeme<'_>]) -> bool
     ensures { result ≡ list_any (λ l. is_element_token (value_of l)) lexemes.now }
 {
@@ -76,15 +76,15 @@ fn has_element(lexemes: &[Lexeme<'_>]) -> bool
         .any(|lexeme| !(is_blank(*lexeme) || is_mark(*lexeme, b',')))
 }
 
-/// Whether an element stands in a place, and another one behind it. The time over a whole list is linear: no token is looked
-/// at for two elements.
+// Whether an element stands in a place, and another one behind it. The time over a whole list is linear: no token is looked
+// at for two elements.
 fn is_followed(place: &[Lexeme<'_>], behind: &[Lexeme<'_>]) -> bool
     ensures { result ≡ (not (are_blank_of (values_of place.now)) && list_any is_element_token (values_of behind.now)) }
 {
     !are_blank(place) && has_element(behind)
 }
 
-/// Puts the pieces of a place last that a comma ends, and puts a comma behind an element that another follows.
+// Puts the pieces of a place last that a comma ends, and puts a comma behind an element that another follows.
 fn write_followed(
     alloc: Global,
     place: &[Lexeme<'_>],
@@ -105,7 +105,7 @@ fn write_followed(
     Ok(())
 }
 
-/// The pieces of places divided by commas.
+// The pieces of places divided by commas.
 fn write_places(alloc: Global, lexemes: &[Lexeme<'_>]) -> Result<Vec<Octets>, AddressFault>
     requires { CanBeWritten (values_of lexemes.now) }
     ensures ok { IfOk result (λ pieces. GivesPlaces (values_of lexemes.now) pieces.items) }
