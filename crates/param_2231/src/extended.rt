@@ -28,7 +28,7 @@ pub fn split_extended(value: &[u8]) -> Option<(&[u8], &[u8])>
     Some((charset, text))
 }
 
-/// Whether octets of a charset, or of none, are text.
+// Whether octets of a charset, or of none, are text.
 fn is_text(charset: &[u8], octets: &[u8]) -> bool
     ensures { result ≡ is_text_of (str_to_ascii_lowercase charset.now) octets.now }
 {

@@ -7,15 +7,14 @@ ghost use Rattle.param_2231.specs.declared.ParamKind.TheVariants.{Content};
 ghost use Rattle.param_2231.specs.Joining.{ParamValue, SaysParams};
 ghost use Rattle.param_2231.specs.GlobalTypes.{NamesGlobal};
 
-use crate::bodies::read_tokens;
 use crate::reading::read_params;
 use crate::tokens::solid;
 use crate::{ParamFault, ParamKind};
-use field_tokens::Token;
+use field_tokens::{Style, Token, read_tokens};
 use mail_wire::values::{Memory, Octets};
 use std::alloc::Global;
 
-/// The main part of a Content-Type, in lower case, and nothing exactly where the text is none.
+// The main part of a Content-Type, in lower case, and nothing exactly where the text is none.
 fn read_type(alloc: Global, text: &[u8]) -> Result<Option<Octets>, Memory>
     ensures found { IfOk result (λ o. IfSome o (λ main. (params : List ParamValue) × (comments : List CommentValue)
         × SaysParams Content text.now main params comments)) }
@@ -35,7 +34,7 @@ fn is_global(main: &[u8]) -> bool
     main == b"message/global".as_slice()
 }
 
-/// Where the third token stands.
+// Where the third token stands.
 fn third_place(tokens: &[Token]) -> Option<usize>
     ensures found { IfSome result (λ at. (first second third : Token) × (more : List Token)
         × (tokens.now ≡ first ∷ second ∷ third ∷ more) × (third.span.at ≡ at)) }
@@ -59,7 +58,7 @@ pub fn find_global(alloc: Global, text: &[u8]) -> Result<Option<usize>, Memory>
     if !is_global(main.as_slice()) {
         return Ok(None);
     }
-    let Some(tokens) = read_tokens(alloc, text)? else {
+    let Some(tokens) = read_tokens(alloc, Style::Mime, text)? else {
         return Ok(None);
     };
     let words = solid(alloc, &tokens)?;

@@ -11,7 +11,7 @@ use crate::{Body, Param, ParamFault, ParamKind, Params, Piece};
 use mail_wire::values::{Memory, Octets};
 use std::alloc::Global;
 
-/// Puts the parameter that begins with a piece last, where one does.
+// Puts the parameter that begins with a piece last, where one does.
 fn push_param(
     alloc: Global,
     params: &mut Vec<Param>,
@@ -31,7 +31,7 @@ fn push_param(
     }
 }
 
-/// The parameters of pieces with these roles.
+// The parameters of pieces with these roles.
 fn params_of(alloc: Global, pieces: &[Piece], roles: Vec<Role>) -> Result<Vec<Param>, Memory>
     requires { AreRoles pieces.now [] pieces.now roles.items }
     ensures { IfOk result (λ params. map param_value params.items ≡ params_of pieces.now) }
@@ -47,7 +47,7 @@ fn params_of(alloc: Global, pieces: &[Piece], roles: Vec<Role>) -> Result<Vec<Pa
     Ok(params)
 }
 
-/// The parameters of pieces, and nothing exactly where they are none.
+// The parameters of pieces, and nothing exactly where they are none.
 fn join(alloc: Global, pieces: &[Piece]) -> Result<Option<ParamList>, Memory>
     ensures found { IfOk result (λ o. IfSome o (λ list. AreParams pieces.now (map param_value list))) }
     ensures none { IfOk result (λ o. IfNone o ((params : List ParamValue) → ¬ AreParams pieces.now params)) }

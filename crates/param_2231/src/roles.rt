@@ -35,7 +35,7 @@ pub enum Role {
     },
 }
 
-/// What a whole parameter says.
+// What a whole parameter says.
 fn whole_unit(alloc: Global, piece: &Piece) -> Result<Unit, Memory>
     ensures { IfOk result (λ unit. value_of unit ≡ unit_value piece.now.charset piece.now.octets) }
 {
@@ -43,8 +43,8 @@ fn whole_unit(alloc: Global, piece: &Piece) -> Result<Unit, Memory>
     unit_of(alloc, piece.charset.as_slice(), octets)
 }
 
-/// The role of a piece among the pieces of its name, where a name that began says whether its parts are ASCII. Nothing exactly
-/// where the parameter begins with the piece and its numbers aren't those from 0 on.
+// The role of a piece among the pieces of its name, where a name that began says whether its parts are ASCII. Nothing exactly
+// where the parameter begins with the piece and its numbers aren't those from 0 on.
 fn role_of<'a>(
     alloc: Global,
     names: &Names<'a>,
