@@ -1,5 +1,6 @@
 -- Groups are written.
 use Rattle.std.proofs.Common.{◌≡◌, ◌≢◌, ℕ, Bool, true, false, inl, inr, List, [], ◌∷◌, ◌++◌, refl, sym, ap, ◌∙◌, subst, arith}
+use Rattle.std.proofs.lemmas.Bool.{both_ways}
 use Rattle.std.proofs.lemmas.List.{append_assoc, append-nil}
 use Rattle.std.specs.List.{list_all}
 use Rattle.mail_wire.specs.Octets.{is_ascii}
@@ -9,13 +10,14 @@ use Rattle.field_tokens.specs.Squeezed.{octets_of, comments_of}
 use Rattle.field_tokens.specs.Comments.{CommentsPieces, AddsPieces}
 use Rattle.address_lists.specs.Lexemes.{lacks, are_blank, SplitsAt}
 use Rattle.address_lists.specs.PhrasePieces.{PlacePieces}
-use Rattle.address_lists.specs.AddressLists.{Divided, SayParts, AreDivided, MailboxValue, IsMailbox, IsOneMailbox, IsGroupBy, IsGroup}
+use Rattle.address_lists.specs.AddressLists.{Divided, SayParts, AreDivided, MailboxValue, IsMailbox, IsOneMailbox, AreMembers, IsGroupBy, IsGroup}
 use Rattle.address_lists.specs.ListPieces.{is_plain, group_units, MailboxPieces, with_comma, MemberPieces, MembersPieces, InnerPieces, GroupPieces}
-use Rattle.address_lists.specs.ListWriting.{CanBeWritten, EmptiedPieces, AsciiPieces, IsPlainGroup, GivesMember, GivesMembers}
-use Rattle.address_lists.specs.Walks.{SplitsPlace}
+use Rattle.address_lists.specs.ListWriting.{CanBeWritten, EmptiedPieces, AsciiPieces, IsPlainGroup, IsSomeMailbox, AreSomeMailboxes, AreSomeMembers, GivesMember, GivesMembers}
+use Rattle.address_lists.specs.Walks.{SplitsPlace, IsLastPlace}
 use Rattle.address_lists.proofs.LexemeLemmas.{not_lacking, cut_once}
 use Rattle.address_lists.proofs.MailboxLemmas.{phrase_lacks}
-use Rattle.address_lists.proofs.ListLemmas.{mailbox_not_blank, group_inner}
+use Rattle.address_lists.proofs.DividedLemmas.{divided_first, divided_last}
+use Rattle.address_lists.proofs.ListLemmas.{one_walked, mailbox_not_blank, group_inner}
 use Rattle.address_lists.proofs.AddedPieces.{comma_behind, some_behind}
 use Rattle.address_lists.proofs.WritableTokens.{before_can, behind_can}
 use Rattle.address_lists.proofs.ServedMailboxes.{mailbox_some}
@@ -45,9 +47,24 @@ pub record WritesMembers (ts : List TokenValue) (old new : List (List ℕ)) (res
   pub added : new ≡ old ++ written
   pub onward : (ms : List MailboxValue) (d : AreDivided IsOneMailbox rest ms) (more : List (List ℕ)) → MembersPieces d.parts more → GivesMembers ts (written ++ more)
   pub can : CanBeWritten rest
+  pub left : AreSomeMailboxes rest
 
-pub members_start : (ts : List TokenValue) (old : List (List ℕ)) → CanBeWritten ts → WritesMembers ts old old ts
-members_start ts old can = record { written = []; added = sym (append-nil old); onward = λ ms d more p. record { members = ms; are_members = d; pieces_are = p }; can = can }
+pub members_start : (ts : List TokenValue) (old : List (List ℕ)) → CanBeWritten ts → AreSomeMailboxes ts → WritesMembers ts old old ts
+members_start ts old can known = record { written = []; added = sym (append-nil old); onward = λ ms d more p. record { members = ms; are_members = d; pieces_are = p }; can = can; left = known }
+
+one_some : (ts : List TokenValue) (ms : List MailboxValue) → IsOneMailbox ts ms → IsSomeMailbox ts
+one_some ts [] is = absurd is
+one_some ts (m ∷ []) is = (m, is)
+one_some ts (m ∷ n ∷ ms) is = absurd is
+
+pub member_known : (ts rest part after : List TokenValue) (old new : List (List ℕ)) → WritesMembers ts old new rest → SplitsPlace rest part after → IsSomeMailbox part
+member_known ts rest part after old new w s = let first = divided_first IsOneMailbox one_walked rest part after w.left.0 s w.left.1 in one_some part first.first first.says
+
+pub last_known : (ts rest : List TokenValue) (old new : List (List ℕ)) → WritesMembers ts old new rest → IsLastPlace rest → IsSomeMailbox rest
+last_known ts rest old new w last = one_some rest w.left.0 (divided_last IsOneMailbox one_walked rest w.left.0 last w.left.1)
+
+members_left : (rest part after : List TokenValue) → AreSomeMailboxes rest → SplitsPlace rest part after → AreSomeMailboxes after
+members_left rest part after known s = let first = divided_first IsOneMailbox one_walked rest part after known.0 s known.1 in (first.others, first.divided)
 
 pub member_can : (ts rest part after : List TokenValue) (old new : List (List ℕ)) → WritesMembers ts old new rest → SplitsPlace rest part after → CanBeWritten part
 member_can ts rest part after old new w s = before_can rest part after s.comma s.whole w.can
@@ -72,6 +89,7 @@ members_turn ts rest part after old mid put new w s a e =
           ∙ append_assoc old w.written (with_comma first);
       onward = λ ms d more p. subst (GivesMembers ts) (sym (append_assoc w.written (with_comma first) more)) (members_onward ts rest part after old mid first w s a.holds d.parts ms more d.divided d.say p);
       can = behind_can rest part after s.comma s.whole w.can;
+      left = members_left rest part after w.left s;
     }
 
 pub members_end : (ts rest : List TokenValue) (old mid new : List (List ℕ)) → WritesMembers ts old mid rest → AddsPieces (GivesMember rest) mid new → AddsPieces (GivesMembers ts) old new
@@ -92,6 +110,13 @@ blank_inner ts old new h a = record { pieces = a.pieces; holds = inl (h, a.holds
 pub some_inner : (ts : List TokenValue) (old new : List (List ℕ)) → are_blank ts ≡ false → AddsPieces (GivesMembers ts) old new → AddsPieces (InnerPieces ts) old new
 some_inner ts old new h a = record { pieces = a.pieces; holds = inr (h, (a.holds.members, a.holds.are_members, a.holds.pieces_are)); added = a.added }
 
+members_divided : (ts : List TokenValue) (ms : List MailboxValue) → are_blank ts ≡ false → AreMembers ts ms → AreSomeMailboxes ts
+members_divided ts ms some (inl none) = absurd (both_ways (are_blank ts) some none.0)
+members_divided ts ms some (inr divided) = (ms, divided)
+
+pub inner_mailboxes : (ts : List TokenValue) → are_blank ts ≡ false → AreSomeMembers ts → AreSomeMailboxes ts
+inner_mailboxes ts some known = members_divided ts known.0 some known.1
+
 -- ---- groups
 
 pub no_colon : (ts : List TokenValue) → IsPlainGroup ts → lacks 58 ts ≡ true → ⊥
@@ -105,6 +130,9 @@ group_at ts before behind g s =
 
 pub no_semicolon : (ts before behind : List TokenValue) → IsPlainGroup ts → SplitsAt 58 ts before behind → lacks 59 behind ≡ true → ⊥
 no_semicolon ts before behind g s l = let is = group_at ts before behind g s in not_lacking 59 is.inner is.after is.semicolon is.is_semicolon (rw (is.whole) at l)
+
+pub inner_known : (ts before behind inner after : List TokenValue) → IsPlainGroup ts → SplitsAt 58 ts before behind → SplitsAt 59 behind inner after → AreSomeMembers inner
+inner_known ts before behind inner after g s t = (g.members, (group_inner before behind inner after g.name g.members t (group_at ts before behind g s)).1)
 
 group_with : (ts before behind inner after : List TokenValue) (g : IsPlainGroup ts) (s : SplitsAt 58 ts before behind) (t : SplitsAt 59 behind inner after) → IsGroupBy before behind g.name g.members
 group_with ts before behind inner after g s t =

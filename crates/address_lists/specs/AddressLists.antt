@@ -4,9 +4,8 @@ use Rattle.std.specs.List.{AllByRecursion}
 use Rattle.encoded_words.specs.Words.{UnitValue}
 use Rattle.encoded_words.specs.PhraseUnits.{HasPhraseUnits}
 use Rattle.field_tokens.specs.declared.Token.{Token}
-use Rattle.field_tokens.specs.declared.TokenKind.{TokenKind}
-use Rattle.field_tokens.specs.declared.TokenKind.TheVariants.{Atom, Quoted, Literal, Special, Gap, Comment}
 use Rattle.field_tokens.specs.Tokens.{TokenValue, tokens_from}
+use Rattle.field_tokens.specs.Squeezed.{is_comment}
 use Rattle.field_tokens.specs.Trees.{Tree, HasComment}
 use Rattle.address_lists.specs.declared.Address.{Address}
 use Rattle.address_lists.specs.Lexemes.{HasTokenValues, is_mark, are_blank}
@@ -142,16 +141,8 @@ SaysPlace tokens [] = are_blank tokens ≡ true
 SaysPlace tokens (e ∷ []) = IsElement tokens e
 SaysPlace tokens (e ∷ f ∷ es) = ⊥
 
-abbrev pub is_comment_kind : TokenKind → Bool
-is_comment_kind Comment = true
-is_comment_kind Atom = false
-is_comment_kind Quoted = false
-is_comment_kind Literal = false
-is_comment_kind Special = false
-is_comment_kind Gap = false
-
 abbrev pub comments_of : List Token → List Token
-comments_of tokens = filter (λ t. is_comment_kind t.kind) tokens
+comments_of tokens = filter (λ t. is_comment t.kind) tokens
 
 -- the trees of comments, one for each
 abbrev pub HaveTrees : List ℕ → List Token → List Tree → Type 0

@@ -15,7 +15,7 @@ use Rattle.address_lists.specs.Addresses.{address_text}
 use Rattle.address_lists.specs.Phrases.{phrase_items}
 use Rattle.address_lists.specs.Paths.{in_angles}
 use Rattle.address_lists.specs.PhrasePieces.{PhrasePieces, HasCore}
-use Rattle.address_lists.specs.AddressLists.{MailboxValue, IsMailbox, IsOneMailbox, IsGroup, ElementValue, AreDivided, SaysPlace}
+use Rattle.address_lists.specs.AddressLists.{MailboxValue, IsMailbox, IsOneMailbox, AreMembers, IsGroup, ElementValue, AreDivided, SaysPlace}
 use Rattle.address_lists.specs.ListPieces.{is_plain, member_units, no_members, HasText, with_comma, MemberPieces, MembersPieces, PlaceOfListPieces, PlacesPieces}
 
 -- ---- what can be written
@@ -104,6 +104,22 @@ pub record IsPlainGroup (tokens : List TokenValue) : Type 0 where
   pub members : List MailboxValue
   pub group : IsGroup tokens name members
   pub plain : list_all is_plain members ≡ true
+
+-- ---- what is known to be read
+
+-- the tokens are a mailbox
+abbrev pub IsSomeMailbox : List TokenValue → Type 0
+IsSomeMailbox tokens = (m : MailboxValue) × IsMailbox tokens m
+
+-- the tokens are mailboxes divided by commas
+abbrev pub AreSomeMailboxes : List TokenValue → Type 0
+AreSomeMailboxes tokens = (ms : List MailboxValue) × AreDivided IsOneMailbox tokens ms
+
+-- the tokens are the members of a group
+abbrev pub AreSomeMembers : List TokenValue → Type 0
+AreSomeMembers tokens = (ms : List MailboxValue) × AreMembers tokens ms
+
+-- ---- what was written
 
 -- the tokens are a member, with these pieces
 pub record GivesMember (tokens : List TokenValue) (pieces : List (List ℕ)) : Type 0 where

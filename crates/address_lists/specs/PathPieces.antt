@@ -46,3 +46,7 @@ pub record ServesPath (text : List ℕ) (served : Address) : Type 0 where
   pub address : Address
   pub has_path : HasPath text (Some address)
   pub is_served : served_address address ≡ Some served
+
+-- the text has tokens
+abbrev pub HasSomeTokens : List ℕ → Type 0
+HasSomeTokens text = (tokens : List TokenValue) × HasTokenValues text tokens

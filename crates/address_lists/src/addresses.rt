@@ -12,7 +12,7 @@ use crate::{Address, AddressFault};
 use field_tokens::TokenKind;
 use std::alloc::Global;
 
-/// What may stand between dots: an atom, or where it is allowed a quoted string.
+// What may stand between dots: an atom, or where it is allowed a quoted string.
 fn is_part(lexeme: Lexeme<'_>, allows_quoted: bool) -> bool
     ensures { result ≡ is_part_of allows_quoted (value_of lexeme.entry) }
 {
@@ -23,7 +23,7 @@ fn is_part(lexeme: Lexeme<'_>, allows_quoted: bool) -> bool
     }
 }
 
-/// What stands behind the first word, where that may stand between dots.
+// What stands behind the first word, where that may stand between dots.
 fn part_rest<'a, 'b>(lexemes: &'b [Lexeme<'a>], allows_quoted: bool) -> Option<&'b [Lexeme<'a>]>
     ensures found { IfSome result (λ rest. BeginsSo (is_part_of allows_quoted) (values_of lexemes.now) (values_of rest.now)) }
     ensures shorter { IfSome result (λ rest. length rest.now < length lexemes.now) }
@@ -39,7 +39,7 @@ fn part_rest<'a, 'b>(lexemes: &'b [Lexeme<'a>], allows_quoted: bool) -> Option<&
     }
 }
 
-/// What stands behind the first word, where that is a dot.
+// What stands behind the first word, where that is a dot.
 fn dot_rest<'a, 'b>(lexemes: &'b [Lexeme<'a>]) -> Option<&'b [Lexeme<'a>]>
     ensures found { IfSome result (λ rest. BeginsSo (is_mark_of 46) (values_of lexemes.now) (values_of rest.now)) }
     ensures shorter { IfSome result (λ rest. length rest.now < length lexemes.now) }

@@ -27,7 +27,7 @@ pub fn are_ascii(lexemes: &[Lexeme<'_>]) -> bool
     all_ascii(lexemes)
 }
 
-/// What goes to the last token that is no gap.
+// What goes to the last token that is no gap.
 fn before_gaps<'a, 'b>(lexemes: &'b [Lexeme<'a>]) -> &'b [Lexeme<'a>]
     ensures { SplitsGaps (values_of lexemes.now) (values_of result.now) }
 {
@@ -38,7 +38,7 @@ fn before_gaps<'a, 'b>(lexemes: &'b [Lexeme<'a>]) -> &'b [Lexeme<'a>]
     &lexemes[..end]
 }
 
-/// The tokens without the gaps at both ends.
+// The tokens without the gaps at both ends.
 fn inner_text<'a, 'b>(lexemes: &'b [Lexeme<'a>]) -> &'b [Lexeme<'a>]
     requires { are_blank (values_of lexemes.now) ≡ false }
     ensures { HasText (values_of lexemes.now) (values_of result.now) }

@@ -27,7 +27,7 @@ fn push_text(units: &mut Merging, text: &[u8]) -> Result<(), Memory>
     units.push_text(text)
 }
 
-/// An opaque unit is read again from the word that it came from.
+// An opaque unit is read again from the word that it came from.
 fn push_unit(alloc: Global, units: &mut Merging, unit: &Unit) -> Result<(), Memory>
     requires { IsWritable (value_of unit.now) }
     ensures { OnOk result (TakesUnits units.old units.new (value_of unit.now ∷ [])) }

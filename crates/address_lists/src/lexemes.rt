@@ -7,7 +7,7 @@ ghost use Rattle.address_lists.specs.Lexemes.{HasTokenValues, is_blank_token, wo
 ghost use Rattle.address_lists.specs.Views.{value_of, values_of};
 
 use crate::AddressFault;
-use field_tokens::{Style, Token, TokenFault, TokenKind, tokens};
+use field_tokens::{Style, Token, TokenKind, read_tokens};
 use mail_wire::values::{Memory, Octets};
 use std::alloc::Global;
 
@@ -22,7 +22,7 @@ pub struct Lexeme<'a> {
 pub fn is_blank(lexeme: Lexeme<'_>) -> bool
     ensures { result ≡ is_blank_token (value_of lexeme.entry) }
 {
-    matches!(lexeme.kind, TokenKind::Gap | TokenKind::Comment)
+    field_tokens::is_blank(lexeme.kind)
 }
 
 pub fn is_atom(lexeme: Lexeme<'_>) -> bool
@@ -110,14 +110,14 @@ pub fn lacks_mark(lexemes: &[Lexeme<'_>], mark: u8) -> bool
 }
 
 /// The tokens of a text, by their places.
-pub fn read_tokens(alloc: Global, text: &[u8]) -> Result<Vec<Token>, AddressFault>
+pub fn mail_tokens(alloc: Global, text: &[u8]) -> Result<Vec<Token>, AddressFault>
     ensures ok { IfOk result (λ tokens. HasTokens Mail text.now tokens.items) }
     ensures malformed { result ≡ Err AddressFault.Malformed → (tokens : List TokenValue) → ¬ HasTokenValues text.now tokens }
 {
-    match tokens(alloc, Style::Mail, text) {
-        Ok(found) => Ok(found),
-        Err(TokenFault::Malformed) => Err(AddressFault::Malformed),
-        Err(TokenFault::Memory) => Err(AddressFault::Memory),
+    match read_tokens(alloc, Style::Mail, text) {
+        Ok(Some(found)) => Ok(found),
+        Ok(None) => Err(AddressFault::Malformed),
+        Err(_) => Err(AddressFault::Memory),
     }
 }
 
@@ -150,14 +150,14 @@ pub fn read_lexemes<'a>(alloc: Global, text: &'a [u8]) -> Result<Vec<Lexeme<'a>>
     ensures ok { IfOk result (λ lexemes. HasTokenValues text.now (values_of lexemes.items)) }
     ensures malformed { result ≡ Err AddressFault.Malformed → (tokens : List TokenValue) → ¬ HasTokenValues text.now tokens }
 {
-    let found = read_tokens(alloc, text)?;
+    let found = mail_tokens(alloc, text)?;
     let Ok(lexemes) = lexemes_of(alloc, text, &found) else {
         return Err(AddressFault::Memory);
     };
     Ok(lexemes)
 }
 
-/// What stands between the first octet and the last one.
+// What stands between the first octet and the last one.
 fn inner_octets(octets: &[u8]) -> &[u8]
     ensures { result.now ≡ inner_octets_of octets.now }
 {
@@ -167,7 +167,7 @@ fn inner_octets(octets: &[u8]) -> &[u8]
     }
 }
 
-/// Takes an octet, which a backslash quotes or not, and answers whether it quotes the next one.
+// Takes an octet, which a backslash quotes or not, and answers whether it quotes the next one.
 fn push_next(made: &mut Octets, is_quoted: bool, octet: u8) -> Result<bool, Memory>
     ensures { IfOk result (λ next. (octets : List ℕ) → made.new ++ unquoted next octets ≡ made.old ++ unquoted is_quoted (octet ∷ octets)) }
 {
@@ -178,7 +178,7 @@ fn push_next(made: &mut Octets, is_quoted: bool, octet: u8) -> Result<bool, Memo
     Ok(false)
 }
 
-/// Puts octets last without the backslashes that quote.
+// Puts octets last without the backslashes that quote.
 fn push_unquoted(made: &mut Octets, octets: &[u8]) -> Result<(), Memory>
     ensures { OnOk result (made.new ≡ made.old ++ unquoted false octets.now) }
 {
@@ -189,7 +189,7 @@ fn push_unquoted(made: &mut Octets, octets: &[u8]) -> Result<(), Memory>
     Ok(())
 }
 
-/// Puts what a token says last.
+// Puts what a token says last.
 fn push_content(made: &mut Octets, lexeme: Lexeme<'_>) -> Result<(), Memory>
     ensures { OnOk result (made.new ≡ made.old ++ content_of (value_of lexeme.entry)) }
 {

@@ -16,8 +16,6 @@ mod rewriting;
 mod served;
 pub mod served_paths;
 pub mod small_lists;
-#[cfg(test)]
-mod tests;
 pub mod writing;
 mod written_groups;
 mod written_mailboxes;

@@ -8,7 +8,7 @@ ghost use Rattle.address_lists.specs.ListSteps.{AddsMailbox, AddsPlace, AddsTree
 ghost use Rattle.address_lists.specs.Views.{values_of};
 ghost use Rattle.address_lists.specs.ListViews.{mailbox_values, element_value, element_values, trees_of};
 
-use crate::lexemes::{Lexeme, are_blank, lacks_mark, lexemes_of, read_tokens, split_at_mark};
+use crate::lexemes::{Lexeme, are_blank, lacks_mark, lexemes_of, mail_tokens, split_at_mark};
 use crate::mailboxes::read_mailbox;
 use crate::phrases::{is_phrase, read_phrase};
 use crate::places::find_comma;
@@ -32,7 +32,7 @@ fn push_mailbox(
     Ok(())
 }
 
-/// Mailboxes divided by commas.
+// Mailboxes divided by commas.
 fn read_mailboxes(alloc: Global, lexemes: &[Lexeme<'_>]) -> Result<Vec<Mailbox>, AddressFault>
     ensures ok { IfOk result (λ made. AreDivided IsOneMailbox (values_of lexemes.now) (mailbox_values made.items)) }
     ensures malformed { result ≡ Err AddressFault.Malformed → (ms : List MailboxValue) → ¬ AreDivided IsOneMailbox (values_of lexemes.now) ms }
@@ -51,7 +51,7 @@ fn read_mailboxes(alloc: Global, lexemes: &[Lexeme<'_>]) -> Result<Vec<Mailbox>,
     }
 }
 
-/// The members of a group.
+// The members of a group.
 fn read_members(alloc: Global, lexemes: &[Lexeme<'_>]) -> Result<Mailboxes, AddressFault>
     ensures ok { IfOk result (λ made. AreMembers (values_of lexemes.now) (mailbox_values made)) }
     ensures malformed { result ≡ Err AddressFault.Malformed → (ms : List MailboxValue) → ¬ AreMembers (values_of lexemes.now) ms }
@@ -63,8 +63,8 @@ fn read_members(alloc: Global, lexemes: &[Lexeme<'_>]) -> Result<Mailboxes, Addr
     Ok(Mailboxes::from_vec(members))
 }
 
-/// What stands before the first colon, and what stands behind it, where no angle bracket opens before it: a group's name,
-/// and its members.
+// What stands before the first colon, and what stands behind it, where no angle bracket opens before it: a group's name,
+// and its members.
 fn split_name<'a, 'b>(lexemes: &'b [Lexeme<'a>]) -> Option<(&'b [Lexeme<'a>], &'b [Lexeme<'a>])>
     ensures found { IfSome result (λ x. SplitsName (values_of lexemes.now) (values_of x.0.now) (values_of x.1.now)) }
     ensures none { IfNone result ((before behind : List TokenValue) → ¬ SplitsName (values_of lexemes.now) before behind) }
@@ -79,7 +79,7 @@ fn split_name<'a, 'b>(lexemes: &'b [Lexeme<'a>]) -> Option<(&'b [Lexeme<'a>], &'
     }
 }
 
-/// The group of this name, of what stands behind its colon.
+// The group of this name, of what stands behind its colon.
 fn read_group(
     alloc: Global,
     name: &[Lexeme<'_>],
@@ -125,7 +125,7 @@ pub(crate) fn read_element(alloc: Global, lexemes: &[Lexeme<'_>]) -> Result<Elem
     }
 }
 
-/// Puts the element of a place last, if it has one.
+// Puts the element of a place last, if it has one.
 fn push_place(
     alloc: Global,
     made: &mut Vec<Element>,
@@ -144,7 +144,7 @@ fn push_place(
     Ok(())
 }
 
-/// Places divided by commas.
+// Places divided by commas.
 fn read_elements(alloc: Global, lexemes: &[Lexeme<'_>]) -> Result<Vec<Element>, AddressFault>
     ensures ok { IfOk result (λ made. AreDivided SaysPlace (values_of lexemes.now) (element_values made.items)) }
     ensures malformed { result ≡ Err AddressFault.Malformed → (es : List ElementValue) → ¬ AreDivided SaysPlace (values_of lexemes.now) es }
@@ -186,7 +186,7 @@ fn push_comment(
     }
 }
 
-/// The comments among tokens.
+// The comments among tokens.
 fn read_comments(alloc: Global, text: &[u8], tokens: &[Token]) -> Result<Vec<Comment>, Memory>
     requires { HasTokens Mail text.now tokens.now }
     ensures { IfOk result (λ made. HaveTrees text.now (comments_of tokens.now) (trees_of made.items)) }
@@ -205,7 +205,7 @@ pub fn read_list(alloc: Global, text: &[u8]) -> Result<AddressList, AddressFault
     ensures exact { (elements : List ElementValue) (comments : List Tree) → HasAddresses text.now elements comments
         → MatchResult result (IsListOf elements comments) (λ fault. fault ≡ AddressFault.Memory) }
 {
-    let found = read_tokens(alloc, text)?;
+    let found = mail_tokens(alloc, text)?;
     let Ok(lexemes) = lexemes_of(alloc, text, &found) else {
         return Err(AddressFault::Memory);
     };

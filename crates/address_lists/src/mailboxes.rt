@@ -13,7 +13,7 @@ use crate::phrases::{is_phrase, read_phrase};
 use crate::{Address, AddressFault, Mailbox, Units};
 use std::alloc::Global;
 
-/// `@` and a domain of a route.
+// `@` and a domain of a route.
 fn is_hop(lexemes: &[Lexeme<'_>]) -> bool
     ensures { IsTrue result ↔ IsHop (values_of lexemes.now) }
 {
@@ -40,7 +40,7 @@ fn is_route(lexemes: &[Lexeme<'_>]) -> bool
     }
 }
 
-/// An address, behind a route or by itself. The route is dropped.
+// An address, behind a route or by itself. The route is dropped.
 fn read_routed(alloc: Global, lexemes: &[Lexeme<'_>]) -> Result<Address, AddressFault>
     ensures ok { IfOk result (IsRoutedOrNot (values_of lexemes.now)) }
     ensures malformed { result ≡ Err AddressFault.Malformed → (address : Address) → ¬ IsRoutedOrNot (values_of lexemes.now) address }
@@ -57,7 +57,7 @@ fn read_routed(alloc: Global, lexemes: &[Lexeme<'_>]) -> Result<Address, Address
     }
 }
 
-/// The phrase before angle brackets, and whether there is one.
+// The phrase before angle brackets, and whether there is one.
 fn read_display(alloc: Global, lexemes: &[Lexeme<'_>]) -> Result<(bool, Units), AddressFault>
     ensures ok { IfOk result (λ x. SaysPhrase (values_of lexemes.now) x.0 (unit_values x.1)) }
     ensures malformed { result ≡ Err AddressFault.Malformed → SaysNothing (values_of lexemes.now) }

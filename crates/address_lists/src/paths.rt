@@ -72,7 +72,7 @@ fn is_some_atom(octets: &[u8]) -> bool
     !octets.is_empty() && are_atom_octets(octets)
 }
 
-/// Atoms divided by dots.
+// Atoms divided by dots.
 fn is_dot_atom(octets: &[u8]) -> bool
     ensures { result ≡ is_dot_atom_of octets.now }
 {
@@ -110,7 +110,7 @@ fn push_local(made: &mut Octets, local: &[u8]) -> Result<(), Memory>
     }
 }
 
-/// Puts the text of an address last.
+// Puts the text of an address last.
 pub(crate) fn push_address(made: &mut Octets, address: &Address) -> Result<(), Memory>
     ensures { OnOk result (made.new ≡ made.old ++ address_text address.now) }
 {

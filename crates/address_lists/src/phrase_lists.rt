@@ -19,7 +19,7 @@ use crate::writing::write_phrase;
 use mail_wire::values::{Memory, Octets};
 use std::alloc::Global;
 
-/// Puts the pieces of the phrase in a place last.
+// Puts the pieces of the phrase in a place last.
 fn push_phrase(
     alloc: Global,
     lexemes: &[Lexeme<'_>],
@@ -47,7 +47,7 @@ fn push_comma(alloc: Global, pieces: &mut Vec<Octets>) -> Result<(), Memory>
     Ok(())
 }
 
-/// The pieces of phrases divided by commas.
+// The pieces of phrases divided by commas.
 fn write_phrases(alloc: Global, lexemes: &[Lexeme<'_>]) -> Result<Vec<Octets>, AddressFault>
     requires utf8 { AllByRecursion IsUtf8Item (phrase_items (values_of lexemes.now)) }
     requires comments { AreWritableComments (comments_of (values_of lexemes.now)) }
@@ -79,46 +79,4 @@ pub fn rewrite_phrases(alloc: Global, text: &[u8]) -> Result<Vec<Octets>, Addres
 {
     let lexemes = read_lexemes(alloc, text)?;
     write_phrases(alloc, &lexemes)
-}
-
-#[cfg(test)]
-mod tests {
-    use super::*;
-    use std::test::Fail;
-
-    fn is_written(rt: &HostRuntime, text: &str, wanted: &[&str]) -> Result<bool, Fail> {
-        let pieces = rewrite_phrases(rt.alloc(), text.as_bytes()).map_err(|_| "fault")?;
-        if pieces.len() != wanted.len() {
-            return Ok(false);
-        }
-        for (at, piece) in wanted.iter().enumerate() {
-            if pieces[at].as_slice() != piece.as_bytes() {
-                return Ok(false);
-            }
-        }
-        Ok(true)
-    }
-
-    fn is_malformed(rt: &HostRuntime, text: &str) -> bool {
-        matches!(
-            rewrite_phrases(rt.alloc(), text.as_bytes()),
-            Err(AddressFault::Malformed)
-        )
-    }
-
-    #[test]
-    fn phrases_are_rewritten(rt: HostRuntime) -> Result<(), Fail> {
-        assert!(rt; is_written(&rt, "é, b", &["=?UTF-8?B?w6k=?=", ",", "b"])?);
-        assert!(rt; is_written(&rt, " a b ,\"é\"", &["a b", ",", "=?UTF-8?B?w6k=?="])?);
-        Ok(())
-    }
-
-    #[test]
-    fn others_are_malformed(rt: HostRuntime) -> Result<(), Fail> {
-        assert!(rt; is_malformed(&rt, "é,,b"));
-        assert!(rt; is_malformed(&rt, ""));
-        assert!(rt; is_malformed(&rt, "é,"));
-        assert!(rt; is_malformed(&rt, "a<b>"));
-        Ok(())
-    }
 }

@@ -15,7 +15,7 @@ use encoded_words::units::Merging;
 use mail_wire::values::Memory;
 use std::alloc::Global;
 
-/// Words, dots, gaps and comments.
+// Words, dots, gaps and comments.
 fn may_stand_in_phrase(lexeme: Lexeme<'_>) -> bool
     ensures { result ≡ may_stand_of (value_of lexeme.entry) }
 {
@@ -34,14 +34,14 @@ pub fn is_phrase(lexemes: &[Lexeme<'_>]) -> bool
     !are_blank(lexemes) && all_stand_in_phrase(lexemes)
 }
 
-/// One space where words stand apart.
+// One space where words stand apart.
 fn space(is_apart: bool) -> &'static [u8]
     ensures { result.now ≡ (if is_apart then 32 ∷ [] else []) }
 {
     if is_apart { b" " } else { b"" }
 }
 
-/// Takes a word and the run before it, and answers whether it is an encoded word.
+// Takes a word and the run before it, and answers whether it is an encoded word.
 fn push_part(
     alloc: Global,
     units: &mut Merging,
@@ -60,8 +60,8 @@ fn push_part(
     Ok(false)
 }
 
-/// The reader of the units of a phrase: whether a separator stands behind the last word, or nothing was read, and whether
-/// that word was an encoded word.
+// The reader of the units of a phrase: whether a separator stands behind the last word, or nothing was read, and whether
+// that word was an encoded word.
 #[derive(Drop)]
 struct PhraseReader {
     units: Merging,
@@ -82,21 +82,21 @@ impl PhraseReader {
         }
     }
 
-    /// Whether a space stands before the next word.
+    // Whether a space stands before the next word.
     fn is_apart(&self) -> bool
         ensures { result ≡ (self.now.is_free && not self.now.is_first) }
     {
         self.is_free && !self.is_first
     }
 
-    /// Whether the next word, before which the reader stands, may be an encoded word.
+    // Whether the next word, before which the reader stands, may be an encoded word.
     fn may_be_encoded(&self, lexeme: Lexeme<'_>, is_next_free: bool) -> bool
         ensures { result ≡ ((self.now.is_free && is_next_free) && is_atom_of (value_of lexeme.entry)) }
     {
         self.is_free && is_next_free && is_atom(lexeme)
     }
 
-    /// Takes the next token.
+    // Takes the next token.
     fn take(&mut self, alloc: Global, lexeme: Lexeme<'_>, is_next_free: bool) -> Result<(), Memory>
         requires { may_stand_of (value_of lexeme) ≡ true }
         ensures { OnOk result (TakesToken self.old self.new (value_of lexeme.entry) is_next_free) }
@@ -121,7 +121,7 @@ impl PhraseReader {
         Ok(())
     }
 
-    /// The units that were read.
+    // The units that were read.
     fn finish(self, alloc: Global) -> Result<Vec<Unit>, Memory>
         ensures { IfOk result (λ made. unit_values made.items ≡ units_then self.units []) }
     {
@@ -131,7 +131,7 @@ impl PhraseReader {
     }
 }
 
-/// Whether the tokens begin with a gap or a comment, or there are none.
+// Whether the tokens begin with a gap or a comment, or there are none.
 fn begins_free(lexemes: &[Lexeme<'_>]) -> bool
     ensures { result ≡ begins_free_of (phrase_items (values_of lexemes.now)) }
 {

@@ -5,8 +5,8 @@ ghost use Rattle.address_lists.specs.Views.{value_of, values_of};
 
 use crate::lexemes::{Lexeme, is_mark};
 
-/// What is awaited behind a token: where nothing is, `>` behind `<` and `;` behind `:`. A comma that ends the place gives
-/// nothing.
+// What is awaited behind a token: where nothing is, `>` behind `<` and `;` behind `:`. A comma that ends the place gives
+// nothing.
 fn awaited_behind(awaited: Option<u8>, lexeme: Lexeme<'_>) -> Option<Option<u8>>
     ensures { result ≡ awaited_behind_of awaited (value_of lexeme.entry) }
 {

@@ -22,7 +22,7 @@ use crate::{AddressFault, Element};
 use mail_wire::values::{Memory, Octets};
 use std::alloc::Global;
 
-/// Puts the pieces of an element last.
+// Puts the pieces of an element last.
 fn write_element(
     alloc: Global,
     lexemes: &[Lexeme<'_>],
@@ -44,7 +44,7 @@ fn write_element(
     }
 }
 
-/// Puts the pieces of a place last: those of its element, or its comments.
+// Puts the pieces of a place last: those of its element, or its comments.
 fn write_place(
     alloc: Global,
     lexemes: &[Lexeme<'_>],
@@ -67,7 +67,7 @@ fn write_place(
     Ok(())
 }
 
-/// Whether a token stands there that no empty place has.
+// Whether a token stands there that no empty place has.
 fn has_element(lexemes: &[Lexeme<'_>]) -> bool
     ensures { result ≡ list_any (λ l. is_element_token (value_of l)) lexemes.now }
 {
@@ -76,15 +76,15 @@ fn has_element(lexemes: &[Lexeme<'_>]) -> bool
         .any(|lexeme| !(is_blank(*lexeme) || is_mark(*lexeme, b',')))
 }
 
-/// Whether an element stands in a place, and another one behind it. The time over a whole list is linear: no token is looked
-/// at for two elements.
+// Whether an element stands in a place, and another one behind it. The time over a whole list is linear: no token is looked
+// at for two elements.
 fn is_followed(place: &[Lexeme<'_>], behind: &[Lexeme<'_>]) -> bool
     ensures { result ≡ (not (are_blank_of (values_of place.now)) && list_any is_element_token (values_of behind.now)) }
 {
     !are_blank(place) && has_element(behind)
 }
 
-/// Puts the pieces of a place last that a comma ends, and puts a comma behind an element that another follows.
+// Puts the pieces of a place last that a comma ends, and puts a comma behind an element that another follows.
 fn write_followed(
     alloc: Global,
     place: &[Lexeme<'_>],
@@ -105,7 +105,7 @@ fn write_followed(
     Ok(())
 }
 
-/// The pieces of places divided by commas.
+// The pieces of places divided by commas.
 fn write_places(alloc: Global, lexemes: &[Lexeme<'_>]) -> Result<Vec<Octets>, AddressFault>
     requires { CanBeWritten (values_of lexemes.now) }
     ensures ok { IfOk result (λ pieces. GivesPlaces (values_of lexemes.now) pieces.items) }
@@ -133,122 +133,4 @@ pub fn rewrite_list(alloc: Global, text: &[u8]) -> Result<Vec<Octets>, AddressFa
 {
     let lexemes = read_lexemes(alloc, text)?;
     write_places(alloc, &lexemes)
-}
-
-#[cfg(test)]
-mod tests {
-    use super::*;
-    use std::test::Fail;
-
-    fn is_written(rt: &HostRuntime, text: &str, wanted: &[&str]) -> Result<bool, Fail> {
-        let pieces = rewrite_list(rt.alloc(), text.as_bytes()).map_err(|_| "fault")?;
-        if pieces.len() != wanted.len() {
-            return Ok(false);
-        }
-        for (at, piece) in wanted.iter().enumerate() {
-            if pieces[at].as_slice() != piece.as_bytes() {
-                return Ok(false);
-            }
-        }
-        Ok(true)
-    }
-
-    fn is_malformed(rt: &HostRuntime, text: &str) -> bool {
-        matches!(
-            rewrite_list(rt.alloc(), text.as_bytes()),
-            Err(AddressFault::Malformed)
-        )
-    }
-
-    #[test]
-    fn mailboxes_are_rewritten(rt: HostRuntime) -> Result<(), Fail> {
-        assert!(rt;
-            is_written(
-                &rt,
-                "José <josé@example.com>",
-                &["=?UTF-8?B?Sm9zw6kgam9zw6lAZXhhbXBsZS5jb20=?=", ":;"]
-            )?
-        );
-        assert!(rt;
-            is_written(
-                &rt,
-                "Ann <a@bücher.example>, (x) b@example.com",
-                &["Ann", "<a@xn--bcher-kva.example>,", "(x) b@example.com"]
-            )?
-        );
-        assert!(rt; is_written(&rt, "a.<a@é>", &["a.", "<a@xn--9ca>"])?);
-        assert!(rt; is_written(&rt, "\"\"@é", &["\"\"@xn--9ca"])?);
-        assert!(rt; is_written(&rt, "\".\"@é", &["\".\"@xn--9ca"])?);
-        assert!(rt;
-            is_written(
-                &rt,
-                "(x) é (y) é <a@b> (z)",
-                &["=?UTF-8?B?w6kgw6k=?=", "(x)", "(y)", "<a@b>", "(z)"]
-            )?
-        );
-        assert!(rt; is_written(&rt, "a@é,", &["a@xn--9ca"])?);
-        assert!(rt; is_written(&rt, "a@é, (x)", &["a@xn--9ca", "(x)"])?);
-        assert!(rt;
-            is_written(
-                &rt,
-                ",a@b (x),, (é), <c@d>,",
-                &["a@b (x),", "(", "=?UTF-8?B?w6k=?=", ")", "<c@d>"]
-            )?
-        );
-        Ok(())
-    }
-
-    #[test]
-    fn groups_are_rewritten(rt: HostRuntime) -> Result<(), Fail> {
-        assert!(rt;
-            is_written(
-                &rt,
-                "x: josé@example.com, b@example.com;",
-                &[
-                    "=?UTF-8?B?eCBqb3PDqUBleGFtcGxlLmNvbSwgYkBleGFtcGxlLmNvbQ==?=",
-                    ":;"
-                ]
-            )?
-        );
-        assert!(rt;
-            is_written(
-                &rt,
-                "Team: a@bücher.example;",
-                &["Team", ":", "a@xn--bcher-kva.example", ";"]
-            )?
-        );
-        assert!(rt;
-            is_written(
-                &rt,
-                "(é)\"\":;",
-                &["\"\"", "(", "=?UTF-8?B?w6k=?=", ")", ":", ";"]
-            )?
-        );
-        assert!(rt; is_written(&rt, "é: (x) ;", &["=?UTF-8?B?w6k=?=", ":", "(x)", ";"])?);
-        assert!(rt;
-            is_written(
-                &rt,
-                "é: a <b@c> (x) , d@é; (y), e@f",
-                &[
-                    "=?UTF-8?B?w6k=?=",
-                    ":",
-                    "a <b@c> (x),",
-                    "d@xn--9ca",
-                    ";",
-                    "(y),",
-                    "e@f"
-                ]
-            )?
-        );
-        Ok(())
-    }
-
-    #[test]
-    fn others_are_malformed(rt: HostRuntime) -> Result<(), Fail> {
-        assert!(rt; is_malformed(&rt, "é"));
-        assert!(rt; is_malformed(&rt, "a@é, b"));
-        assert!(rt; is_malformed(&rt, "é: a@b,;"));
-        assert!(rt; is_malformed(&rt, "a@é <"));
-        Ok(())
-    }
 }

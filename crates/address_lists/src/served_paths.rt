@@ -1,9 +1,11 @@
 //! The rewriting of paths.
 ghost use Rattle.std.specs.Prelude.{ℕ, List, IfOk, IfSome, IfNone};
-ghost use Rattle.address_lists.specs.PathPieces.{PathPieces, ServesPath};
+ghost use Rattle.address_lists.specs.Lexemes.{HasTokenValues};
+ghost use Rattle.address_lists.specs.PathPieces.{PathPieces, ServesPath, HasSomeTokens};
+ghost use Rattle.address_lists.specs.Views.{values_of};
 ghost use Rattle.address_lists.specs.declared.Address.{Address};
 
-use crate::lexemes::read_lexemes;
+use crate::lexemes::{Lexeme, read_lexemes};
 use crate::paths::read_path;
 use crate::served::served;
 use crate::writing::write_comments;
@@ -12,7 +14,7 @@ use crate::{Address, AddressFault};
 use mail_wire::values::{Memory, Octets};
 use std::alloc::Global;
 
-/// The address of a path, as it is served.
+// The address of a path, as it is served.
 fn served_path(alloc: Global, text: &[u8]) -> Result<Option<Address>, Memory>
     ensures some { IfOk result (λ o. IfSome o (ServesPath text.now)) }
     ensures none { IfOk result (λ o. IfNone o ((served : Address) → ¬ ServesPath text.now served)) }
@@ -25,14 +27,24 @@ fn served_path(alloc: Global, text: &[u8]) -> Result<Option<Address>, Memory>
     }
 }
 
-/// The pieces of a path whose address is served so.
+// The tokens of a text that is known to have some, by their octets.
+fn known_lexemes<'a>(alloc: Global, text: &'a [u8]) -> Result<Vec<Lexeme<'a>>, Memory>
+    requires { HasSomeTokens text.now }
+    ensures { IfOk result (λ lexemes. HasTokenValues text.now (values_of lexemes.items)) }
+{
+    match read_lexemes(alloc, text) {
+        Ok(lexemes) => Ok(lexemes),
+        Err(AddressFault::Malformed) => unreachable!(),
+        Err(AddressFault::Memory) => Err(Memory),
+    }
+}
+
+// The pieces of a path whose address is served so.
 fn path_pieces(alloc: Global, text: &[u8], served: &Address) -> Result<Vec<Octets>, Memory>
     requires { ServesPath text.now served.now }
     ensures { IfOk result (λ pieces. PathPieces text.now pieces.items) }
 {
-    let Ok(lexemes) = read_lexemes(alloc, text) else {
-        return Err(Memory);
-    };
+    let lexemes = known_lexemes(alloc, text)?;
     let mut pieces = Vec::new(alloc);
     push_angled(alloc, served, &mut pieces)?;
     write_comments(alloc, &lexemes, &mut pieces)?;
@@ -49,58 +61,4 @@ pub fn rewrite_path(alloc: Global, text: &[u8]) -> Result<Option<Vec<Octets>>, M
     };
     let pieces = path_pieces(alloc, text, &address)?;
     Ok(Some(pieces))
-}
-
-#[cfg(test)]
-mod tests {
-    use super::*;
-    use std::test::Fail;
-
-    fn has_pieces(alloc: Global, text: &str, wanted: &[&str]) -> Result<bool, Fail> {
-        let found = rewrite_path(alloc, text.as_bytes()).map_err(|_| "memory")?;
-        let Some(pieces) = found else {
-            return Ok(false);
-        };
-        if pieces.len() != wanted.len() {
-            return Ok(false);
-        }
-        for (piece, octets) in pieces.iter().zip(wanted) {
-            if piece.as_slice() != octets.as_bytes() {
-                return Ok(false);
-            }
-        }
-        Ok(true)
-    }
-
-    fn has_none(alloc: Global, text: &str) -> Result<bool, Fail> {
-        let found = rewrite_path(alloc, text.as_bytes()).map_err(|_| "memory")?;
-        Ok(found.is_none())
-    }
-
-    #[test]
-    fn paths_are_served(rt: HostRuntime) -> Result<(), Fail> {
-        assert!(rt;
-            has_pieces(
-                rt.alloc(),
-                "<a@bücher.example>",
-                &["<a@xn--bcher-kva.example>"]
-            )?
-        );
-        assert!(rt;
-            has_pieces(
-                rt.alloc(),
-                "(é)<a@b>(c)",
-                &["<a@b>", "(", "=?UTF-8?B?w6k=?=", ")", "(c)"]
-            )?
-        );
-        Ok(())
-    }
-
-    #[test]
-    fn some_paths_have_no_pieces(rt: HostRuntime) -> Result<(), Fail> {
-        assert!(rt; has_none(rt.alloc(), "<é@x>")?);
-        assert!(rt; has_none(rt.alloc(), "<>(é)")?);
-        assert!(rt; has_none(rt.alloc(), "a@bücher.example")?);
-        Ok(())
-    }
 }

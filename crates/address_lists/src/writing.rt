@@ -5,7 +5,7 @@ ghost use Rattle.mail_wire.specs.Octets.{is_ascii as is_ascii_octet};
 ghost use Rattle.encoded_words.specs.PhraseUnits.{IsUtf8Item};
 ghost use Rattle.encoded_words.specs.Written.{AreWritable};
 ghost use Rattle.field_tokens.specs.Comments.{AreWritableComments, CommentsPieces, AddsPieces};
-ghost use Rattle.field_tokens.specs.Squeezed.{is_gap as is_gap_kind, is_comment as is_comment_kind, octets_of, comments_of};
+ghost use Rattle.field_tokens.specs.Squeezed.{is_gap as is_gap_kind, octets_of, comments_of};
 ghost use Rattle.address_lists.specs.Phrases.{IsPhrase, phrase_items};
 ghost use Rattle.address_lists.specs.PhrasePieces.{UnitsPieces, PhrasePieces, HasCore, PlacePieces};
 ghost use Rattle.address_lists.specs.PhraseSteps.{SkipsGaps, SplitsTrail};
@@ -16,8 +16,8 @@ use crate::lexemes::{Lexeme, is_blank};
 use crate::phrases::read_phrase;
 use encoded_words::Unit;
 use encoded_words::writing::write_units;
-use field_tokens::TokenKind;
 use field_tokens::comments::write_comment;
+use field_tokens::{TokenKind, is_comment};
 use mail_wire::text::is_ascii;
 use mail_wire::values::{Memory, Octets};
 use std::alloc::Global;
@@ -28,19 +28,13 @@ pub(crate) fn is_gap(lexeme: Lexeme<'_>) -> bool
     matches!(lexeme.kind, TokenKind::Gap)
 }
 
-fn is_comment(lexeme: Lexeme<'_>) -> bool
-    ensures { result ≡ is_comment_kind (value_of lexeme.entry).kind }
-{
-    matches!(lexeme.kind, TokenKind::Comment)
-}
-
 fn find_start(lexemes: &[Lexeme<'_>]) -> Option<usize>
     ensures { result ≡ position (λ l. not (is_gap_kind (value_of l).kind)) lexemes.now }
 {
     lexemes.iter().position(|lexeme| !is_gap(*lexeme))
 }
 
-/// What stands behind the gaps in front.
+// What stands behind the gaps in front.
 pub(crate) fn behind_gaps<'a, 'b>(lexemes: &'b [Lexeme<'a>]) -> &'b [Lexeme<'a>]
     ensures { SkipsGaps (values_of lexemes.now) (values_of result.now) }
 {
@@ -50,7 +44,7 @@ pub(crate) fn behind_gaps<'a, 'b>(lexemes: &'b [Lexeme<'a>]) -> &'b [Lexeme<'a>]
     &lexemes[at..]
 }
 
-/// What goes to the last token that is neither gap nor comment, and what stands behind it.
+// What goes to the last token that is neither gap nor comment, and what stands behind it.
 fn split_trail<'a, 'b>(lexemes: &'b [Lexeme<'a>]) -> (&'b [Lexeme<'a>], &'b [Lexeme<'a>])
     ensures { SplitsTrail (values_of lexemes.now) (values_of result.0.now) (values_of result.1.now) }
 {
@@ -61,7 +55,7 @@ fn split_trail<'a, 'b>(lexemes: &'b [Lexeme<'a>]) -> (&'b [Lexeme<'a>], &'b [Lex
     lexemes.split_at(end)
 }
 
-/// The phrase from its first token that is no gap to its last word, and the gaps and comments behind it.
+// The phrase from its first token that is no gap to its last word, and the gaps and comments behind it.
 pub(crate) fn split_core<'a, 'b>(lexemes: &'b [Lexeme<'a>]) -> (&'b [Lexeme<'a>], &'b [Lexeme<'a>])
     requires { IsPhrase (values_of lexemes.now) }
     ensures { HasCore (values_of lexemes.now) (values_of result.0.now) (values_of result.1.now) }
@@ -69,7 +63,7 @@ pub(crate) fn split_core<'a, 'b>(lexemes: &'b [Lexeme<'a>]) -> (&'b [Lexeme<'a>]
     split_trail(behind_gaps(lexemes))
 }
 
-/// The octets of tokens, one behind another.
+// The octets of tokens, one behind another.
 pub(crate) fn joined(alloc: Global, lexemes: &[Lexeme<'_>]) -> Result<Octets, Memory>
     ensures { IfOk result (λ made. made ≡ octets_of (values_of lexemes.now)) }
 {
@@ -80,7 +74,7 @@ pub(crate) fn joined(alloc: Global, lexemes: &[Lexeme<'_>]) -> Result<Octets, Me
     Ok(made)
 }
 
-/// Puts the pieces of units last, or an empty quoted string where there are none.
+// Puts the pieces of units last, or an empty quoted string where there are none.
 fn push_units(alloc: Global, units: &[Unit], pieces: &mut Vec<Octets>) -> Result<(), Memory>
     requires { AreWritable (unit_values units.now) }
     ensures { OnOk result (AddsPieces (UnitsPieces (unit_values units.now)) pieces.old.items pieces.new.items) }
@@ -93,7 +87,7 @@ fn push_units(alloc: Global, units: &[Unit], pieces: &mut Vec<Octets>) -> Result
     write_units(alloc, units, pieces)
 }
 
-/// Puts the pieces of the comments among the tokens last.
+// Puts the pieces of the comments among the tokens last.
 pub(crate) fn write_comments(
     alloc: Global,
     lexemes: &[Lexeme<'_>],
@@ -103,14 +97,14 @@ pub(crate) fn write_comments(
     ensures { OnOk result (AddsPieces (CommentsPieces (comments_of (values_of lexemes.now))) pieces.old.items pieces.new.items) }
 {
     for lexeme in lexemes {
-        if is_comment(*lexeme) {
+        if is_comment(lexeme.kind) {
             write_comment(alloc, lexeme.octets, pieces)?;
         }
     }
     Ok(())
 }
 
-/// Puts the pieces of what a phrase says last, and those of the comments in it.
+// Puts the pieces of what a phrase says last, and those of the comments in it.
 fn push_said(alloc: Global, lexemes: &[Lexeme<'_>], pieces: &mut Vec<Octets>) -> Result<(), Memory>
     requires phrase { IsPhrase (values_of lexemes.now) }
     requires utf8 { AllByRecursion IsUtf8Item (phrase_items (values_of lexemes.now)) }
@@ -122,7 +116,7 @@ fn push_said(alloc: Global, lexemes: &[Lexeme<'_>], pieces: &mut Vec<Octets>) ->
     write_comments(alloc, lexemes, pieces)
 }
 
-/// Puts the pieces of a phrase last that ends with its last word.
+// Puts the pieces of a phrase last that ends with its last word.
 pub(crate) fn push_core(
     alloc: Global,
     lexemes: &[Lexeme<'_>],
@@ -155,49 +149,4 @@ pub fn write_phrase(
     let (core, trail) = split_core(lexemes);
     push_core(alloc, core, pieces)?;
     write_comments(alloc, trail, pieces)
-}
-
-#[cfg(test)]
-mod tests {
-    use super::*;
-    use crate::lexemes::read_lexemes;
-    use crate::phrases::is_phrase;
-    use std::test::Fail;
-
-    fn is_written(rt: &HostRuntime, text: &str, wanted: &[&str]) -> Result<bool, Fail> {
-        let Ok(lexemes) = read_lexemes(rt.alloc(), text.as_bytes()) else {
-            return Ok(false);
-        };
-        if !is_phrase(&lexemes) {
-            return Ok(false);
-        }
-        let mut pieces = Vec::new(rt.alloc());
-        write_phrase(rt.alloc(), &lexemes, &mut pieces).map_err(|_| "memory")?;
-        if pieces.len() != wanted.len() {
-            return Ok(false);
-        }
-        for (at, piece) in wanted.iter().enumerate() {
-            if pieces[at].as_slice() != piece.as_bytes() {
-                return Ok(false);
-            }
-        }
-        Ok(true)
-    }
-
-    #[test]
-    fn phrases_are_written(rt: HostRuntime) -> Result<(), Fail> {
-        assert!(rt; is_written(&rt, "é", &["=?UTF-8?B?w6k=?="])?);
-        assert!(rt; is_written(&rt, " a b ", &["a b"])?);
-        assert!(rt;
-            is_written(
-                &rt,
-                "é =?x?Q?a?= b",
-                &["=?UTF-8?B?w6kg?=", "=?x?Q?a?=", "=?UTF-8?B?IGI=?="]
-            )?
-        );
-        assert!(rt; is_written(&rt, "\"\"é", &["=?UTF-8?B?w6k=?="])?);
-        assert!(rt; is_written(&rt, " \"é\" ", &["=?UTF-8?B?w6k=?="])?);
-        assert!(rt; is_written(&rt, "\"\" . a", &["\"\" . a"])?);
-        Ok(())
-    }
 }

@@ -1,13 +1,12 @@
 //! The writer of groups.
-ghost use Rattle.std.specs.Prelude.{◌≡◌, ◌∷◌, ◌++◌, [], OnOk};
+ghost use Rattle.std.specs.Prelude.{◌≡◌, ◌∷◌, ◌++◌, [], IfOk, OnOk};
 ghost use Rattle.field_tokens.specs.Comments.{AddsPieces};
-ghost use Rattle.address_lists.specs.AddressLists.{IsGroup};
+ghost use Rattle.address_lists.specs.AddressLists.{IsMailbox, IsGroup};
 ghost use Rattle.address_lists.specs.ListPieces.{InnerPieces, GroupPieces};
-ghost use Rattle.address_lists.specs.ListWriting.{CanBeWritten, IsPlainGroup, GivesMember, GivesMembers};
+ghost use Rattle.address_lists.specs.ListWriting.{CanBeWritten, IsPlainGroup, IsSomeMailbox, AreSomeMailboxes, AreSomeMembers, GivesMember, GivesMembers};
 ghost use Rattle.address_lists.specs.Views.{values_of};
-ghost use Rattle.address_lists.specs.ListViews.{unit_values, mailbox_values};
+ghost use Rattle.address_lists.specs.ListViews.{unit_values, mailbox_value, mailbox_values};
 
-use crate::Mailbox;
 use crate::ascii_texts::{are_ascii, push_comma, write_text};
 use crate::emptied::{group_units, write_emptied};
 use crate::lexemes::{Lexeme, are_blank, split_at_mark};
@@ -16,35 +15,48 @@ use crate::places::find_comma;
 use crate::served::are_plain;
 use crate::writing::{write_comments, write_phrase};
 use crate::written_mailboxes::write_mailbox;
+use crate::{AddressFault, Mailbox};
 use encoded_words::Unit;
 use mail_wire::values::{Memory, Octets};
 use std::alloc::Global;
 
-/// Puts the pieces of a member last. It was read before, so only memory can lack.
+// The mailbox that tokens are, which are known to be one.
+fn read_member(alloc: Global, lexemes: &[Lexeme<'_>]) -> Result<Mailbox, Memory>
+    requires { IsSomeMailbox (values_of lexemes.now) }
+    ensures { IfOk result (λ m. IsMailbox (values_of lexemes.now) (mailbox_value m)) }
+{
+    match read_mailbox(alloc, lexemes) {
+        Ok(mailbox) => Ok(mailbox),
+        Err(AddressFault::Malformed) => unreachable!(),
+        Err(AddressFault::Memory) => Err(Memory),
+    }
+}
+
+// Puts the pieces of a member last.
 fn write_member(
     alloc: Global,
     lexemes: &[Lexeme<'_>],
     pieces: &mut Vec<Octets>,
 ) -> Result<(), Memory>
-    requires { CanBeWritten (values_of lexemes.now) }
+    requires writable { CanBeWritten (values_of lexemes.now) }
+    requires member { IsSomeMailbox (values_of lexemes.now) }
     ensures { OnOk result (AddsPieces (GivesMember (values_of lexemes.now)) pieces.old.items pieces.new.items) }
 {
-    let Ok(mailbox) = read_mailbox(alloc, lexemes) else {
-        return Err(Memory);
-    };
+    let mailbox = read_member(alloc, lexemes)?;
     if are_ascii(lexemes) {
         return write_text(alloc, lexemes, pieces);
     }
     write_mailbox(alloc, lexemes, &mailbox, pieces)
 }
 
-/// Puts the pieces of members last, with a comma behind each but the last one.
+// Puts the pieces of members last, with a comma behind each but the last one.
 fn write_members(
     alloc: Global,
     lexemes: &[Lexeme<'_>],
     pieces: &mut Vec<Octets>,
 ) -> Result<(), Memory>
-    requires { CanBeWritten (values_of lexemes.now) }
+    requires writable { CanBeWritten (values_of lexemes.now) }
+    requires members { AreSomeMailboxes (values_of lexemes.now) }
     ensures { OnOk result (AddsPieces (GivesMembers (values_of lexemes.now)) pieces.old.items pieces.new.items) }
 {
     let mut start = 0;
@@ -60,13 +72,14 @@ fn write_members(
     }
 }
 
-/// Puts the pieces of what stands in a group last.
+// Puts the pieces of what stands in a group last.
 fn write_inner(
     alloc: Global,
     lexemes: &[Lexeme<'_>],
     pieces: &mut Vec<Octets>,
 ) -> Result<(), Memory>
-    requires { CanBeWritten (values_of lexemes.now) }
+    requires writable { CanBeWritten (values_of lexemes.now) }
+    requires members { AreSomeMembers (values_of lexemes.now) }
     ensures { OnOk result (AddsPieces (InnerPieces (values_of lexemes.now)) pieces.old.items pieces.new.items) }
 {
     if are_blank(lexemes) {
@@ -84,7 +97,7 @@ fn push_mark(alloc: Global, mark: u8, pieces: &mut Vec<Octets>) -> Result<(), Me
     Ok(())
 }
 
-/// Puts the pieces of a group last that is kept.
+// Puts the pieces of a group last that is kept.
 fn write_kept(alloc: Global, lexemes: &[Lexeme<'_>], pieces: &mut Vec<Octets>) -> Result<(), Memory>
     requires writable { CanBeWritten (values_of lexemes.now) }
     requires group { IsPlainGroup (values_of lexemes.now) }

@@ -28,7 +28,7 @@ fn push_bare(alloc: Global, address: &Address, pieces: &mut Vec<Octets>) -> Resu
     Ok(())
 }
 
-/// Puts an address in angle brackets last.
+// Puts an address in angle brackets last.
 pub(crate) fn push_angled(
     alloc: Global,
     address: &Address,
@@ -44,7 +44,7 @@ pub(crate) fn push_angled(
     Ok(())
 }
 
-/// Puts the pieces of a phrase last, an address in angle brackets, and the other comments.
+// Puts the pieces of a phrase last, an address in angle brackets, and the other comments.
 fn write_named(
     alloc: Global,
     before: &[Lexeme<'_>],
@@ -64,7 +64,7 @@ fn write_named(
     write_comments(alloc, behind, pieces)
 }
 
-/// Puts the pieces of a mailbox in angle brackets last.
+// Puts the pieces of a mailbox in angle brackets last.
 fn write_angled(
     alloc: Global,
     lexemes: &[Lexeme<'_>],
@@ -87,7 +87,7 @@ fn write_angled(
     write_comments(alloc, lexemes, pieces)
 }
 
-/// Puts the pieces of a mailbox last that is served so.
+// Puts the pieces of a mailbox last that is served so.
 fn write_served(
     alloc: Global,
     lexemes: &[Lexeme<'_>],

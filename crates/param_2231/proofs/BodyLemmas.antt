@@ -4,7 +4,7 @@ use Rattle.std.specs.Str.{str_to_ascii_lowercase}
 use Rattle.field_tokens.specs.declared.Style.TheVariants.{Mime}
 use Rattle.field_tokens.specs.declared.Token.{Token}
 use Rattle.field_tokens.specs.Tokens.{octets_at}
-use Rattle.field_tokens.specs.Squeezed.{run_octets}
+use Rattle.field_tokens.specs.Squeezed.{is_comment, run_octets}
 use Rattle.field_tokens.specs.Trees.{Tree}
 use Rattle.field_tokens.proofs.TokenLists.{HasTokens-once}
 use Rattle.field_tokens.proofs.BodyLemmas.{HasComment-once}
@@ -12,7 +12,7 @@ use Rattle.param_2231.specs.declared.ParamKind.{ParamKind}
 use Rattle.param_2231.specs.declared.Piece.{Piece}
 use Rattle.param_2231.specs.Escapes.{IsEscaped}
 use Rattle.param_2231.specs.Names.{NameParts}
-use Rattle.param_2231.specs.Bodies.{solid, is_comment, is_filled, content_of, IsParameterOf, is_first, SaysOctets, IsPieceOf, IsPiece, ArePieces, HaveComments, HasBody, IsBody}
+use Rattle.param_2231.specs.Bodies.{solid, is_filled, content_of, IsParameterOf, is_first, SaysOctets, IsPieceOf, IsPiece, ArePieces, HaveComments, HasBody, IsBody}
 use Rattle.param_2231.specs.Joining.{ParamValue, params_of, HasParams}
 use Rattle.param_2231.proofs.EscapeLemmas.{IsEscaped-once}
 use Rattle.param_2231.proofs.ExtendedLemmas.{IsExtended-once}

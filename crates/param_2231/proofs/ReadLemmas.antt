@@ -6,7 +6,7 @@ use Rattle.std.proofs.lemmas.List.{append-nil}
 use Rattle.field_tokens.specs.declared.Style.TheVariants.{Mime}
 use Rattle.field_tokens.specs.declared.Token.{Token}
 use Rattle.std.specs.Str.{str_to_ascii_lowercase}
-use Rattle.field_tokens.specs.Squeezed.{run_octets}
+use Rattle.field_tokens.specs.Squeezed.{is_comment, run_octets}
 use Rattle.field_tokens.specs.Tokens.{HasTokens}
 use Rattle.field_tokens.specs.Trees.{Tree}
 use Rattle.field_tokens.proofs.TokenLists.{HasTokens-once}
@@ -16,7 +16,7 @@ use Rattle.param_2231.specs.Escapes.{IsEscaped}
 use Rattle.param_2231.specs.Extended.{IsExtended}
 use Rattle.param_2231.specs.Names.{NameParts, HasNameParts}
 use Rattle.param_2231.specs.Given.{WritesBody}
-use Rattle.param_2231.specs.Bodies.{unquoted, is_main, is_comment, is_filled, HaveComments, IsBody, sections_of, solid, content_of, is_first, SaysOctets, SplitsSection, IsParameterOf, IsPieceOf, IsPiece, ArePieces, HasBody}
+use Rattle.param_2231.specs.Bodies.{unquoted, is_main, is_filled, HaveComments, IsBody, sections_of, solid, content_of, is_first, SaysOctets, SplitsSection, IsParameterOf, IsPieceOf, IsPiece, ArePieces, HasBody}
 use Rattle.param_2231.proofs.ExtendedLemmas.{IsExtended-once}
 use Rattle.param_2231.proofs.NameLemmas.{HasNameParts-once}
 use Rattle.param_2231.proofs.BodyLemmas.{piece_moved}

@@ -9,14 +9,14 @@ use Rattle.field_tokens.specs.declared.Style.TheVariants.{Mime}
 use Rattle.field_tokens.specs.declared.TokenKind.{TokenKind}
 use Rattle.field_tokens.specs.declared.TokenKind.TheVariants.{Atom, Quoted, Literal, Special, Gap, Comment}
 use Rattle.field_tokens.specs.Tokens.{TokenValue, tokens_from}
-use Rattle.field_tokens.specs.Squeezed.{octets_of, is_comment as is_comment_value, comments_of}
+use Rattle.field_tokens.specs.Squeezed.{octets_of, is_comment, comments_of}
 use Rattle.field_tokens.specs.Trees.{Body, Last, Before, body_octets, spelling, Tree, End, NestedThen, GivesRun, run_then, HasItems}
 use Rattle.field_tokens.specs.Comments.{CommentValue, CommentsSay, TextSays, BodySays}
 use Rattle.field_tokens.proofs.Parts.{octets_of-tokens}
 use Rattle.field_tokens.proofs.TokenLines.{comments_are_writable}
 use Rattle.field_tokens.proofs.CommentValues.{CommentsSay-some}
 use Rattle.param_2231.specs.declared.ParamKind.{ParamKind}
-use Rattle.param_2231.specs.Bodies.{is_comment, HaveComments}
+use Rattle.param_2231.specs.Bodies.{HaveComments}
 use Rattle.param_2231.specs.Joining.{ParamValue, HasParams, SaysParams}
 use Rattle.param_2231.proofs.ChangedTokens.{octets_between}
 
@@ -45,14 +45,6 @@ said_items at (Before text inner more) value says =
     let behind = said_items (at + length (spelling text) + length (body_octets inner) + 2) more says.2 says.5 in
     (run_then run.0 (NestedThen nested.0 behind.0), (run.0, nested.0, behind.0, run.1, nested.1, behind.1, refl))
 
-is_comment-value : (kind : TokenKind) → is_comment kind ≡ is_comment_value kind
-is_comment-value Atom = refl
-is_comment-value Quoted = refl
-is_comment-value Literal = refl
-is_comment-value Special = refl
-is_comment-value Gap = refl
-is_comment-value Comment = refl
-
 -- the comments among tokens by their places have trees where those by their octets say something
 said_trees : (text front rest : List ℕ) (at : ℕ) (ts : List TokenValue) (said : List CommentValue) → text ≡ front ++ (octets_of ts ++ rest) → at ≡ length front → CommentsSay (comments_of ts) said
     → (trees : List Tree) × HaveComments text (filter (λ token. is_comment token.kind) (tokens_from at ts)) trees
@@ -62,15 +54,15 @@ said_trees text front rest at (t ∷ ts) said e place says =
     let behind = said_trees text (front ++ t.octets) rest (at + length t.octets) ts in
     let onward = first ∙ sym (append_assoc front t.octets (octets_of ts ++ rest)) in
     let here : at + length t.octets ≡ length (front ++ t.octets) = omega (arith, place, length-append front t.octets) in
-    elim (cases_Bool (is_comment_value t.kind)) [
-      | inl comment ↦ by comment (is_comment-value t.kind ∙ comment) (octets_between front t.octets (octets_of ts ++ rest) text at first place) (rw (comment) at says) (λ more s. behind more onward here s)
-      | inr other ↦ rw (is_comment-value t.kind ∙ other) (behind said onward here (rw (other) at says))
+    elim (cases_Bool (is_comment t.kind)) [
+      | inl comment ↦ by comment (octets_between front t.octets (octets_of ts ++ rest) text at first place) (rw (comment) at says) (λ more s. behind more onward here s)
+      | inr other ↦ rw (other) (behind said onward here (rw (other) at says))
     ]
   where
-    by : is_comment_value t.kind ≡ true → is_comment t.kind ≡ true → take (length t.octets) (drop at text) ≡ t.octets → CommentsSay (t.octets ∷ comments_of ts) said
+    by : is_comment t.kind ≡ true → take (length t.octets) (drop at text) ≡ t.octets → CommentsSay (t.octets ∷ comments_of ts) said
         → ((more : List CommentValue) → CommentsSay (comments_of ts) more → (trees : List Tree) × HaveComments text (filter (λ token. is_comment token.kind) (tokens_from (at + length t.octets) ts)) trees)
         → (trees : List Tree) × HaveComments text (filter (λ token. is_comment token.kind) (tokens_from at (t ∷ ts))) trees
-    by comment is octets says more =
+    by is octets says more =
         let body = says.3.body in
         let tree = said_items (at + 1) body says.0 says.3.says in
         let others = more says.1 says.4 in

@@ -11,9 +11,10 @@ use Rattle.std.proofs.lemmas.List.Sums.{fails_before_first}
 use Rattle.field_tokens.specs.declared.Token.{Token}
 use Rattle.field_tokens.specs.declared.Comment.{Comment}
 use Rattle.field_tokens.specs.declared.TokenKind.TheVariants.{Atom}
+use Rattle.field_tokens.specs.Squeezed.{is_comment}
 use Rattle.field_tokens.specs.Trees.{Tree, tree_of}
 use Rattle.param_2231.specs.declared.Piece.{Piece}
-use Rattle.param_2231.specs.Bodies.{is_mark_at, sections_of, is_filled, is_comment, SplitsSection, ArePieces, HaveComments, PushesPiece, IsNoPiece, PushesComment}
+use Rattle.param_2231.specs.Bodies.{is_mark_at, sections_of, is_filled, SplitsSection, ArePieces, HaveComments, PushesPiece, IsNoPiece, PushesComment}
 use Rattle.param_2231.proofs.BodyLemmas.{IsPiece-once}
 
 abbrev pub no_token : Token

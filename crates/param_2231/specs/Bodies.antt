@@ -10,7 +10,7 @@ use Rattle.field_tokens.specs.declared.TokenKind.TheVariants.{Atom, Quoted, Lite
 use Rattle.field_tokens.specs.Tokens.{HasTokens, octets_at}
 use Rattle.field_tokens.specs.Trees.{Tree, tree_of, HasComment}
 use Rattle.field_tokens.specs.declared.Comment.{Comment as CommentOf}
-use Rattle.field_tokens.specs.Squeezed.{is_blank, run_octets}
+use Rattle.field_tokens.specs.Squeezed.{is_blank, is_comment, run_octets}
 use Rattle.param_2231.specs.declared.ParamKind.{ParamKind}
 use Rattle.param_2231.specs.declared.ParamKind.TheVariants.{Content, Disposition}
 use Rattle.param_2231.specs.declared.Piece.{Piece}
@@ -33,14 +33,6 @@ is_quoted Literal = false
 is_quoted Special = false
 is_quoted Gap = false
 is_quoted Comment = false
-
-abbrev pub is_comment : TokenKind → Bool
-is_comment Comment = true
-is_comment Atom = false
-is_comment Quoted = false
-is_comment Literal = false
-is_comment Special = false
-is_comment Gap = false
 
 -- the token is this octet alone
 abbrev pub is_mark_at : List ℕ → ℕ → Token → Bool

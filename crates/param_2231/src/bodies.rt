@@ -3,11 +3,11 @@ ghost use Rattle.std.specs.Prelude.{◌≡◌, ◌<◌, ◌||◌, ◌++◌, ℕ,
 ghost use Rattle.std.specs.Option.{option_copied};
 ghost use Rattle.field_tokens.specs.declared.Style.TheVariants.{Mime};
 ghost use Rattle.field_tokens.specs.declared.Token.{Token};
-ghost use Rattle.field_tokens.specs.Squeezed.{run_octets as run_octets_of};
+ghost use Rattle.field_tokens.specs.Squeezed.{is_comment as is_comment_of, run_octets as run_octets_of};
 ghost use Rattle.field_tokens.specs.Tokens.{HasTokens, IsTokenOf};
 ghost use Rattle.field_tokens.specs.Trees.{Tree, tree_of};
 ghost use Rattle.param_2231.specs.declared.Piece.{Piece};
-ghost use Rattle.param_2231.specs.Bodies.{inner as inner_of, unquoted as unquoted_of, content_of, are_quoted as are_quoted_of, are_plain as are_plain_of, solid as solid_of, is_main as is_main_of, is_comment as is_comment_of, is_filled as is_filled_of, sections_of, is_first as is_first_of, is_parameter as is_parameter_of, SaysOctets, IsParameterOf, IsPiece, IsPieceOf, ArePieces, HaveComments, IsBody, HasBody, PushesPiece, IsNoPiece, PushesComment};
+ghost use Rattle.param_2231.specs.Bodies.{inner as inner_of, unquoted as unquoted_of, content_of, are_quoted as are_quoted_of, are_plain as are_plain_of, solid as solid_of, is_main as is_main_of, is_filled as is_filled_of, sections_of, is_first as is_first_of, is_parameter as is_parameter_of, SaysOctets, IsParameterOf, IsPiece, IsPieceOf, ArePieces, HaveComments, IsBody, HasBody, PushesPiece, IsNoPiece, PushesComment};
 ghost use Rattle.param_2231.specs.Given.{WritesBody};
 
 use crate::escapes::read_escaped;
@@ -19,11 +19,11 @@ use crate::tokens::{
 };
 use crate::{Body, ParamFault, ParamKind, Piece, Pieces};
 use encoded_words::word::lower_case;
-use field_tokens::{Comment, Style, Token, TokenFault, TokenKind, comment_tree, tokens};
+use field_tokens::{Comment, Style, Token, comment_tree, is_comment, read_tokens};
 use mail_wire::values::{Memory, Octets};
 use std::alloc::Global;
 
-/// What stands between the first and the last octet.
+// What stands between the first and the last octet.
 fn inner(octets: &[u8]) -> &[u8]
     ensures { result.now ≡ inner_of octets.now }
 {
@@ -33,7 +33,7 @@ fn inner(octets: &[u8]) -> &[u8]
     &octets[1..octets.len() - 1]
 }
 
-/// The first octet, and what follows it.
+// The first octet, and what follows it.
 fn split_octet(octets: &[u8]) -> (u8, &[u8])
     requires { 0 < length octets.now }
     ensures { octets.now ≡ result.0 ∷ result.1.now }
@@ -41,7 +41,7 @@ fn split_octet(octets: &[u8]) -> (u8, &[u8])
     (octets[0], &octets[1..])
 }
 
-/// The first octet that is quoted or stands by itself, and what follows it.
+// The first octet that is quoted or stands by itself, and what follows it.
 fn first_unquoted(octets: &[u8]) -> (u8, &[u8])
     requires { 0 < length octets.now }
     ensures first { unquoted_of octets.now ≡ result.0 ∷ unquoted_of result.1.now }
@@ -57,7 +57,7 @@ fn first_unquoted(octets: &[u8]) -> (u8, &[u8])
     split_octet(after)
 }
 
-/// The octets with each quoted pair by its second octet.
+// The octets with each quoted pair by its second octet.
 fn unquoted(alloc: Global, octets: &[u8]) -> Result<Octets, Memory>
     ensures { IfOk result (λ made. made ≡ unquoted_of octets.now) }
 {
@@ -71,7 +71,7 @@ fn unquoted(alloc: Global, octets: &[u8]) -> Result<Octets, Memory>
     Ok(made)
 }
 
-/// The octets of a value.
+// The octets of a value.
 fn content(alloc: Global, text: &[u8], value: &[Token]) -> Result<Octets, Memory>
     ensures { IfOk result (λ made. made ≡ content_of text.now value.now) }
 {
@@ -82,7 +82,7 @@ fn content(alloc: Global, text: &[u8], value: &[Token]) -> Result<Octets, Memory
     Ok(octets)
 }
 
-/// Whether a piece is a whole value, or the first of its pieces.
+// Whether a piece is a whole value, or the first of its pieces.
 fn is_first(number: Option<&[u8]>) -> bool
     ensures { result ≡ is_first_of (option_copied number.entry) }
 {
@@ -92,7 +92,7 @@ fn is_first(number: Option<&[u8]>) -> bool
     }
 }
 
-/// The charset and the octets of an extended value that is first.
+// The charset and the octets of an extended value that is first.
 fn read_first(alloc: Global, content: &[u8]) -> Result<Option<(Octets, Octets)>, Memory>
     ensures found { IfOk result (λ o. IfSome o (λ x. SaysOctets true true content.now x.0 x.1)) }
     ensures none { IfOk result (λ o. IfNone o ((charset octets : List ℕ) → ¬ SaysOctets true true content.now charset octets)) }
@@ -107,7 +107,7 @@ fn read_first(alloc: Global, content: &[u8]) -> Result<Option<(Octets, Octets)>,
     Ok(Some((charset, octets)))
 }
 
-/// The charset that a value gives, and its octets.
+// The charset that a value gives, and its octets.
 fn read_octets(
     alloc: Global,
     is_extended: bool,
@@ -129,21 +129,21 @@ fn read_octets(
     Ok(Some((Octets::new(alloc), octets)))
 }
 
-/// Whether tokens are a value.
+// Whether tokens are a value.
 fn is_value(text: &[u8], tokens: &[Token]) -> bool
     ensures { result ≡ (are_quoted_of tokens.now || are_plain_of text.now tokens.now) }
 {
     are_quoted(tokens) || are_plain(text, tokens)
 }
 
-/// Whether tokens are a name, an equals sign and a value.
+// Whether tokens are a name, an equals sign and a value.
 fn is_parameter(text: &[u8], atom: Token, equals: Token, value: &[Token]) -> bool
     ensures { result ≡ is_parameter_of text.now atom equals value.now }
 {
     is_atom(atom.kind) && (is_mark(text, b'=', equals) && is_value(text, value))
 }
 
-/// The name and the value of a parameter, from the tokens that are no gaps and no comments.
+// The name and the value of a parameter, from the tokens that are no gaps and no comments.
 fn split_parameter<'a, 'b>(text: &'a [u8], tokens: &'b [Token]) -> Option<(&'a [u8], &'b [Token])>
     ensures found { IfSome result (λ x. IsParameterOf text.now tokens.now x.0.now x.1.now) }
     ensures none { IfNone result ((name : List ℕ) (value : List Token) → ¬ IsParameterOf text.now tokens.now name value) }
@@ -168,7 +168,7 @@ fn copied(alloc: Global, number: Option<&[u8]>) -> Result<Option<Octets>, Memory
     }
 }
 
-/// A name, `=` and a value as they are written.
+// A name, `=` and a value as they are written.
 fn written(alloc: Global, text: &[u8], name: &[u8], value: &[Token]) -> Result<Octets, Memory>
     ensures { IfOk result (λ made. made ≡ name.now ++ 61 ∷ run_octets_of text.now value.now) }
 {
@@ -178,7 +178,7 @@ fn written(alloc: Global, text: &[u8], name: &[u8], value: &[Token]) -> Result<O
     Ok(made)
 }
 
-/// The piece that a name and a value are.
+// The piece that a name and a value are.
 fn piece_of(
     alloc: Global,
     text: &[u8],
@@ -210,7 +210,7 @@ fn piece_of(
     }))
 }
 
-/// The piece that a section is.
+// The piece that a section is.
 fn read_piece(alloc: Global, text: &[u8], section: &[Token]) -> Result<Option<Piece>, Memory>
     ensures found { IfOk result (λ o. IfSome o (IsPiece text.now section.now)) }
     ensures none { IfOk result (λ o. IfNone o ((piece : Piece) → ¬ IsPiece text.now section.now piece)) }
@@ -225,7 +225,7 @@ fn read_piece(alloc: Global, text: &[u8], section: &[Token]) -> Result<Option<Pi
     Ok(Some(piece))
 }
 
-/// Puts the piece that a section is last, where it is filled. Answers whether it is a piece, or not filled.
+// Puts the piece that a section is last, where it is filled. Answers whether it is a piece, or not filled.
 fn push_piece(
     alloc: Global,
     text: &[u8],
@@ -245,7 +245,7 @@ fn push_piece(
     Ok(true)
 }
 
-/// The pieces of the sections of tokens.
+// The pieces of the sections of tokens.
 fn read_pieces(alloc: Global, text: &[u8], tokens: &[Token]) -> Result<Option<Vec<Piece>>, Memory>
     ensures found { IfOk result (λ o. IfSome o (λ v. ArePieces text.now (filter is_filled_of (sections_of text.now tokens.now)) v.items)) }
     ensures none { IfOk result (λ o. IfNone o ((pieces : List Piece)
@@ -263,13 +263,7 @@ fn read_pieces(alloc: Global, text: &[u8], tokens: &[Token]) -> Result<Option<Ve
     Ok(Some(pieces))
 }
 
-pub(crate) fn is_comment(kind: TokenKind) -> bool
-    ensures { result ≡ is_comment_of kind }
-{
-    matches!(kind, TokenKind::Comment)
-}
-
-/// Puts the comment that a token is last, where it is one.
+// Puts the comment that a token is last, where it is one.
 fn push_comment(
     alloc: Global,
     text: &[u8],
@@ -285,7 +279,7 @@ fn push_comment(
     Ok(())
 }
 
-/// The comments among tokens.
+// The comments among tokens.
 fn read_comments(alloc: Global, text: &[u8], tokens: &[Token]) -> Result<Vec<Comment>, Memory>
     requires { HasTokens Mime text.now tokens.now }
     ensures { IfOk result (λ v. HaveComments text.now (filter (λ token. is_comment_of token.kind) tokens.now) (map tree_of v.items)) }
@@ -297,19 +291,7 @@ fn read_comments(alloc: Global, text: &[u8], tokens: &[Token]) -> Result<Vec<Com
     Ok(comments)
 }
 
-/// The tokens of a text, and nothing exactly where it has none.
-pub(crate) fn read_tokens(alloc: Global, text: &[u8]) -> Result<Option<Vec<Token>>, Memory>
-    ensures found { IfOk result (λ o. IfSome o (λ v. HasTokens Mime text.now v.items)) }
-    ensures none { IfOk result (λ o. IfNone o ((tokens : List Token) → ¬ HasTokens Mime text.now tokens)) }
-{
-    match tokens(alloc, Style::Mime, text) {
-        Ok(tokens) => Ok(Some(tokens)),
-        Err(TokenFault::Malformed) => Ok(None),
-        Err(TokenFault::Memory) => Err(Memory),
-    }
-}
-
-/// The main part as it is written, and the pieces, of a text with these tokens. Nothing exactly where they are no body.
+// The main part as it is written, and the pieces, of a text with these tokens. Nothing exactly where they are no body.
 pub(crate) fn read_parts(
     alloc: Global,
     kind: ParamKind,
@@ -331,13 +313,13 @@ pub(crate) fn read_parts(
     Ok(Some((written, pieces)))
 }
 
-/// The body of a text, and nothing exactly where it has none.
+// The body of a text, and nothing exactly where it has none.
 fn body_of(alloc: Global, kind: ParamKind, text: &[u8]) -> Result<Option<Body>, Memory>
     ensures found { IfOk result (λ o. IfSome o (λ body. HasBody kind text.now body.main body.pieces (map tree_of body.comments.items))) }
     ensures none { IfOk result (λ o. IfNone o ((main : List ℕ) (pieces : List Piece) (comments : List Tree)
         → ¬ HasBody kind text.now main pieces comments)) }
 {
-    let Some(tokens) = read_tokens(alloc, text)? else {
+    let Some(tokens) = read_tokens(alloc, Style::Mime, text)? else {
         return Ok(None);
     };
     let Some((written, pieces)) = read_parts(alloc, kind, text, &tokens)? else {
@@ -365,76 +347,5 @@ pub fn read_body(alloc: Global, kind: ParamKind, text: &[u8]) -> Result<Body, Pa
         Ok(Some(body)) => Ok(body),
         Ok(None) => Err(ParamFault::Malformed),
         Err(_) => Err(ParamFault::Memory),
-    }
-}
-
-#[cfg(test)]
-mod tests {
-    use super::*;
-    use std::test::Fail;
-
-    fn is_read(piece: &Piece, base: &[u8], number: &[u8], charset: &[u8], octets: &[u8]) -> bool {
-        let digits = match &piece.number {
-            Some(digits) => digits.as_slice(),
-            None => b"",
-        };
-        piece.base.as_slice() == base
-            && digits == number
-            && piece.charset.as_slice() == charset
-            && piece.octets.as_slice() == octets
-    }
-
-    fn is_malformed(rt: &HostRuntime, text: &[u8]) -> bool {
-        matches!(
-            read_body(rt.alloc(), ParamKind::Disposition, text),
-            Err(ParamFault::Malformed)
-        )
-    }
-
-    #[test]
-    fn a_file_name_is_read(rt: HostRuntime) -> Result<(), Fail> {
-        let text =
-            "Attachment ; filename=\"é\\\".txt\"; (c);FileName*1*=%41;x*=UTF-8''b;a=b/=".as_bytes();
-        let body = read_body(rt.alloc(), ParamKind::Disposition, text).map_err(|_| "no body")?;
-        assert_eq!(rt; body.main.as_slice(), b"attachment".as_slice());
-        let [first, second, third, fourth] = body.pieces.as_slice() else {
-            return Err(Fail::from("other pieces"));
-        };
-        assert!(rt; is_read(first, b"filename", b"", b"", "é\".txt".as_bytes()));
-        assert!(rt; is_read(second, b"filename", b"1", b"", b"A"));
-        assert!(rt; is_read(third, b"x", b"", b"UTF-8", b"b"));
-        assert!(rt; is_read(fourth, b"a", b"", b"", b"b/="));
-        assert_eq!(rt; body.comments.len(), 1);
-        Ok(())
-    }
-
-    #[test]
-    fn extended_pieces_are_read(rt: HostRuntime) -> Result<(), Fail> {
-        let text = b"a/b; x*=utf-8'en'%C3%A9; y*0*=''%C3; y*1*=%A9;;";
-        let body = read_body(rt.alloc(), ParamKind::Content, text).map_err(|_| "no body")?;
-        assert_eq!(rt; body.main.as_slice(), b"a/b".as_slice());
-        let [first, second, third] = body.pieces.as_slice() else {
-            return Err(Fail::from("other pieces"));
-        };
-        assert!(rt; is_read(first, b"x", b"", b"utf-8", "é".as_bytes()));
-        assert!(rt; is_read(second, b"y", b"0", b"", b"\xC3"));
-        assert!(rt; is_read(third, b"y", b"1", b"", b"\xA9"));
-        Ok(())
-    }
-
-    #[test]
-    fn other_bodies_are_malformed(rt: HostRuntime) -> Result<(), Fail> {
-        assert!(rt; is_malformed(&rt, "é".as_bytes()));
-        assert!(rt; is_malformed(&rt, b"a;b"));
-        assert!(rt; is_malformed(&rt, b"a;b="));
-        assert!(rt; is_malformed(&rt, b"a;b=c d"));
-        assert!(rt; is_malformed(&rt, b"a;b*=UTF-8''%4"));
-        assert!(rt; is_malformed(&rt, b"a;b*=c"));
-        assert!(rt; is_malformed(&rt, b"a;*=c"));
-        assert!(rt; is_malformed(&rt, b"a;*0=c"));
-        assert!(rt; is_malformed(&rt, b"a;b*00=c"));
-        assert!(rt; is_malformed(&rt, b"a;b*0*=c"));
-        assert!(rt; is_malformed(&rt, b"a/b;c=d"));
-        Ok(())
     }
 }

@@ -8,10 +8,10 @@ use mail_wire::values::Memory;
 use std::alloc::Global;
 use std::collections::BTreeMap;
 
-/// The pieces of each name, in the order of their places.
+// The pieces of each name, in the order of their places.
 pub(crate) type Names<'a> = BTreeMap<&'a [u8], Vec<&'a Piece>>;
 
-/// Puts a piece last among those of its name.
+// Puts a piece last among those of its name.
 fn push_by_name<'a>(alloc: Global, names: &mut Names<'a>, piece: &'a Piece) -> Result<(), Memory>
     ensures { OnOk result ((name : List ℕ) → pieces_at names.new name
         ≡ pieces_at names.old name ++ (if is_named name piece.now then piece.now ∷ [] else [])) }
@@ -33,7 +33,7 @@ pub(crate) fn pieces_by_name<'a>(alloc: Global, pieces: &'a [Piece]) -> Result<N
     Ok(names)
 }
 
-/// The pieces that have a number.
+// The pieces that have a number.
 pub(crate) fn parts_among<'a>(alloc: Global, pieces: &[&'a Piece]) -> Result<Vec<&'a Piece>, Memory>
     ensures { IfOk result (λ parts. pieces_in parts.items ≡ filter is_numbered (pieces_in pieces.now)) }
 {
@@ -46,7 +46,7 @@ pub(crate) fn parts_among<'a>(alloc: Global, pieces: &[&'a Piece]) -> Result<Vec
     Ok(parts)
 }
 
-/// Whether no name and no value of the pieces has an octet above 127.
+// Whether no name and no value of the pieces has an octet above 127.
 pub(crate) fn are_ascii(pieces: &[&Piece]) -> bool
     ensures { result ≡ are_ascii_pieces (pieces_in pieces.now) }
 {

@@ -9,7 +9,7 @@ use mail_wire::values::{Memory, Octets};
 use percent_encoding::percent_encode_byte;
 use std::alloc::Global;
 
-/// The first octet that a text spells, and the text behind it.
+// The first octet that a text spells, and the text behind it.
 fn first_octet(text: &[u8]) -> Option<(u8, &[u8])>
     requires { 0 < length text.now }
     ensures found { IfSome result (λ x. BeginsEscaped text.now x.0 x.1.now) }
@@ -52,14 +52,14 @@ pub fn read_escaped(alloc: Global, text: &[u8]) -> Result<Option<Octets>, Memory
     Ok(Some(octets))
 }
 
-/// Whether an octet is written as it is.
+// Whether an octet is written as it is.
 fn is_attribute_octet(octet: u8) -> bool
     ensures { result ≡ is_attribute_octet_of octet }
 {
     octet.is_ascii_alphanumeric() || b"!#$&+-.^_`{|}~".contains(&octet)
 }
 
-/// How many octets spell an octet.
+// How many octets spell an octet.
 pub(crate) fn escaped_len(octet: u8) -> usize
     ensures spelled { result ≡ length (escaped_octet octet) }
     ensures few { result ≤ 3 }
@@ -67,7 +67,7 @@ pub(crate) fn escaped_len(octet: u8) -> usize
     if is_attribute_octet(octet) { 1 } else { 3 }
 }
 
-/// Puts what spells an octet last.
+// Puts what spells an octet last.
 fn push_octet(made: &mut Octets, octet: u8) -> Result<(), Memory>
     ensures { OnOk result (made.new ≡ made.old ++ escaped_octet octet) }
 {
@@ -87,41 +87,4 @@ pub fn push_escaped(made: &mut Octets, octets: &[u8]) -> Result<(), Memory>
         push_octet(made, *octet)?;
     }
     Ok(())
-}
-
-#[cfg(test)]
-mod tests {
-    use super::*;
-    use std::test::Fail;
-
-    fn reads(rt: &HostRuntime, text: &[u8], octets: &[u8]) -> Result<bool, Fail> {
-        match read_escaped(rt.alloc(), text).map_err(|_| "memory")? {
-            Some(read) => Ok(read.as_slice() == octets),
-            None => Ok(false),
-        }
-    }
-
-    #[test]
-    fn escapes_are_read(rt: HostRuntime) -> Result<(), Fail> {
-        assert!(rt; reads(&rt, b"a%c3%A9 %25", "aé %".as_bytes())?);
-        assert!(rt;
-            read_escaped(rt.alloc(), b"%4")
-                .map_err(|_| "memory")?
-                .is_none()
-        );
-        assert!(rt;
-            read_escaped(rt.alloc(), b"%4g")
-                .map_err(|_| "memory")?
-                .is_none()
-        );
-        Ok(())
-    }
-
-    #[test]
-    fn other_octets_are_escaped(rt: HostRuntime) -> Result<(), Fail> {
-        let mut made = Octets::new(rt.alloc());
-        push_escaped(&mut made, "é '~.txt".as_bytes()).map_err(|_| "memory")?;
-        assert_eq!(rt; made.as_slice(), b"%C3%A9%20%27~.txt".as_slice());
-        Ok(())
-    }
 }

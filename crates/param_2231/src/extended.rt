@@ -28,7 +28,7 @@ pub fn split_extended(value: &[u8]) -> Option<(&[u8], &[u8])>
     Some((charset, text))
 }
 
-/// Whether octets of a charset, or of none, are text.
+// Whether octets of a charset, or of none, are text.
 fn is_text(charset: &[u8], octets: &[u8]) -> bool
     ensures { result ≡ is_text_of (str_to_ascii_lowercase charset.now) octets.now }
 {
@@ -53,43 +53,4 @@ pub fn unit_of(alloc: Global, charset: &[u8], octets: Octets) -> Result<Unit, Me
         octets,
         source: Octets::new(alloc),
     })
-}
-
-#[cfg(test)]
-mod tests {
-    use super::*;
-    use std::test::Fail;
-
-    #[test]
-    fn octets_of_no_charset_are_text_where_they_are_utf8(rt: HostRuntime) -> Result<(), Fail> {
-        let octets = Octets::from_slice(rt.alloc(), "é".as_bytes()).map_err(|_| "memory")?;
-        let Unit::Text(text) = unit_of(rt.alloc(), b"", octets).map_err(|_| "memory")? else {
-            return Err(Fail::from("no text"));
-        };
-        assert_eq!(rt; text.as_slice(), "é".as_bytes());
-        let octets = Octets::from_slice(rt.alloc(), b"\xE9").map_err(|_| "memory")?;
-        let Unit::Opaque {
-            charset,
-            octets,
-            ..
-        } = unit_of(rt.alloc(), b"ISO-8859-1", octets).map_err(|_| "memory")?
-        else {
-            return Err(Fail::from("text"));
-        };
-        assert_eq!(rt; charset.as_slice(), b"iso-8859-1".as_slice());
-        assert_eq!(rt; octets.as_slice(), b"\xE9".as_slice());
-        Ok(())
-    }
-
-    #[test]
-    fn extended_values_are_cut_at_apostrophes(rt: HostRuntime) -> Result<(), Fail> {
-        let Some((charset, text)) = split_extended(b"UTF-8'en'a'b") else {
-            return Err(Fail::from("no value"));
-        };
-        assert_eq!(rt; charset, b"UTF-8".as_slice());
-        assert_eq!(rt; text, b"a'b".as_slice());
-        assert!(rt; split_extended(b"UTF-8'a").is_none());
-        assert!(rt; split_extended("é''a".as_bytes()).is_none());
-        Ok(())
-    }
 }

@@ -7,15 +7,14 @@ ghost use Rattle.param_2231.specs.declared.ParamKind.TheVariants.{Content};
 ghost use Rattle.param_2231.specs.Joining.{ParamValue, SaysParams};
 ghost use Rattle.param_2231.specs.GlobalTypes.{NamesGlobal};
 
-use crate::bodies::read_tokens;
 use crate::reading::read_params;
 use crate::tokens::solid;
 use crate::{ParamFault, ParamKind};
-use field_tokens::Token;
+use field_tokens::{Style, Token, read_tokens};
 use mail_wire::values::{Memory, Octets};
 use std::alloc::Global;
 
-/// The main part of a Content-Type, in lower case, and nothing exactly where the text is none.
+// The main part of a Content-Type, in lower case, and nothing exactly where the text is none.
 fn read_type(alloc: Global, text: &[u8]) -> Result<Option<Octets>, Memory>
     ensures found { IfOk result (λ o. IfSome o (λ main. (params : List ParamValue) × (comments : List CommentValue)
         × SaysParams Content text.now main params comments)) }
@@ -35,7 +34,7 @@ fn is_global(main: &[u8]) -> bool
     main == b"message/global".as_slice()
 }
 
-/// Where the third token stands.
+// Where the third token stands.
 fn third_place(tokens: &[Token]) -> Option<usize>
     ensures found { IfSome result (λ at. (first second third : Token) × (more : List Token)
         × (tokens.now ≡ first ∷ second ∷ third ∷ more) × (third.span.at ≡ at)) }
@@ -59,37 +58,9 @@ pub fn find_global(alloc: Global, text: &[u8]) -> Result<Option<usize>, Memory>
     if !is_global(main.as_slice()) {
         return Ok(None);
     }
-    let Some(tokens) = read_tokens(alloc, text)? else {
+    let Some(tokens) = read_tokens(alloc, Style::Mime, text)? else {
         return Ok(None);
     };
     let words = solid(alloc, &tokens)?;
     Ok(third_place(&words))
-}
-
-#[cfg(test)]
-mod tests {
-    use super::*;
-    use std::test::Fail;
-
-    fn place(rt: &HostRuntime, text: &[u8]) -> Result<Option<usize>, Fail> {
-        let place = find_global(rt.alloc(), text).map_err(|_| "memory")?;
-        Ok(place)
-    }
-
-    #[test]
-    fn global_is_found(rt: HostRuntime) -> Result<(), Fail> {
-        assert_eq!(rt; place(&rt, b"message/global")?, Some(8));
-        assert_eq!(rt; place(&rt, b"Message/ GLOBAL (x)")?, Some(9));
-        assert_eq!(rt; place(&rt, b"(global) message/global; a=global")?, Some(17));
-        Ok(())
-    }
-
-    #[test]
-    fn other_types_are_none(rt: HostRuntime) -> Result<(), Fail> {
-        assert_eq!(rt; place(&rt, b"text/global")?, None);
-        assert_eq!(rt; place(&rt, b"message/rfc822; a=global")?, None);
-        assert_eq!(rt; place(&rt, b"message/global; x")?, None);
-        assert_eq!(rt; place(&rt, b"message/global(")?, None);
-        Ok(())
-    }
 }

@@ -14,7 +14,7 @@ use encoded_words::Unit;
 use mail_wire::values::{Memory, Octets};
 use std::alloc::Global;
 
-/// The number of a piece, where it is below a bound.
+// The number of a piece, where it is below a bound.
 fn number_of(piece: &Piece, bound: usize) -> Option<usize>
     ensures below { IfSome result (λ number. number < bound) }
     ensures number { (n : ℕ) → n < bound → has_number n piece.now ≡ option_map_or (λ number. number == n) result false }
@@ -35,7 +35,7 @@ fn empty_slots<'a>(alloc: Global, count: usize) -> Result<Vec<Option<&'a Piece>>
     Ok(slots)
 }
 
-/// The parts by their numbers below the count of the parts, and nothing where one number stands at two of them.
+// The parts by their numbers below the count of the parts, and nothing where one number stands at two of them.
 fn slots_of<'a>(
     alloc: Global,
     parts: &[&'a Piece],
@@ -55,7 +55,7 @@ fn slots_of<'a>(
     Ok(Some(slots))
 }
 
-/// The parts in the order of their numbers, and nothing exactly where these aren't the numbers from 0 on.
+// The parts in the order of their numbers, and nothing exactly where these aren't the numbers from 0 on.
 fn in_order<'a>(alloc: Global, parts: &[&'a Piece]) -> Result<Option<Vec<&'a Piece>>, Memory>
     ensures numbered { IfOk result (λ o. IfSome o (λ made. AreNumbered (pieces_in parts.now))) }
     ensures found { IfOk result (λ o. IfSome o (λ made. pieces_in made.items ≡ first_parts (length parts.now) (pieces_in parts.now))) }
@@ -84,7 +84,7 @@ fn joined_octets(alloc: Global, parts: &[&Piece]) -> Result<Octets, Memory>
     Ok(octets)
 }
 
-/// The charset of the first part.
+// The charset of the first part.
 fn first_charset<'b>(parts: &[&'b Piece]) -> &'b [u8]
     ensures { result.now ≡ flat_map (λ part. part.charset) (take 1 (pieces_in parts.now)) }
 {
@@ -94,7 +94,7 @@ fn first_charset<'b>(parts: &[&'b Piece]) -> &'b [u8]
     }
 }
 
-/// What the parts of a name say, and nothing exactly where their numbers aren't those from 0 on.
+// What the parts of a name say, and nothing exactly where their numbers aren't those from 0 on.
 pub(crate) fn joined_unit(alloc: Global, parts: &[&Piece]) -> Result<Option<Unit>, Memory>
     ensures numbered { IfOk result (λ o. IfSome o (λ unit. AreNumbered (pieces_in parts.now))) }
     ensures found { IfOk result (λ o. IfSome o (λ unit. value_of unit ≡ joined_value (pieces_in parts.now))) }

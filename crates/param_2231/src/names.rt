@@ -20,7 +20,7 @@ pub struct Name<'a> {
     pub is_extended: bool,
 }
 
-/// What stands before the first star, and what stands behind it.
+// What stands before the first star, and what stands behind it.
 fn cut_name(name: &[u8]) -> (&[u8], Option<&[u8]>)
     ensures spelled { name.now ≡ result.0.now ++ language_suffix (option_copied result.1) }
     ensures first { lacks 42 result.0.now ≡ true }
@@ -31,28 +31,28 @@ fn cut_name(name: &[u8]) -> (&[u8], Option<&[u8]>)
     }
 }
 
-/// Whether each octet is a decimal digit.
+// Whether each octet is a decimal digit.
 fn are_digits(octets: &[u8]) -> bool
     ensures { result ≡ list_all is_decimal_digit octets.now }
 {
     octets.iter().all(|octet| octet.is_ascii_digit())
 }
 
-/// Whether a zero stands before other digits.
+// Whether a zero stands before other digits.
 fn leads_with_zero(digits: &[u8]) -> bool
     ensures { result ≡ leads_with_zero_of digits.now }
 {
     matches!(digits, [b'0', _, ..])
 }
 
-/// Whether octets are the digits of a piece's number.
+// Whether octets are the digits of a piece's number.
 fn is_number(octets: &[u8]) -> bool
     ensures { IsTrue result ↔ IsNumber octets.now }
 {
     !octets.is_empty() && are_digits(octets) && !leads_with_zero(octets)
 }
 
-/// What stands before a star at the end, and whether one stands there.
+// What stands before a star at the end, and whether one stands there.
 fn cut_star(suffix: &[u8]) -> (&[u8], bool)
     ensures spelled { suffix.now ≡ result.0.now ++ star_suffix result.1 }
     ensures none { result.1 ≡ false → (front : List ℕ) → suffix.now ≢ front ++ 42 ∷ [] }
@@ -63,7 +63,7 @@ fn cut_star(suffix: &[u8]) -> (&[u8], bool)
     }
 }
 
-/// What stands behind a name's first star.
+// What stands behind a name's first star.
 fn read_suffix(suffix: &[u8]) -> Option<(Option<&[u8]>, bool)>
     ensures found { IfSome result (λ x. HasSuffix suffix.now (option_copied x.0) x.1) }
     ensures none { IfNone result ((number : Option (List ℕ)) (is_extended : Bool) → ¬ HasSuffix suffix.now number is_extended) }
@@ -78,7 +78,7 @@ fn read_suffix(suffix: &[u8]) -> Option<(Option<&[u8]>, bool)>
     Some((Some(digits), is_extended))
 }
 
-/// The number of a piece and the mark of extended values, as they stand behind a name's base.
+// The number of a piece and the mark of extended values, as they stand behind a name's base.
 fn read_behind(behind: Option<&[u8]>) -> Option<(Option<&[u8]>, bool)>
     ensures found { IfSome result (λ x. HasBehind (option_copied behind.entry) (option_copied x.0) x.1) }
     ensures none { IfNone result ((number : Option (List ℕ)) (is_extended : Bool)
@@ -90,7 +90,7 @@ fn read_behind(behind: Option<&[u8]>) -> Option<(Option<&[u8]>, bool)>
     }
 }
 
-/// Whether octets are what a parameter may be called.
+// Whether octets are what a parameter may be called.
 fn is_base(octets: &[u8]) -> bool
     ensures { IsTrue result ↔ IsBase octets.now }
 {
@@ -114,37 +114,4 @@ pub fn read_name(name: &[u8]) -> Option<Name<'_>>
         number,
         is_extended,
     })
-}
-
-#[cfg(test)]
-mod tests {
-    use super::*;
-    use std::test::Fail;
-
-    fn is_read(name: &[u8], base: &[u8], number: &[u8], is_extended: bool) -> bool {
-        match read_name(name) {
-            Some(parts) => {
-                parts.base == base
-                    && parts.number.unwrap_or(b"") == number
-                    && parts.is_extended == is_extended
-            }
-            None => false,
-        }
-    }
-
-    #[test]
-    fn names_are_read(rt: HostRuntime) -> Result<(), Fail> {
-        assert!(rt; is_read(b"a", b"a", b"", false));
-        assert!(rt; is_read(b"a*", b"a", b"", true));
-        assert!(rt; is_read(b"a*0", b"a", b"0", false));
-        assert!(rt; is_read(b"a*10*", b"a", b"10", true));
-        assert!(rt; read_name(b"*").is_none());
-        assert!(rt; read_name(b"a*01").is_none());
-        assert!(rt; read_name(b"a**").is_none());
-        assert!(rt; read_name(b"a*1*1").is_none());
-        assert!(rt;
-            read_name(b"aaaaaaaaaaaaaaaaaaaaaaaaaaaaaaaaaaaaaaaaaaaaaaaaaaaaaaaaaaaaa").is_none()
-        );
-        Ok(())
-    }
 }

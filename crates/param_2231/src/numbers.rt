@@ -4,7 +4,7 @@ ghost use Rattle.std.specs.Option.{SomeIff};
 ghost use Rattle.std.specs.Char.{digit_value};
 ghost use Rattle.param_2231.specs.Joining.{decimal_value};
 
-/// The value of a digit: decimal, or a letter as in greater bases, and 36 for other octets.
+// The value of a digit: decimal, or a letter as in greater bases, and 36 for other octets.
 fn digit_of(octet: u8) -> usize
     ensures { result ≡ digit_value octet }
 {
@@ -16,7 +16,7 @@ fn digit_of(octet: u8) -> usize
     }
 }
 
-/// The number that another digit goes on to, where it is below a bound.
+// The number that another digit goes on to, where it is below a bound.
 fn next_number(number: usize, digit: u8, bound: usize) -> Option<usize>
     ensures found { IfSome result (λ n. n ≡ 10 * number + digit_value digit) }
     ensures none { IfNone result (bound ≤ 10 * number + digit_value digit) }
@@ -48,19 +48,4 @@ pub fn number_below(digits: &[u8], bound: usize) -> Option<usize>
         return Some(number);
     }
     None
-}
-
-#[cfg(test)]
-mod tests {
-    use super::*;
-    use std::test::Fail;
-
-    #[test]
-    fn numbers_are_below_a_bound(rt: HostRuntime) -> Result<(), Fail> {
-        assert_eq!(rt; number_below(b"0", 1), Some(0));
-        assert_eq!(rt; number_below(b"12", 13), Some(12));
-        assert_eq!(rt; number_below(b"12", 12), None);
-        assert_eq!(rt; number_below(b"99999999999999999999999999", 13), None);
-        Ok(())
-    }
 }

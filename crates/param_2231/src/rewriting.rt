@@ -12,13 +12,13 @@ ghost use Rattle.param_2231.specs.Parts.{IsWritableUnit};
 ghost use Rattle.param_2231.specs.Layout.{GivesWhere, PiecesGive, with_semicolons as with_semicolons_of, is_global as is_global_of, written_main as written_main_of, ParamsPieces};
 ghost use Rattle.param_2231.specs.Given.{RoleGives, IsWritableRole, ended, GiveComments};
 
-use crate::bodies::{is_comment, read_parts, read_tokens};
+use crate::bodies::read_parts;
 use crate::roles::{Role, roles};
 use crate::writing::push_param;
 use crate::{ParamFault, ParamKind, Piece};
 use encoded_words::Unit;
-use field_tokens::Token;
 use field_tokens::comments::write_comment;
+use field_tokens::{Style, Token, is_comment, read_tokens};
 use mail_wire::values::{Memory, Octets};
 use std::alloc::Global;
 
@@ -30,7 +30,7 @@ fn push_copy(alloc: Global, octets: &[u8], pieces: &mut Vec<Octets>) -> Result<(
     Ok(())
 }
 
-/// Whether a main part is the type of messages whose headers are UTF-8.
+// Whether a main part is the type of messages whose headers are UTF-8.
 fn is_global(kind: ParamKind, main: &[u8]) -> bool
     ensures { result ≡ is_global_of kind (str_to_ascii_lowercase main.now) }
 {
@@ -40,7 +40,7 @@ fn is_global(kind: ParamKind, main: &[u8]) -> bool
     }
 }
 
-/// A main part, opened where it is the type of messages whose headers are UTF-8.
+// A main part, opened where it is the type of messages whose headers are UTF-8.
 fn written_main(
     alloc: Global,
     kind: ParamKind,
@@ -55,7 +55,7 @@ fn written_main(
     Ok(main)
 }
 
-/// Puts what a piece gives last that goes on with its parameter.
+// Puts what a piece gives last that goes on with its parameter.
 fn push_more(
     alloc: Global,
     piece: &Piece,
@@ -70,7 +70,7 @@ fn push_more(
     Ok(())
 }
 
-/// Puts what a piece gives last that begins a parameter.
+// Puts what a piece gives last that begins a parameter.
 fn push_begun(
     alloc: Global,
     piece: &Piece,
@@ -88,7 +88,7 @@ fn push_begun(
     push_param(alloc, piece.base.as_slice(), unit, is_doubled, made)
 }
 
-/// Puts what a piece gives last.
+// Puts what a piece gives last.
 fn push_given(
     alloc: Global,
     piece: &Piece,
@@ -108,7 +108,7 @@ fn push_given(
     }
 }
 
-/// The first piece, and those behind it.
+// The first piece, and those behind it.
 fn split_piece(pieces: &[Piece]) -> (&Piece, &[Piece])
     requires { 0 < length pieces.now }
     ensures { pieces.now ≡ result.0.now ∷ result.1.now }
@@ -116,7 +116,7 @@ fn split_piece(pieces: &[Piece]) -> (&Piece, &[Piece])
     (&pieces[0], &pieces[1..])
 }
 
-/// The first role, and those behind it.
+// The first role, and those behind it.
 fn split_role(roles: &[Role]) -> (&Role, &[Role])
     requires { 0 < length roles.now }
     ensures { roles.now ≡ result.0.now ∷ result.1.now }
@@ -124,7 +124,7 @@ fn split_role(roles: &[Role]) -> (&Role, &[Role])
     (&roles[0], &roles[1..])
 }
 
-/// Puts what the pieces give last.
+// Puts what the pieces give last.
 fn push_all_given(
     alloc: Global,
     pieces: &[Piece],
@@ -146,7 +146,7 @@ fn push_all_given(
     Ok(())
 }
 
-/// The first list of octets, and those behind it.
+// The first list of octets, and those behind it.
 fn split_octets(lists: &[Octets]) -> (&Octets, &[Octets])
     requires { 0 < length lists.now }
     ensures { lists.now ≡ result.0.now ∷ result.1.now }
@@ -154,7 +154,7 @@ fn split_octets(lists: &[Octets]) -> (&Octets, &[Octets])
     (&lists[0], &lists[1..])
 }
 
-/// Puts a copy of a piece last, with a semicolon where it isn't the last one.
+// Puts a copy of a piece last, with a semicolon where it isn't the last one.
 fn push_ended(
     alloc: Global,
     piece: &[u8],
@@ -171,7 +171,7 @@ fn push_ended(
     Ok(())
 }
 
-/// The pieces with a semicolon behind each but the last.
+// The pieces with a semicolon behind each but the last.
 fn with_semicolons(alloc: Global, pieces: &[Octets]) -> Result<Vec<Octets>, Memory>
     ensures { IfOk result (λ made. made.items ≡ with_semicolons_of pieces.now) }
 {
@@ -185,7 +185,7 @@ fn with_semicolons(alloc: Global, pieces: &[Octets]) -> Result<Vec<Octets>, Memo
     Ok(made)
 }
 
-/// Puts the pieces of the comments among all tokens of a text last.
+// Puts the pieces of the comments among all tokens of a text last.
 fn write_comments(
     alloc: Global,
     text: &[u8],
@@ -206,7 +206,7 @@ fn write_comments(
     Ok(())
 }
 
-/// A main part and what the pieces give.
+// A main part and what the pieces give.
 fn main_and_given(
     alloc: Global,
     main: Octets,
@@ -222,7 +222,7 @@ fn main_and_given(
     Ok(made)
 }
 
-/// The pieces of a text, and nothing exactly where it has no parameters.
+// The pieces of a text, and nothing exactly where it has no parameters.
 fn pieces_of(
     alloc: Global,
     kind: ParamKind,
@@ -232,7 +232,7 @@ fn pieces_of(
     ensures found { IfOk result (λ o. IfSome o (λ made. ParamsPieces kind open_global text.now made.items)) }
     ensures none { IfOk result (λ o. IfNone o ((main : List ℕ) (params : List ParamValue) → ¬ HasSaidBody kind text.now main params)) }
 {
-    let Some(tokens) = read_tokens(alloc, text)? else {
+    let Some(tokens) = read_tokens(alloc, Style::Mime, text)? else {
         return Ok(None);
     };
     let Some((main, pieces)) = read_parts(alloc, kind, text, &tokens)? else {
@@ -267,146 +267,5 @@ pub fn rewrite_params(
         Ok(Some(pieces)) => Ok(pieces),
         Ok(None) => Err(ParamFault::Malformed),
         Err(_) => Err(ParamFault::Memory),
-    }
-}
-
-#[cfg(test)]
-mod tests {
-    use super::*;
-    use std::test::Fail;
-
-    fn has_pieces(
-        alloc: Global,
-        kind: ParamKind,
-        text: &str,
-        wanted: &[&str],
-    ) -> Result<bool, Fail> {
-        let pieces = rewrite_params(alloc, kind, text.as_bytes(), true).map_err(|_| "no pieces")?;
-        if pieces.len() != wanted.len() {
-            return Ok(false);
-        }
-        for (piece, text) in pieces.iter().zip(wanted) {
-            if piece.as_slice() != text.as_bytes() {
-                return Ok(false);
-            }
-        }
-        Ok(true)
-    }
-
-    #[test]
-    fn a_file_name_is_extended(rt: HostRuntime) -> Result<(), Fail> {
-        assert!(rt;
-            has_pieces(
-                rt.alloc(),
-                ParamKind::Disposition,
-                "attachment; filename=\"é.txt\"",
-                &["attachment;", "filename*=UTF-8''%C3%A9.txt"]
-            )?
-        );
-        assert!(rt;
-            has_pieces(
-                rt.alloc(),
-                ParamKind::Disposition,
-                "a;x*=utf-8'é'",
-                &["a;", "x*=UTF-8''"]
-            )?
-        );
-        Ok(())
-    }
-
-    #[test]
-    fn a_long_value_is_cut_between_characters(rt: HostRuntime) -> Result<(), Fail> {
-        assert!(rt;
-            has_pieces(
-                rt.alloc(),
-                ParamKind::Disposition,
-                "attachment; filename=ééééééééééa",
-                &[
-                    "attachment;",
-                    "filename*0*=UTF-8''%C3%A9%C3%A9%C3%A9%C3%A9%C3%A9%C3%A9%C3%A9%C3%A9%C3%A9%C3%A9;",
-                    "filename*1*=a"
-                ]
-            )?
-        );
-        assert!(rt;
-            has_pieces(
-                rt.alloc(),
-                ParamKind::Disposition,
-                "attachment; filename=éééééééééあ",
-                &[
-                    "attachment;",
-                    "filename*0*=UTF-8''%C3%A9%C3%A9%C3%A9%C3%A9%C3%A9%C3%A9%C3%A9%C3%A9%C3%A9;",
-                    "filename*1*=%E3%81%82"
-                ]
-            )?
-        );
-        Ok(())
-    }
-
-    #[test]
-    fn octets_of_another_charset_are_cut_anywhere(rt: HostRuntime) -> Result<(), Fail> {
-        assert!(rt;
-            has_pieces(
-                rt.alloc(),
-                ParamKind::Disposition,
-                "a;x*=iso-8859-1''aéééééééééé",
-                &[
-                    "a;",
-                    "x*0*=iso-8859-1''a%C3%A9%C3%A9%C3%A9%C3%A9%C3%A9%C3%A9%C3%A9%C3%A9%C3%A9%C3;",
-                    "x*1*=%A9"
-                ]
-            )?
-        );
-        Ok(())
-    }
-
-    #[test]
-    fn doubled_names_are_written_whole(rt: HostRuntime) -> Result<(), Fail> {
-        assert!(rt;
-            has_pieces(
-                rt.alloc(),
-                ParamKind::Disposition,
-                "attachment; filename=é; filename=b",
-                &["attachment;", "filename*=UTF-8''%C3%A9;", "filename=b"]
-            )?
-        );
-        assert!(rt;
-            has_pieces(
-                rt.alloc(),
-                ParamKind::Disposition,
-                "a;x=ééééééééééé;x*0=b",
-                &[
-                    "a;",
-                    "x*=UTF-8''%C3%A9%C3%A9%C3%A9%C3%A9%C3%A9%C3%A9%C3%A9%C3%A9%C3%A9%C3%A9%C3%A9;",
-                    "x*0=b"
-                ]
-            )?
-        );
-        Ok(())
-    }
-
-    #[test]
-    fn messages_with_utf8_headers_are_opened(rt: HostRuntime) -> Result<(), Fail> {
-        assert!(rt;
-            has_pieces(
-                rt.alloc(),
-                ParamKind::Content,
-                "Message/Global; a=é",
-                &["message/rfc822;", "a*=UTF-8''%C3%A9"]
-            )?
-        );
-        Ok(())
-    }
-
-    #[test]
-    fn other_texts_are_malformed(rt: HostRuntime) -> Result<(), Fail> {
-        let text = "é".as_bytes();
-        assert!(rt;
-            matches!(
-                rewrite_params(rt.alloc(), ParamKind::Disposition, text, false),
-                Err(ParamFault::Malformed)
-            )
-        );
-        Ok(())
     }
 }

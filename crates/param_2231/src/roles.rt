@@ -35,7 +35,7 @@ pub enum Role {
     },
 }
 
-/// What a whole parameter says.
+// What a whole parameter says.
 fn whole_unit(alloc: Global, piece: &Piece) -> Result<Unit, Memory>
     ensures { IfOk result (λ unit. value_of unit ≡ unit_value piece.now.charset piece.now.octets) }
 {
@@ -43,8 +43,8 @@ fn whole_unit(alloc: Global, piece: &Piece) -> Result<Unit, Memory>
     unit_of(alloc, piece.charset.as_slice(), octets)
 }
 
-/// The role of a piece among the pieces of its name, where a name that began says whether its parts are ASCII. Nothing exactly
-/// where the parameter begins with the piece and its numbers aren't those from 0 on.
+// The role of a piece among the pieces of its name, where a name that began says whether its parts are ASCII. Nothing exactly
+// where the parameter begins with the piece and its numbers aren't those from 0 on.
 fn role_of<'a>(
     alloc: Global,
     names: &Names<'a>,
@@ -104,51 +104,4 @@ pub fn roles(alloc: Global, pieces: &[Piece]) -> Result<Option<Vec<Role>>, Memor
         rest = behind;
     }
     Ok(Some(roles))
-}
-
-#[cfg(test)]
-mod tests {
-    use super::*;
-    use crate::ParamKind;
-    use crate::bodies::read_body;
-    use std::test::Fail;
-
-    fn begins(role: &Role, ascii: bool, doubled: bool) -> bool {
-        match role {
-            Role::Begins {
-                is_ascii,
-                is_doubled,
-                ..
-            } => *is_ascii == ascii && *is_doubled == doubled,
-            Role::GoesOn { .. } => false,
-        }
-    }
-
-    fn goes_on(role: &Role, ascii: bool) -> bool {
-        match role {
-            Role::GoesOn { is_ascii } => *is_ascii == ascii,
-            Role::Begins { .. } => false,
-        }
-    }
-
-    #[test]
-    fn roles_tell_of_whole_parameters(rt: HostRuntime) -> Result<(), Fail> {
-        let text = "a; x=b; y*0=c; X=d; y*1=\"é\"; z*1=f; z*0=g; z=\"é\"".as_bytes();
-        let body = read_body(rt.alloc(), ParamKind::Disposition, text).map_err(|_| "no body")?;
-        let found = roles(rt.alloc(), body.pieces.as_slice()).map_err(|_| "memory")?;
-        let Some(found) = found else {
-            return Err(Fail::from("other numbers"));
-        };
-        let [x, y, x_again, y_on, z, z_on, z_whole] = found.as_slice() else {
-            return Err(Fail::from("other roles"));
-        };
-        assert!(rt; begins(x, true, true));
-        assert!(rt; begins(y, false, false));
-        assert!(rt; begins(x_again, true, true));
-        assert!(rt; goes_on(y_on, false));
-        assert!(rt; begins(z, true, true));
-        assert!(rt; goes_on(z_on, true));
-        assert!(rt; begins(z_whole, false, true));
-        Ok(())
-    }
 }

@@ -3,17 +3,17 @@ ghost use Rattle.std.specs.Prelude.{◌≡◌, ◌==◌, ◌+◌, ◌<◌, ◌�
 ghost use Rattle.std.specs.List.{list_all};
 ghost use Rattle.field_tokens.specs.declared.Token.{Token};
 ghost use Rattle.field_tokens.specs.Tokens.{octets_at};
-ghost use Rattle.field_tokens.specs.Squeezed.{is_blank as is_blank_of, run_octets as run_octets_of};
+ghost use Rattle.field_tokens.specs.Squeezed.{run_octets as run_octets_of};
 ghost use Rattle.mail_wire.specs.Octets.{is_ascii as is_ascii_octet};
 ghost use Rattle.param_2231.specs.Bodies.{is_atom as is_atom_of, is_quoted as is_quoted_of, is_mark_at, solid as solid_of, is_filled as is_filled_of, is_ascii_atom as is_ascii_atom_of, is_plain_token as is_plain_token_of, touch, touches_first, are_quoted as are_quoted_of, are_plain as are_plain_of, is_main as is_main_of, SplitsSection};
 
 use crate::ParamKind;
-use field_tokens::{Token, TokenKind};
+use field_tokens::{Token, TokenKind, is_blank};
 use mail_wire::text::is_ascii;
 use mail_wire::values::{Memory, Octets, Span};
 use std::alloc::Global;
 
-/// The octets of a span, as far as there are any.
+// The octets of a span, as far as there are any.
 pub(crate) fn octets_of(text: &[u8], span: Span) -> &[u8]
     ensures { result.now ≡ octets_at text.now span }
 {
@@ -28,13 +28,6 @@ pub(crate) fn octets_of(text: &[u8], span: Span) -> &[u8]
     octets
 }
 
-/// Whether a token only stands between others.
-fn is_blank(kind: TokenKind) -> bool
-    ensures { result ≡ is_blank_of kind }
-{
-    matches!(kind, TokenKind::Gap | TokenKind::Comment)
-}
-
 pub(crate) fn is_atom(kind: TokenKind) -> bool
     ensures { result ≡ is_atom_of kind }
 {
@@ -47,14 +40,14 @@ fn is_quoted(kind: TokenKind) -> bool
     matches!(kind, TokenKind::Quoted)
 }
 
-/// Whether a token is this octet alone.
+// Whether a token is this octet alone.
 pub(crate) fn is_mark(text: &[u8], mark: u8, token: Token) -> bool
     ensures { result ≡ is_mark_at text.now mark token }
 {
     octets_of(text, token.span) == [mark].as_slice()
 }
 
-/// The first token, and what follows it.
+// The first token, and what follows it.
 pub(crate) fn split_token(tokens: &[Token]) -> (Token, &[Token])
     requires { 0 < length tokens.now }
     ensures { tokens.now ≡ result.0 ∷ result.1.now }
@@ -62,14 +55,14 @@ pub(crate) fn split_token(tokens: &[Token]) -> (Token, &[Token])
     (tokens[0], &tokens[1..])
 }
 
-/// The place of the first semicolon.
+// The place of the first semicolon.
 fn find_semicolon(text: &[u8], tokens: &[Token]) -> Option<usize>
     ensures { result ≡ position (is_mark_at text.now 59) tokens.now }
 {
     tokens.iter().position(|token| is_mark(text, b';', *token))
 }
 
-/// The tokens before the first semicolon, and those behind it.
+// The tokens before the first semicolon, and those behind it.
 pub(crate) fn split_section<'a>(text: &[u8], tokens: &'a [Token]) -> (&'a [Token], &'a [Token])
     ensures { SplitsSection text.now tokens.now result.0.now result.1.now }
 {
@@ -79,7 +72,7 @@ pub(crate) fn split_section<'a>(text: &[u8], tokens: &'a [Token]) -> (&'a [Token
     }
 }
 
-/// The tokens that are no gaps and no comments.
+// The tokens that are no gaps and no comments.
 pub(crate) fn solid(alloc: Global, tokens: &[Token]) -> Result<Vec<Token>, Memory>
     ensures { IfOk result (λ found. found.items ≡ solid_of tokens.now) }
 {
@@ -91,14 +84,14 @@ pub(crate) fn solid(alloc: Global, tokens: &[Token]) -> Result<Vec<Token>, Memor
     Ok(found)
 }
 
-/// Whether there are other tokens than gaps and comments.
+// Whether there are other tokens than gaps and comments.
 pub(crate) fn is_filled(tokens: &[Token]) -> bool
     ensures { result ≡ is_filled_of tokens.now }
 {
     tokens.iter().any(|token| !is_blank(token.kind))
 }
 
-/// The octets of tokens, one behind another.
+// The octets of tokens, one behind another.
 pub(crate) fn run_octets(alloc: Global, text: &[u8], tokens: &[Token]) -> Result<Octets, Memory>
     ensures { IfOk result (λ made. made ≡ run_octets_of text.now tokens.now) }
 {
@@ -115,7 +108,7 @@ fn is_ascii_atom(text: &[u8], token: Token) -> bool
     is_atom(token.kind) && is_ascii(octets_of(text, token.span))
 }
 
-/// Whether tokens other than gaps and comments are a main part.
+// Whether tokens other than gaps and comments are a main part.
 pub(crate) fn is_main(kind: ParamKind, text: &[u8], tokens: &[Token]) -> bool
     ensures { result ≡ is_main_of kind text.now tokens.now }
 {
@@ -135,7 +128,7 @@ pub(crate) fn is_main(kind: ParamKind, text: &[u8], tokens: &[Token]) -> bool
     }
 }
 
-/// Whether a token may stand in an unquoted value.
+// Whether a token may stand in an unquoted value.
 fn is_plain_token(text: &[u8], token: Token) -> bool
     ensures { result ≡ is_plain_token_of text.now token }
 {
@@ -148,14 +141,14 @@ fn are_plain_tokens(text: &[u8], tokens: &[Token]) -> bool
     tokens.iter().all(|token| is_plain_token(text, *token))
 }
 
-/// Whether a token stands directly behind another.
+// Whether a token stands directly behind another.
 fn follows(first: Token, second: Token) -> bool
     ensures { result ≡ (first.span.at + first.span.len == second.span.at) }
 {
     first.span.at <= second.span.at && second.span.at - first.span.at == first.span.len
 }
 
-/// Whether the first of other tokens, where there are any, stands directly behind a token.
+// Whether the first of other tokens, where there are any, stands directly behind a token.
 fn touches(token: Token, others: &[Token]) -> bool
     ensures { result ≡ touches_first token others.now }
 {
@@ -165,7 +158,7 @@ fn touches(token: Token, others: &[Token]) -> bool
     }
 }
 
-/// Whether each token stands directly behind the one before it.
+// Whether each token stands directly behind the one before it.
 fn are_together(tokens: &[Token]) -> bool
     ensures { result ≡ touch tokens.now }
 {
@@ -180,7 +173,7 @@ fn are_together(tokens: &[Token]) -> bool
     true
 }
 
-/// Whether tokens are a quoted string alone.
+// Whether tokens are a quoted string alone.
 pub(crate) fn are_quoted(tokens: &[Token]) -> bool
     ensures { result ≡ are_quoted_of tokens.now }
 {
@@ -190,7 +183,7 @@ pub(crate) fn are_quoted(tokens: &[Token]) -> bool
     }
 }
 
-/// Whether tokens are an unquoted value.
+// Whether tokens are an unquoted value.
 pub(crate) fn are_plain(text: &[u8], tokens: &[Token]) -> bool
     ensures { result ≡ are_plain_of text.now tokens.now }
 {

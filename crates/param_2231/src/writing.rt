@@ -14,10 +14,10 @@ use itoa::Buffer;
 use mail_wire::values::{Memory, Octets};
 use std::alloc::Global;
 
-/// The most octets that spell a whole value, or a part of one.
+// The most octets that spell a whole value, or a part of one.
 const MOST: usize = 60;
 
-/// What a unit's charset is called.
+// What a unit's charset is called.
 fn charset_of(unit: &Unit) -> &[u8]
     ensures { result.now ≡ charset_value (value_of unit.now) }
 {
@@ -36,7 +36,7 @@ fn octets_in(unit: &Unit) -> &[u8]
     }
 }
 
-/// How many octets, from the first one on, are spelled by so few octets as one part may have.
+// How many octets, from the first one on, are spelled by so few octets as one part may have.
 fn fitting(octets: &[u8]) -> usize
     ensures { IsFitting octets.now result }
 {
@@ -53,7 +53,7 @@ fn fitting(octets: &[u8]) -> usize
     fits
 }
 
-/// Whether no character goes on at a place.
+// Whether no character goes on at a place.
 fn is_boundary(octets: &[u8], at: usize) -> bool
     requires { at ≤ length octets.now }
     ensures { IsTrue result ↔ IsCharBoundary octets.now at }
@@ -61,7 +61,7 @@ fn is_boundary(octets: &[u8], at: usize) -> bool
     at == octets.len() || !matches!(octets[at], 128..=191)
 }
 
-/// The last place between two characters up to a place. It is at most three octets before that.
+// The last place between two characters up to a place. It is at most three octets before that.
 fn last_boundary(octets: &[u8], at: usize) -> usize
     requires bound { at ≤ length octets.now }
     requires utf8 { IsUtf8 octets.now }
@@ -74,7 +74,7 @@ fn last_boundary(octets: &[u8], at: usize) -> usize
     end
 }
 
-/// The last place up to a place where a part may end.
+// The last place up to a place where a part may end.
 fn last_end(unit: &Unit, octets: &[u8], at: usize) -> usize
     requires bound { at ≤ length octets.now }
     requires text { IsCuttable (value_of unit.now) octets.now }
@@ -86,7 +86,7 @@ fn last_end(unit: &Unit, octets: &[u8], at: usize) -> usize
     }
 }
 
-/// The first part of octets, and the octets behind it.
+// The first part of octets, and the octets behind it.
 fn split_part<'a>(unit: &Unit, octets: &'a [u8]) -> (&'a [u8], &'a [u8])
     requires some { 0 < length octets.now }
     requires text { IsCuttable (value_of unit.now) octets.now }
@@ -97,7 +97,7 @@ fn split_part<'a>(unit: &Unit, octets: &'a [u8]) -> (&'a [u8], &'a [u8])
     octets.split_at(last_end(unit, octets, fitting(octets)))
 }
 
-/// Puts a charset and no language last.
+// Puts a charset and no language last.
 fn push_charset(made: &mut Octets, unit: &Unit) -> Result<(), Memory>
     ensures { OnOk result (made.new ≡ made.old ++ charset_part (value_of unit.now)) }
 {
@@ -105,7 +105,7 @@ fn push_charset(made: &mut Octets, unit: &Unit) -> Result<(), Memory>
     made.push_slice(b"''")
 }
 
-/// Puts a whole value last.
+// Puts a whole value last.
 fn push_whole(
     alloc: Global,
     name: &[u8],
@@ -122,7 +122,7 @@ fn push_whole(
     Ok(())
 }
 
-/// Puts the digits of a number last.
+// Puts the digits of a number last.
 fn push_number(piece: &mut Octets, number: usize) -> Result<(), Memory>
     ensures { OnOk result (piece.new ≡ piece.old ++ number_digits number) }
 {
@@ -130,7 +130,7 @@ fn push_number(piece: &mut Octets, number: usize) -> Result<(), Memory>
     piece.push_slice(digits.format(number).as_bytes())
 }
 
-/// What stands before the value of a numbered piece.
+// What stands before the value of a numbered piece.
 fn begin_piece(alloc: Global, name: &[u8], number: usize) -> Result<Octets, Memory>
     ensures { IfOk result (λ piece. piece ≡ name.now ++ codes "*" ++ number_digits number ++ codes "*=") }
 {
@@ -141,7 +141,7 @@ fn begin_piece(alloc: Global, name: &[u8], number: usize) -> Result<Octets, Memo
     Ok(piece)
 }
 
-/// Puts the first of several pieces last.
+// Puts the first of several pieces last.
 fn push_first(
     alloc: Global,
     name: &[u8],
@@ -158,7 +158,7 @@ fn push_first(
     Ok(())
 }
 
-/// Puts another of several pieces last.
+// Puts another of several pieces last.
 fn push_part(
     alloc: Global,
     name: &[u8],
@@ -174,7 +174,7 @@ fn push_part(
     Ok(())
 }
 
-/// Puts the pieces of a value that is not short last.
+// Puts the pieces of a value that is not short last.
 fn push_parts(
     alloc: Global,
     name: &[u8],
@@ -198,21 +198,21 @@ fn push_parts(
     Ok(())
 }
 
-/// Whether octets are spelled by so few octets as one part may have.
+// Whether octets are spelled by so few octets as one part may have.
 fn is_short(octets: &[u8]) -> bool
     ensures { result ≡ not (nat_lt 60 (length (escaped octets.now))) }
 {
     fitting(octets) == octets.len()
 }
 
-/// Whether a value is to be written whole.
+// Whether a value is to be written whole.
 fn is_whole(unit: &Unit, whole: bool) -> bool
     ensures { result ≡ (whole || is_short_value (value_of unit.now)) }
 {
     whole || is_short(octets_in(unit))
 }
 
-/// Puts the pieces of a parameter last: one, where it has to be whole.
+// Puts the pieces of a parameter last: one, where it has to be whole.
 pub(crate) fn push_param(
     alloc: Global,
     name: &[u8],
@@ -241,31 +241,4 @@ pub fn write_param(
     ensures read_back { OnOk result (AddsPieces (ReadsAsOne name.now (value_of value.now)) pieces.old.items pieces.new.items) }
 {
     push_param(alloc, name, value, false, pieces)
-}
-
-#[cfg(test)]
-mod tests {
-    use super::*;
-    use crate::{ParamKind, read_params};
-    use std::test::Fail;
-
-    #[test]
-    fn a_parameter_is_written_by_itself(rt: HostRuntime) -> Result<(), Fail> {
-        let text = b"a; X*=iso-8859-1''%E9";
-        let Ok(params) = read_params(rt.alloc(), ParamKind::Disposition, text) else {
-            return Err(Fail::from("no parameters"));
-        };
-        let [param, ..] = params.list.as_slice() else {
-            return Err(Fail::from("no parameter"));
-        };
-        let mut pieces = Vec::new(rt.alloc());
-        write_param(rt.alloc(), param.name.as_slice(), &param.value, &mut pieces).map_err(
-            |_| "memory",
-        )?;
-        let [piece] = pieces.as_slice() else {
-            return Err(Fail::from("other pieces"));
-        };
-        assert_eq!(rt; piece.as_slice(), b"x*=iso-8859-1''%E9".as_slice());
-        Ok(())
-    }
 }

@@ -1,6 +1,6 @@
 use Rattle.std.proofs.lemmas.Result.{on_ok_weaker}
 use Rattle.address_lists.proofs.WritableTokens.{before_can, behind_can}
-use Rattle.address_lists.proofs.KeptGroups.{no_colon, group_at, no_semicolon, kept_adds}
+use Rattle.address_lists.proofs.KeptGroups.{no_colon, group_at, no_semicolon, inner_known, kept_adds}
 use Rattle.address_lists.proofs.written_groups.write_kept.Goals as goal
 
 pub unreachable-requires : goal.unreachable-requires
@@ -18,8 +18,11 @@ write_phrase-requires-clause-utf8 c = let s = c.in-Some.ensures.found in (before
 pub write_phrase-requires-clause-comments : goal.write_phrase-requires-clause-comments
 write_phrase-requires-clause-comments c = let s = c.in-Some.ensures.found in (before_can _ _ _ s.at s.whole c.requires.writable).comments
 
-pub write_inner-requires : goal.write_inner-requires
-write_inner-requires c =
+pub write_inner-requires-clause-members : goal.write_inner-requires-clause-members
+write_inner-requires-clause-members c = inner_known _ _ _ _ _ c.requires.group c.in-Some.ensures.found c.in-Some-split_at_mark.ensures.found
+
+pub write_inner-requires-clause-writable : goal.write_inner-requires-clause-writable
+write_inner-requires-clause-writable c =
     let s = c.in-Some.ensures.found in
     let t = c.in-Some-split_at_mark.ensures.found in
     before_can _ _ _ t.at t.whole (behind_can _ _ _ s.at s.whole c.requires.writable)

@@ -6,5 +6,5 @@ returns-in_default-clause-none c = not-HasBody-tokens c.args.kind c.args.text.no
 
 pub returns-in_default-2-clause-none : goal.returns-in_default-2-clause-none
 returns-in_default-2-clause-none c =
-    not-HasBody-parts c.args.kind c.args.text.now c.in-Some.tokens.items (rw (c.in-Some.is) at c.in_ok-tokens.ensures.found)
+    not-HasBody-parts c.args.kind c.args.text.now c.in-Some.tokens.items (rw (c.in-Some.is) at c.in_ok-tokens.ensures.some)
     (rw (c.in_default-2.is, c.deref.ensures.value) at c.in_ok-written.ensures.none)

@@ -17,9 +17,9 @@ pub returns-clause-found : goal.returns-clause-found
 returns-clause-found c =
     let found = rw (c.in-Some.is) at c.in_ok-main.ensures.found in
     global_found c.args.text.now c.in-Some.main found.0 found.1 c.in-Some-2.tokens.items c.in_ok-words.words.items c.third_place.result found.2
-    (sym (rw (c.as_slice.ensures) at c.if-not-is_global.ensures)) (rw (c.in-Some-2.is) at c.in_ok-tokens.ensures.found) (rw (c.deref.ensures.value) at c.in_ok-words.ensures) (rw (c.deref-2.ensures.value) at c.third_place.ensures.found)
+    (sym (rw (c.as_slice.ensures) at c.if-not-is_global.ensures)) (rw (c.in-Some-2.is) at c.in_ok-tokens.ensures.some) (rw (c.deref.ensures.value) at c.in_ok-words.ensures) (rw (c.deref-2.ensures.value) at c.third_place.ensures.found)
 
 pub returns-clause-none : goal.returns-clause-none
 returns-clause-none c =
     global_not_found c.args.text.now c.in-Some-2.tokens.items c.in_ok-words.words.items c.third_place.result
-    (rw (c.in-Some-2.is) at c.in_ok-tokens.ensures.found) (rw (c.deref.ensures.value) at c.in_ok-words.ensures) (rw (c.deref-2.ensures.value) at c.third_place.ensures.none)
+    (rw (c.in-Some-2.is) at c.in_ok-tokens.ensures.some) (rw (c.deref.ensures.value) at c.in_ok-words.ensures) (rw (c.deref-2.ensures.value) at c.third_place.ensures.none)

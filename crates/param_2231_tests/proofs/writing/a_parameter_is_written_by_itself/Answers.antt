@@ -2,7 +2,7 @@ use Rattle.std.proofs.Common.{sym, subst}
 use Rattle.encoded_words.specs.Values.{value_of}
 use Rattle.param_2231.specs.WrittenParam.{ComesInParams}
 use Rattle.param_2231.proofs.WrittenParamLemmas.{ComesInParams-first}
-use Rattle.param_2231.proofs.writing.tests.a_parameter_is_written_by_itself.Goals as goal
+use Rattle.param_2231_tests.proofs.writing.a_parameter_is_written_by_itself.Goals as goal
 
 pub write_param-requires : goal.write_param-requires
 write_param-requires g c =

@@ -1,0 +1,7 @@
+//! The worked rows of address_lists, by its public calls.
+#![tactic(auto)]
+
+#[cfg(test)]
+mod reading;
+#[cfg(test)]
+mod rewriting;

@@ -1,0 +1,15 @@
+//! The worked rows of param_2231, by its public calls.
+#![tactic(auto)]
+
+#[cfg(test)]
+mod bodies;
+#[cfg(test)]
+mod global_types;
+#[cfg(test)]
+mod reading;
+#[cfg(test)]
+mod rewriting;
+#[cfg(test)]
+mod values;
+#[cfg(test)]
+mod writing;
