@@ -18,7 +18,7 @@ fn is_line_end(octet: u8) -> bool
     octet == b'\r' || octet == b'\n'
 }
 
-/// Where the first octet stands that is no white and no line end.
+// Where the first octet stands that is no white and no line end.
 fn find_text(body: &[u8]) -> Option<usize>
     ensures { result ≡ position (λ x. not (is_white_octet x || is_line_end_octet x)) body.now }
 {
@@ -26,7 +26,7 @@ fn find_text(body: &[u8]) -> Option<usize>
         .position(|octet| !(is_white(*octet) || is_line_end(*octet)))
 }
 
-/// The white and the line ends at the beginning of a body, and what follows them.
+// The white and the line ends at the beginning of a body, and what follows them.
 fn split_lead(body: &[u8]) -> (&[u8], &[u8])
     ensures { IsSpan (λ x. is_white_octet x || is_line_end_octet x) body.now result.0.now result.1.now }
 {
@@ -36,7 +36,7 @@ fn split_lead(body: &[u8]) -> (&[u8], &[u8])
     }
 }
 
-/// Where the octet stands behind so many others, of which line ends aren't counted.
+// Where the octet stands behind so many others, of which line ends aren't counted.
 fn place_behind(octets: &[u8], count: usize) -> usize
     ensures bound { result ≤ length octets.now }
     ensures place { (before rest : List ℕ) (x : ℕ) → octets.now ≡ before ++ x ∷ rest → is_line_end_octet x ≡ false
@@ -56,7 +56,7 @@ fn place_behind(octets: &[u8], count: usize) -> usize
     at
 }
 
-/// A body with `rfc822` in place of the `global` that stands at this place of its value.
+// A body with `rfc822` in place of the `global` that stands at this place of its value.
 fn with_rfc822(alloc: Global, body: &[u8], at: usize) -> Result<Octets, Memory>
     requires folded { IsFolded body.now }
     requires names { (value : List ℕ) × HasValue body.now value × NamesGlobal value at }

@@ -10,8 +10,6 @@ mod plain;
 mod received;
 mod segments;
 mod structured;
-#[cfg(test)]
-mod tests;
 mod typed;
 mod word;
 mod words;

@@ -73,39 +73,3 @@ pub fn rewrite_typed(alloc: Global, value: &[u8]) -> Result<Option<Vec<Octets>>,
     pieces.push(piece)?;
     Ok(Some(pieces))
 }
-
-#[cfg(test)]
-mod tests {
-    use super::*;
-    use std::test::Fail;
-
-    fn gives(alloc: Global, value: &str, wanted: &str) -> Result<bool, Fail> {
-        match rewrite_typed(alloc, value.as_bytes()).map_err(|_| "memory")? {
-            Some(pieces) => Ok(pieces.len() == 1 && pieces[0].as_slice() == wanted.as_bytes()),
-            None => Ok(false),
-        }
-    }
-
-    fn has_none(alloc: Global, value: &str) -> Result<bool, Fail> {
-        let found = rewrite_typed(alloc, value.as_bytes()).map_err(|_| "memory")?;
-        Ok(found.is_none())
-    }
-
-    #[test]
-    fn utf8_addresses_are_escaped(rt: HostRuntime) -> Result<(), Fail> {
-        let wanted = "utf-8; jos\\x{E9}@example.com";
-        assert!(rt; gives(rt.alloc(), "utf-8; josé@example.com", wanted)?);
-        assert!(rt; gives(rt.alloc(), " UTF-8 ;é", "utf-8; \\x{E9}")?);
-        assert!(rt; gives(rt.alloc(), "utf-8;é\\x{E9}", "utf-8; \\x{E9}\\x{E9}")?);
-        Ok(())
-    }
-
-    #[test]
-    fn other_types_have_no_pieces(rt: HostRuntime) -> Result<(), Fail> {
-        assert!(rt; has_none(rt.alloc(), "rfc822;é")?);
-        assert!(rt; has_none(rt.alloc(), "utf-8; é\\x{zz}")?);
-        assert!(rt; has_none(rt.alloc(), "é;a")?);
-        assert!(rt; has_none(rt.alloc(), "utf-8 é")?);
-        Ok(())
-    }
-}

@@ -8,8 +8,4 @@ pub mod marks;
 pub mod message;
 pub mod openings;
 pub mod reading;
-#[cfg(test)]
-mod section_tests;
 pub mod sections;
-#[cfg(test)]
-mod tests;

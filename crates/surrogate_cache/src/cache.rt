@@ -5,6 +5,7 @@
 pub struct Cache {}
 
 impl Cache {
+    /// Such a cache.
     pub fn plain() -> Cache {
         Cache {}
     }

@@ -3,6 +3,4 @@
 
 pub mod cache;
 pub mod laws;
-#[cfg(test)]
-mod tests;
 pub mod view;

@@ -15,6 +15,7 @@ use surrogate_rope::shown::Shown;
 pub trait View {
     ghost mode: { Mode };
 
+    /// Whether a session of this kind has enabled UTF-8.
     fn enabled() -> bool
         ensures { result ≡ is_enabled mode };
 

@@ -16,7 +16,8 @@ use Rattle.mime_tree.proofs.TreeFields.{tree_fields}
 use Rattle.surrogate_rope.specs.declared.building.Made.{Made}
 use Rattle.surrogate_rope.specs.Layout.{InEntity}
 use Rattle.surrogate_rope.specs.Ropes.{changed, CountsChanged}
-use Rattle.surrogate_rope.specs.Building.{Copies, AddsBlock, HasServedBlocks}
+use Rattle.surrogate_rope.specs.Building.{IsFew, Copies, AddsBlock, HasServedBlocks}
+use Rattle.surrogate_rope.proofs.AddedFields.{block_few, copies_few}
 
 -- entities in order end no earlier than they begin
 pub order_le : (from to : ℕ) (entities : List Entity) → AreInOrder from to entities → from ≤ to
@@ -63,6 +64,7 @@ pub record IsMadeSoFar (msg : List ℕ) (entities : List Entity) (i at : ℕ) (m
   pub counted : CountsChanged (InEntity IsServed msg) msg (take i entities) made.rewritten
   pub before : AreInOrder 0 at (take i entities)
   pub behind : AreInOrder at (length msg) (drop i entities)
+  pub few : IsFew made
 
 zero_add : (n : ℕ) → 0 + n ≡ n
 zero_add n = omega arith
@@ -71,7 +73,7 @@ pub tree_order : (msg : List ℕ) (entities : List Entity) → HasTree msg entit
 tree_order msg entities tree = subst (λ to. AreInOrder 0 to entities) (zero_add (length (concat (lines_of msg))) ∙ ap length (concat_lines_of msg)) (in_order depth_max msg None _ 0 0 (lines_of msg) entities tree.root)
 
 pub none_made : (msg : List ℕ) (entities : List Entity) (made : Made) → HasTree msg entities → made.octets ≡ [] → made.rewritten ≡ 0 → IsMadeSoFar msg entities 0 0 made
-none_made msg entities made tree none zero = record { blocks = none ∙ sym (nothing_between msg 0); counted = zero; before = omega arith; behind = tree_order msg entities tree }
+none_made msg entities made tree none zero = record { blocks = none ∙ sym (nothing_between msg 0); counted = zero; before = omega arith; behind = tree_order msg entities tree; few = omega (arith, zero) }
 
 -- where the next entity's block stands
 pub record HasNextBlock (msg : List ℕ) (entities : List Entity) (i at : ℕ) (entity : Entity) : Type 0 where
@@ -101,6 +103,7 @@ made_more msg entities i at made middle new entity inside is so_far copies adds 
       counted = rw (first, count) (counts_more (InEntity IsServed msg) msg (take i entities) entity adds.fields made.rewritten so_far.counted adds.each);
       before = rw first (order_push 0 at (take i entities) entity so_far.before next.from next.order);
       behind = next.rest;
+      few = block_few msg entity (raws_of msg entity.block) middle new (copies_few msg at entity.at made middle so_far.few copies) adds;
     }
   where
     order_push : (from at : ℕ) (entities : List Entity) (entity : Entity) → AreInOrder from at entities → at ≤ entity.at → entity.at ≤ entity.block.end → AreInOrder from entity.block.end (entities ++ entity ∷ [])

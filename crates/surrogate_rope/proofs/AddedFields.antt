@@ -1,13 +1,15 @@
 -- Fields that are put last, one after the other.
-use Rattle.std.proofs.Common.{◌≡◌, ◌≢◌, ◌↔◌, ℕ, ◌+◌, ◌<◌, inl, inr, Bool, false, List, [], ◌∷◌, ◌++◌, length, take, get_or, map, refl, sym, ◌∙◌, subst, arith, if◌then◌else◌, append_assoc, IsTrue}
+use Rattle.std.proofs.Common.{◌≡◌, ◌≢◌, ◌↔◌, ℕ, ◌+◌, ◌<◌, ◌≤◌, inl, inr, Bool, false, List, [], ◌∷◌, ◌++◌, length, take, get_or, map, refl, sym, ◌∙◌, subst, arith, if◌then◌else◌, append_assoc, IsTrue}
+use Rattle.std.specs.Prelude.{slice_range}
 use Rattle.std.specs.List.{AllZip, concat}
 use Rattle.std.specs.Str.{bytes_eq}
 use Rattle.std.proofs.lemmas.Bool.{cases_Bool}
-use Rattle.std.proofs.lemmas.List.{append-nil, map-append, take_more}
+use Rattle.std.proofs.lemmas.List.{append-nil, map-append, take_more, length-append}
 use Rattle.std.proofs.lemmas.List.Folds.{concat-append}
 use Rattle.std.proofs.lemmas.Slice.Eq.{bytes_eq-Decides}
 use Rattle.utf8_fields.specs.declared.block.Field.{Field}
 use Rattle.utf8_fields.specs.Block.{raw_of}
+use Rattle.utf8_fields.specs.Parts.{FieldParts}
 use Rattle.field_downgrade.specs.declared.field.Rewrite.{Rewrite}
 use Rattle.field_downgrade.specs.declared.field.Rewrite.TheVariants.{Keep, New}
 use Rattle.field_downgrade.specs.Message.{IsServed}
@@ -16,7 +18,7 @@ use Rattle.mime_tree.specs.declared.entity.Entity.{Entity}
 use Rattle.surrogate_rope.specs.declared.building.Made.{Made}
 use Rattle.surrogate_rope.specs.Layout.{IsOpenGlobal, InEntity}
 use Rattle.surrogate_rope.specs.Ropes.{changed}
-use Rattle.surrogate_rope.specs.Building.{AddsField, AddsBlock}
+use Rattle.surrogate_rope.specs.Building.{IsFew, Copies, AddsField, AddsBlock}
 
 not_same : (raw made : List ℕ) → made ≢ raw → bytes_eq raw made ≡ false
 not_same raw made differs = elim (cases_Bool (bytes_eq raw made)) [
@@ -90,3 +92,49 @@ in_entity msg entity open_global raw old new is_open adds = record {
   octets = adds.octets;
   counted = adds.counted;
 }
+
+-- a field has an octet
+name_some : (name rest : List ℕ) → 0 < length name → 0 < length (name ++ rest)
+name_some [] rest some = absurd (omega (arith, some))
+name_some (x ∷ name) rest some = omega arith
+
+pub served_some : (open_global : Bool) (raw made : List ℕ) → IsServed open_global raw made → 0 < length made
+served_some open_global raw made is =
+    let g : FieldParts = is.lines.g in
+    rw (is.lines.made_field.spelled) (name_some g.name (g.white ++ 58 ∷ (g.body ++ g.ending)) is.lines.made_field.named)
+
+-- there is a next number for a field that was put last
+pub next_number : (open_global : Bool) (raw made octets : List ℕ) (old : Made) (rewrite : Rewrite) → IsServed open_global raw (made_from raw rewrite) → rewrite ≡ New made → octets ≡ old.octets ++ made → IsFew old
+    → old.rewritten < length octets
+next_number open_global raw made octets old rewrite served is added few =
+    let some : 0 < length made = served_some open_global raw made (rw is at served) in
+    let all : length octets ≡ length old.octets + length made = rw added (length-append old.octets made) in
+    omega (arith, some, all, few)
+
+one_most : (raw made : List ℕ) → 0 < length made → (if bytes_eq raw made then 0 else 1) ≤ length made
+one_most raw made some = elim (cases_Bool (bytes_eq raw made)) [
+  | inl is ↦ rw is (omega arith)
+  | inr is ↦ rw is (omega (arith, some))
+]
+
+-- no more fields of a block are others than there are octets
+changed_few : (msg : List ℕ) (entity : Entity) (raws fields : List (List ℕ)) → AllZip (InEntity IsServed msg entity) raws fields → changed raws fields ≤ length (concat fields)
+changed_few msg entity [] [] all = omega arith
+changed_few msg entity [] (y ∷ fields) all = absurd all
+changed_few msg entity (x ∷ raws) [] all = absurd all
+changed_few msg entity (x ∷ raws) (y ∷ fields) all =
+    let first = one_most x y (served_some all.0.open_global x y all.0.holds) in
+    let rest = changed_few msg entity raws fields all.1 in
+    omega (arith, first, rest, length-append y (concat fields))
+
+-- nor of those that a block was added to
+pub block_few : (msg : List ℕ) (entity : Entity) (raws : List (List ℕ)) (old new : Made) → IsFew old → AddsBlock (InEntity IsServed msg entity) raws old new → IsFew new
+block_few msg entity raws old new few adds =
+    let more = changed_few msg entity raws adds.fields adds.each in
+    let all : length new.octets ≡ length old.octets + length (concat adds.fields) = rw adds.octets (length-append old.octets (concat adds.fields)) in
+    omega (arith, few, more, all, adds.counted)
+
+pub copies_few : (msg : List ℕ) (from to : ℕ) (old new : Made) → IsFew old → Copies msg from to old new → IsFew new
+copies_few msg from to old new few copies =
+    let all : length new.octets ≡ length old.octets + length (slice_range msg from to) = rw copies.octets (length-append old.octets (slice_range msg from to)) in
+    omega (arith, few, all, copies.rewritten)

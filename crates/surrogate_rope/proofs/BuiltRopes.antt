@@ -1,6 +1,7 @@
 -- A rope whose octets were made block by block.
 use Rattle.std.proofs.Common.{◌≡◌, ℕ, List, [], ◌∷◌, ◌++◌, length, refl, sym, subst, append-nil}
 use Rattle.mime_tree.specs.declared.entity.Entity.{Entity}
+use Rattle.mime_tree.specs.declared.entity.TreeFault.{TreeFault}
 use Rattle.mime_tree.specs.Outlines.{outlines_of}
 use Rattle.mail_wire.specs.Message.{IsSound}
 use Rattle.mime_tree.specs.Tree.{HasTree}
@@ -76,3 +77,10 @@ rope_read msg entities made octets read tree is same exact =
 -- the octets of a surrogate are sound
 pub made_sound : (msg : List ℕ) (entities : List Entity) (made : Made) (octets : List ℕ) → HasTree msg entities → HasServedBlocks msg entities made → octets ≡ made.octets → IsSound octets
 made_sound msg entities made octets tree is same = subst IsSound (sym same) (built_rope msg entities made tree is).tree.is_message
+
+-- a fault of a surrogate's octets is want of memory, since they have a tree
+pub memory_alone : (msg : List ℕ) (entities : List Entity) (made : Made) (octets : List ℕ) (fault : TreeFault) → HasTree msg entities → HasServedBlocks msg entities made → octets ≡ made.octets
+    → ((others : List Entity) → HasTree octets others → fault ≡ TreeFault.Memory) → fault ≡ TreeFault.Memory
+memory_alone msg entities made octets fault tree is same exact =
+    let built = built_rope msg entities made tree is in
+    exact built.others (subst (λ text. HasTree text built.others) (sym same) built.tree)

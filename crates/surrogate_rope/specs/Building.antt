@@ -1,5 +1,5 @@
 -- The steps that make a surrogate.
-use Rattle.std.specs.Prelude.{◌≡◌, ℕ, ◌+◌, List, ◌++◌, if◌then◌else◌, length, slice_range}
+use Rattle.std.specs.Prelude.{◌≡◌, ◌≤◌, ℕ, ◌+◌, List, ◌++◌, if◌then◌else◌, length, slice_range}
 use Rattle.std.specs.List.{AllZip, concat}
 use Rattle.std.specs.Str.{bytes_eq}
 use Rattle.field_downgrade.specs.Message.{IsServed}
@@ -8,6 +8,10 @@ use Rattle.mime_tree.specs.Rewriting.{RewritesBlocks}
 use Rattle.surrogate_rope.specs.declared.building.Made.{Made}
 use Rattle.surrogate_rope.specs.Layout.{InEntity}
 use Rattle.surrogate_rope.specs.Ropes.{changed, CountsChanged}
+
+-- No more fields were made anew than there are octets.
+abbrev pub IsFew : Made → Type 0
+IsFew made = made.rewritten ≤ length made.octets
 
 -- The octets of the message between these places were put last.
 pub record Copies (msg : List ℕ) (from to : ℕ) (old new : Made) : Type 0 where

@@ -1,11 +1,11 @@
 //! Makes the surrogate of a message, block by block.
-ghost use Rattle.std.specs.Prelude.{◌↔◌, ◌≡◌, ◌+◌, ◌≤◌, ℕ, length, IfOk, OnOk, IsTrue};
+ghost use Rattle.std.specs.Prelude.{◌↔◌, ◌≡◌, ◌+◌, ◌<◌, ◌≤◌, ℕ, length, IfOk, OnOk, IsTrue};
 ghost use Rattle.utf8_fields.specs.Parts.{IsField};
 ghost use Rattle.field_downgrade.specs.Message.{IsServed};
 ghost use Rattle.mime_tree.specs.Openings.{AreFieldsWithin};
 ghost use Rattle.mime_tree.specs.Tree.{HasTree, raws_of};
 ghost use Rattle.surrogate_rope.specs.Layout.{IsOpenGlobal, InEntity};
-ghost use Rattle.surrogate_rope.specs.Building.{Copies, AddsField, AddsBlock, HasServedBlocks};
+ghost use Rattle.surrogate_rope.specs.Building.{IsFew, Copies, AddsField, AddsBlock, HasServedBlocks};
 
 use field_downgrade::field::{Rewrite, downgrade_field};
 use mail_wire::values::{Memory, Octets};
@@ -15,20 +15,18 @@ use param_2231::global_types::find_global;
 use std::alloc::Global;
 
 /// The octets of a surrogate, and how many of its fields were made anew.
-#[derive(Debug, Drop)]
+#[derive(Drop)]
 pub struct Made {
     pub octets: Octets,
     pub rewritten: usize,
 }
 
-// One more. There are fewer fields than octets, so there is always a next number.
-fn count_one(count: usize) -> Result<usize, Memory>
-    ensures { IfOk result (λ next. next ≡ count + 1) }
+// One more, where so many octets are more than that.
+fn count_one(count: usize, octets: usize) -> usize
+    requires { count < octets }
+    ensures { result ≡ count + 1 }
 {
-    match count.checked_add(1) {
-        Some(next) => Ok(next),
-        None => Err(Memory),
-    }
+    count + 1
 }
 
 // Whether the entity is an opened message/global (RFC 6532, 3.7).
@@ -59,23 +57,26 @@ impl Made {
         self.octets.push_slice(&msg[from..to])
     }
 
-    // Rewrites a field.
+    // Rewrites a field. One that is made anew has an octet, so there is always a next number.
     fn push_field(&mut self, alloc: Global, raw: &[u8], open_global: bool) -> Result<(), Memory>
-        requires { IsField raw.now }
+        requires field { IsField raw.now }
+        requires few { IsFew self.old }
         ensures { OnOk result (AddsField (IsServed open_global raw.now) raw.now self.old self.new) }
     {
         match downgrade_field(alloc, raw, open_global)? {
             Rewrite::Keep => self.octets.push_slice(raw),
             Rewrite::New(made) => {
-                self.rewritten = count_one(self.rewritten)?;
-                self.octets.push_slice(made.as_slice())
+                self.octets.push_slice(made.as_slice())?;
+                self.rewritten = count_one(self.rewritten, self.octets.len());
+                Ok(())
             }
         }
     }
 
     // Rewrites each field of an entity's block.
     fn push_block(&mut self, alloc: Global, msg: &[u8], entity: &Entity) -> Result<(), Memory>
-        requires { AreFieldsWithin msg.now entity.now.block.fields }
+        requires within { AreFieldsWithin msg.now entity.now.block.fields }
+        requires few { IsFew self.old }
         ensures { OnOk result (AddsBlock (InEntity IsServed msg.now entity.now) (raws_of msg.now entity.now.block) self.old self.new) }
     {
         let open_global = is_open_global(alloc, msg, entity)?;

@@ -5,5 +5,3 @@ mod building;
 pub mod laws;
 pub mod rope;
 pub mod shown;
-#[cfg(test)]
-mod tests;

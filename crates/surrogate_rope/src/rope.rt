@@ -1,5 +1,6 @@
 //! Ropes: the surrogate of a message, and the places of its entities.
-ghost use Rattle.std.specs.Prelude.{◌≡◌, ◌-◌, ◌++◌, ◌∷◌, [], length, take, drop, min, IfOk};
+ghost use Rattle.std.specs.Prelude.{◌≡◌, ◌↔◌, ◌-◌, ◌++◌, ◌∷◌, [], length, take, drop, min, IfOk, IsTrue};
+ghost use Rattle.mime_tree.specs.declared.entity.TreeFault.{TreeFault};
 ghost use Rattle.mime_tree.specs.Outlines.{outlines_of};
 ghost use Rattle.mime_tree.specs.Sections.{section};
 ghost use Rattle.mime_tree.specs.Tree.{HasTree};
@@ -7,14 +8,14 @@ ghost use Rattle.surrogate_rope.specs.Ropes.{RopeValue, Piece, IsRopeOf, octets_
 
 use crate::building::make_surrogate;
 use mail_wire::values::{Memory, Octets, Span};
-use mime_tree::entity::Tree;
+use mime_tree::entity::{Tree, TreeFault};
 use mime_tree::reading::read_sound_tree;
 use mime_tree::sections::Part;
 use std::alloc::Global;
 use std::marker::Model;
 
 /// The surrogate of a message. It keeps all its octets.
-#[derive(Debug, Drop)]
+#[derive(Drop)]
 pub struct Rope {
     octets: Octets,
     tree: Tree,
@@ -31,6 +32,13 @@ impl Model for Rope {
     ghost view = { λ a. record { pieces = Piece.New a.octets ∷ []; entities = outlines_of a.tree.entities; rewritten = a.rewritten } };
 }
 
+// Whether memory was wanting.
+fn is_memory(fault: TreeFault) -> bool
+    ensures { IsTrue result ↔ (fault ≡ TreeFault.Memory) }
+{
+    matches!(fault, TreeFault::Memory)
+}
+
 impl Rope {
     /// Makes the surrogate of a message, whose tree this is.
     pub fn build(alloc: Global, msg: &[u8], tree: &Tree) -> Result<Rope, Memory>
@@ -38,14 +46,19 @@ impl Rope {
         ensures { IfOk result (IsRopeOf msg.now) }
     {
         let made = make_surrogate(alloc, msg, tree)?;
-        let Ok(tree) = read_sound_tree(alloc, made.octets.as_slice()) else {
-            return Err(Memory);
-        };
-        Ok(Rope {
-            octets: made.octets,
-            tree,
-            rewritten: made.rewritten,
-        })
+        match read_sound_tree(alloc, made.octets.as_slice()) {
+            Ok(tree) => Ok(Rope {
+                octets: made.octets,
+                tree,
+                rewritten: made.rewritten,
+            }),
+            Err(fault) => {
+                if !is_memory(fault) {
+                    unreachable!();
+                }
+                Err(Memory)
+            }
+        }
     }
 
     /// How many octets the surrogate has.

@@ -9,7 +9,7 @@ use mime_tree::entity::Tree;
 use mime_tree::sections::Part;
 
 /// The message itself, with its tree, or its surrogate.
-#[derive(Debug, Drop)]
+#[derive(Drop)]
 pub enum Shown {
     Whole(Tree),
     Rope(Rope),

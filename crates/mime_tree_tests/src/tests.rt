@@ -1,8 +1,8 @@
 //! The tree of worked messages, by the public calls.
-use crate::completing::complete;
-use crate::entity::{Entity, Shape, TreeFault};
-use crate::reading::read_tree;
 use mail_wire::values::Octets;
+use mime_tree::completing::complete;
+use mime_tree::entity::{Entity, Shape, TreeFault};
+use mime_tree::reading::read_tree;
 use std::test::Fail;
 
 // An entity by its parent, depth, places and shape.

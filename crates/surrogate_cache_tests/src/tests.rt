@@ -1,12 +1,12 @@
 //! What is shown of a message, in both kinds.
 ghost use Rattle.surrogate_rope.specs.Served.{IsShownOf};
 
-use crate::cache::Cache;
-use crate::view::{Enabled, Legacy, View};
 use mail_wire::values::{Memory, Octets};
 use mime_tree::reading::read_tree;
 use std::alloc::Global;
 use std::test::Fail;
+use surrogate_cache::cache::Cache;
+use surrogate_cache::view::{Enabled, Legacy, View};
 use surrogate_rope::shown::Shown;
 
 // All that is shown, read in pieces of seven octets.
@@ -23,13 +23,11 @@ fn all_of(alloc: Global, shown: &Shown, msg: &[u8]) -> Result<Octets, Memory>
 }
 
 // What is shown of a message.
-fn shown<V: View>(alloc: Global, msg: &[u8]) -> Result<Octets, Memory> {
-    let Ok(tree) = read_tree(alloc, msg) else {
-        return Err(Memory);
-    };
+fn shown<V: View>(alloc: Global, msg: &[u8]) -> Result<Octets, Fail> {
+    let tree = read_tree(alloc, msg).map_err(|_| "no tree")?;
     let mut cache = Cache::plain();
     let shown = V::show(alloc, &mut cache, 0, msg, tree)?;
-    all_of(alloc, &shown, msg)
+    Ok(all_of(alloc, &shown, msg)?)
 }
 
 #[test]

@@ -1,6 +1,6 @@
 //! Sections of worked messages, by the public calls.
-use crate::reading::read_tree;
-use crate::sections::Part;
+use mime_tree::reading::read_tree;
+use mime_tree::sections::Part;
 use std::test::Fail;
 
 const NESTED: &[u8] =

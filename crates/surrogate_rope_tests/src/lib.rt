@@ -1,0 +1,5 @@
+//! The ropes of worked messages, by the public calls of surrogate_rope.
+#![tactic(auto)]
+
+#[cfg(test)]
+mod tests;
