@@ -11,14 +11,14 @@ use mail_wire::values::Octets;
 use memchr::memmem;
 
 /// The line before a part, or the one after the last.
-#[derive(Clone, Copy, Debug, PartialEq, Eq)]
+#[derive(Clone, Copy)]
 pub enum Mark {
     Delimiter,
     Close,
 }
 
 /// How long a line is, and how long its text is, which is all but its CRLF.
-#[derive(Clone, Copy, Debug, PartialEq, Eq)]
+#[derive(Clone, Copy)]
 pub struct Line {
     pub text: usize,
     pub len: usize,
@@ -59,7 +59,7 @@ pub fn text_after<'a>(text: &'a [u8], beginning: &[u8]) -> Option<&'a [u8]>
 }
 
 /// Whether all octets are white.
-pub fn is_blank(text: &[u8]) -> bool
+pub fn is_white_text(text: &[u8]) -> bool
     ensures { result ≡ list_all is_white text.now }
 {
     text.iter().all(|octet| is_white(*octet))
@@ -75,13 +75,13 @@ pub fn mark_by(boundary: &[u8], text: &[u8]) -> Option<Mark>
     let Some(tail) = text_after(dashed, boundary) else {
         return None;
     };
-    if is_blank(tail) {
+    if is_white_text(tail) {
         return Some(Mark::Delimiter);
     }
     let Some(tail) = text_after(tail, b"--") else {
         return None;
     };
-    if is_blank(tail) {
+    if is_white_text(tail) {
         Some(Mark::Close)
     } else {
         None
@@ -98,7 +98,7 @@ pub fn is_delimiter(boundary: &[u8], text: &[u8]) -> bool
     let Some(tail) = text_after(dashed, boundary) else {
         return false;
     };
-    is_blank(tail)
+    is_white_text(tail)
 }
 
 /// Whether one of the boundaries marks the line of this text.

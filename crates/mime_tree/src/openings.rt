@@ -10,7 +10,7 @@ ghost use Rattle.param_2231.specs.Joining.{param_value};
 ghost use Rattle.mime_tree.specs.Openings.{is_letter, is_digit_or_sign, is_other_sign, is_boundary_octet, is_usable, is_message_type, is_multipart_type, is_digest_type, is_identity_name, boundary_in, opening_said, opening_by_default, Opens, OpensByType, OpensByText, IsFirstValue, IsIdentity, KeepsOctets, AreFieldsWithin, usable_of, divided};
 
 use encoded_words::Unit;
-use field_tokens::{Style, Token, TokenFault, TokenKind, tokens};
+use field_tokens::{Style, Token, TokenFault, TokenKind, is_blank, tokens};
 use mail_wire::text::is_same_name;
 use mail_wire::values::{Memory, Octets};
 use param_2231::{Param, ParamFault, ParamKind, Params, read_params};
@@ -183,12 +183,6 @@ fn opening_by_type(alloc: Global, text: &Option<Octets>, digest: bool) -> Result
             }
         }
     }
-}
-
-fn is_blank(kind: TokenKind) -> bool
-    ensures { result ≡ is_blank kind }
-{
-    matches!(kind, TokenKind::Gap | TokenKind::Comment)
 }
 
 fn is_atom(kind: TokenKind) -> bool

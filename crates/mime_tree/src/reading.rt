@@ -27,35 +27,35 @@ use utf8_fields::reading::read_block_at;
 pub const DEPTH_MAX: u32 = 32;
 
 /// Where the lines of an entity stop: before a line that an open boundary marks, or at the end of the message.
-#[derive(Clone, Copy, Debug, PartialEq, Eq)]
+#[derive(Clone, Copy)]
 pub struct Stop {
     pub at: usize,
     pub marked: bool,
 }
 
 /// Where a part begins. It is read from `from` on; its place is `at`, which differs where nothing is in it.
-#[derive(Clone, Copy, Debug, PartialEq, Eq)]
+#[derive(Clone, Copy)]
 pub struct Start {
     pub from: usize,
     pub at: usize,
 }
 
 /// What follows in a multipart: a part, or its end.
-#[derive(Clone, Copy, Debug, PartialEq, Eq)]
+#[derive(Clone, Copy)]
 pub enum Next {
     Part(Start),
     End(Stop),
 }
 
 /// A block, and where the content begins after it.
-#[derive(Debug, Drop)]
+#[derive(Drop)]
 pub struct Head {
     pub block: Block,
     pub content: Start,
 }
 
 /// What an entity is, and where it stops.
-#[derive(Clone, Copy, Debug, PartialEq, Eq)]
+#[derive(Clone, Copy)]
 pub struct Opened {
     pub shape: Shape,
     pub stop: Stop,
