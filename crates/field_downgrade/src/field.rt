@@ -22,7 +22,7 @@ use utf8_fields::parts::{Parts, split_field};
 use utf8_fields::values::value_of;
 
 /// A field as it is served: as it was, or made anew.
-#[derive(Debug, Drop)]
+#[derive(Drop)]
 pub enum Rewrite {
     Keep,
     New(Octets),

@@ -9,7 +9,7 @@ use mail_wire::text::is_same_name;
 use param_2231::ParamKind;
 
 /// What the value of a field is read as.
-#[derive(Clone, Copy, Debug, PartialEq, Eq)]
+#[derive(Clone, Copy, PartialEq, Eq)]
 pub enum Kind {
     Unstructured,
     Addresses,

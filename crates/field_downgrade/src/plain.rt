@@ -1,7 +1,7 @@
 //! The rewriting of plain texts with comments.
 ghost use Rattle.std.specs.Prelude.{◌≡◌, ◌++◌, ◌||◌, ℕ, List, filter, length, not, IfOk, IfSome, IfNone, OnOk, IsTrue, ◌↔◌};
 ghost use Rattle.std.specs.List.{list_all};
-ghost use Rattle.field_tokens.specs.Squeezed.{is_blank as is_blank_of, is_comment as is_comment_of};
+ghost use Rattle.field_tokens.specs.Squeezed.{is_blank as is_blank_of};
 ghost use Rattle.field_tokens.specs.declared.Token.{Token};
 ghost use Rattle.field_tokens.specs.Comments.{CommentValue, AddsPieces};
 ghost use Rattle.field_tokens.specs.Tokens.{HasTokens};
@@ -9,7 +9,7 @@ ghost use Rattle.field_downgrade.specs.PlainTexts.{style_where as style_of, text
 ghost use Rattle.field_downgrade.specs.PlainSteps.{is_atom, IsOneAtom, GiveComments};
 
 use field_tokens::comments::write_comment;
-use field_tokens::{Style, Token, TokenFault, TokenKind, squeezed, tokens};
+use field_tokens::{Style, Token, TokenKind, is_blank, is_comment, read_tokens, squeezed};
 use mail_wire::text::is_ascii;
 use mail_wire::values::{Memory, Octets};
 use std::alloc::Global;
@@ -22,24 +22,6 @@ fn style_where(is_encoding: bool) -> Style
     } else {
         Style::Mail
     }
-}
-
-// The tokens of a text, if it has any.
-fn read_tokens(alloc: Global, style: Style, text: &[u8]) -> Result<Option<Vec<Token>>, Memory>
-    ensures some { IfOk result (λ o. IfSome o (λ found. HasTokens style text.now found.items)) }
-    ensures none { IfOk result (λ o. IfNone o ((found : List Token) → ¬ HasTokens style text.now found)) }
-{
-    match tokens(alloc, style, text) {
-        Ok(found) => Ok(Some(found)),
-        Err(TokenFault::Malformed) => Ok(None),
-        Err(TokenFault::Memory) => Err(Memory),
-    }
-}
-
-fn is_blank(kind: TokenKind) -> bool
-    ensures { result ≡ is_blank_of kind }
-{
-    matches!(kind, TokenKind::Gap | TokenKind::Comment)
 }
 
 fn count_words(tokens: &[Token]) -> usize
@@ -59,12 +41,6 @@ fn is_one_atom(tokens: &[Token]) -> bool
     ensures { IsTrue result ↔ IsOneAtom tokens.now }
 {
     count_words(tokens) == 1 && are_atoms(tokens)
-}
-
-fn is_comment(kind: TokenKind) -> bool
-    ensures { result ≡ is_comment_of kind }
-{
-    matches!(kind, TokenKind::Comment)
 }
 
 // Puts the pieces of the comments among all tokens of a text last.

@@ -2,32 +2,19 @@
 ghost use Rattle.std.specs.Prelude.{◌≡◌, ℕ, ◌+◌, ◌≤◌, ◌∷◌, ◌++◌, [], List, length, not, true, IfOk, IfSome, IfNone, OnOk, IsUtf8};
 ghost use Rattle.std.specs.List.{list_all};
 ghost use Rattle.field_tokens.specs.Comments.{AddsPieces, CommentsPieces};
-ghost use Rattle.field_tokens.specs.Squeezed.{comments_of, is_blank as is_blank_of, is_comment as is_comment_of, StandTogether};
-ghost use Rattle.field_tokens.specs.Tokens.{HasTokens, octets_at};
-ghost use Rattle.field_tokens.specs.declared.Style.TheVariants.{Mail};
+ghost use Rattle.field_tokens.specs.Squeezed.{comments_of, is_blank as is_blank_of, StandTogether};
+ghost use Rattle.field_tokens.specs.Tokens.{octets_at};
 ghost use Rattle.field_tokens.specs.declared.Token.{Token};
 ghost use Rattle.field_downgrade.specs.Received.{is_clause_word as is_clause_word_of, starts_clause as starts_clause_of, is_semicolon as is_semicolon_of, is_host_word as is_host_word_of, holds_clause_word as holds_clause_word_of, served_text as served_text_of, date_text as date_text_of, behind_space, served_piece, ClausePieces, DatePieces, PartsPieces, ReceivedParts, ReceivedPieces};
 ghost use Rattle.field_downgrade.specs.ReceivedSteps.{token_value, token_values, BeginsSo, CutsTokens, behind_first, clause_at, WritesClauses};
 
 use field_tokens::comments::write_comment;
-use field_tokens::{Style, Token, TokenFault, TokenKind, squeezed, tokens};
+use field_tokens::{Style, Token, TokenKind, is_blank, is_comment, read_tokens, squeezed};
 use mail_wire::text::{is_ascii, is_same_name};
 use mail_wire::values::{Memory, Octets, Span};
 use std::alloc::Global;
 
 // ---- tokens
-
-// The tokens of a text, if it has any.
-fn received_tokens(alloc: Global, text: &[u8]) -> Result<Option<Vec<Token>>, Memory>
-    ensures some { IfOk result (λ o. IfSome o (λ found. HasTokens Mail text.now found.items)) }
-    ensures none { IfOk result (λ o. IfNone o ((found : List Token) → ¬ HasTokens Mail text.now found)) }
-{
-    match tokens(alloc, Style::Mail, text) {
-        Ok(found) => Ok(Some(found)),
-        Err(TokenFault::Malformed) => Ok(None),
-        Err(TokenFault::Memory) => Err(Memory),
-    }
-}
 
 fn octets_of(text: &[u8], span: Span) -> &[u8]
     requires { span.at + span.len ≤ length text.now }
@@ -87,22 +74,10 @@ fn split_clause<'a>(text: &[u8], tokens: &'a [Token]) -> (&'a [Token], &'a [Toke
     tokens.split_at(at)
 }
 
-fn is_blank(kind: TokenKind) -> bool
-    ensures { result ≡ is_blank_of kind }
-{
-    matches!(kind, TokenKind::Gap | TokenKind::Comment)
-}
-
 fn are_blank(tokens: &[Token]) -> bool
     ensures { result ≡ list_all (λ (token : Token). is_blank_of token.kind) tokens.now }
 {
     tokens.iter().all(|token| is_blank(token.kind))
-}
-
-fn is_comment(kind: TokenKind) -> bool
-    ensures { result ≡ is_comment_of kind }
-{
-    matches!(kind, TokenKind::Comment)
 }
 
 // ---- clauses as they are served
@@ -250,7 +225,7 @@ pub fn rewrite_received(alloc: Global, text: &[u8]) -> Result<Option<Vec<Octets>
     ensures some { IfOk result (λ o. IfSome o (λ pieces. ReceivedPieces text.now pieces.items)) }
     ensures none { IfOk result (λ o. IfNone o ((pieces : List (List ℕ)) → ¬ ReceivedPieces text.now pieces)) }
 {
-    let Some(found) = received_tokens(alloc, text)? else {
+    let Some(found) = read_tokens(alloc, Style::Mail, text)? else {
         return Ok(None);
     };
     let (head, date) = split_head(text, &found);
