@@ -7,9 +7,5 @@ pub mod laws;
 mod lines;
 pub mod roles;
 pub mod serving;
-#[cfg(test)]
-mod session_tests;
 pub mod sessions;
 pub mod taking;
-#[cfg(test)]
-mod tests;

@@ -10,3 +10,5 @@ pub mod FeedLemmas
 pub mod RowLemmas
 pub mod MaildropLemmas
 pub mod ManyLines
+pub mod ModeLemmas
+pub mod MarkLemmas

@@ -1,8 +1,17 @@
-//! Laws of what is sent of a message.
-ghost use Rattle.std.specs.Prelude.{◌≡◌, ◌≢◌, ◌++◌, ◌∷◌, [], ℕ, List, codes};
+//! Laws of what is sent of a message, of the mode of a session, and of what QUIT takes out.
+ghost use Rattle.std.specs.Prelude.{◌≡◌, ◌≢◌, ◌++◌, ◌∷◌, ◌↔◌, [], ℕ, List, Option, None, Some, codes, IsTrue};
 ghost use Rattle.std.specs.List.{All, flat_map};
 ghost use Rattle.mail_wire.specs.Lines.{lines_of};
+ghost use Rattle.mail_store.specs.declared.kept.Listed.{Listed};
+ghost use Rattle.mail_store.specs.StoreState.{StoreState};
+ghost use Rattle.surrogate_cache.specs.Served.{Meanings, Mode, legacy};
+ghost use Rattle.pop_session.specs.Commands.{Command, number_of};
+ghost use Rattle.pop_session.specs.History.{after_commands, commands_in, IsOfMode, enables, some_enables, mode_behind, IsQuit, with_marks, marks_by, marks_after, IsMarked};
+ghost use Rattle.pop_session.specs.Machine.{State, authorization, transaction, ended, done, inbox_messages, quit_step, step, transaction_step};
 ghost use Rattle.pop_session.specs.Replies.{missing_end, multi_line, unstuffed_line};
+ghost use Rattle.pop_session.specs.Session.{Machine, start_of, turns_of};
+ghost use Rattle.pop_session.specs.declared.command.Keyword.TheVariants as keyword;
+ghost use Rattle.pop_session.specs.declared.states.MaildropMessage.{MaildropMessage};
 
 /// No line of what is sent of a multi-line reply is a dot alone but the last. Without the dots that they begin with, the
 /// others are the lines of the text, the last of them complete.
@@ -10,4 +19,38 @@ pub fn stuffed_lines_are_no_dots()
     ensures none { (text : List ℕ) → All (λ line. line ≢ codes ".\r\n") (lines_of (multi_line text)) }
     ensures end { (text : List ℕ) → lines_of (multi_line text ++ codes ".\r\n") ≡ lines_of (multi_line text) ++ codes ".\r\n" ∷ [] }
     ensures back { (text : List ℕ) → flat_map unstuffed_line (lines_of (multi_line text)) ≡ text ++ missing_end text }
+{}
+
+/// Only UTF8 that is accepted changes the mode, and every other command leaves it. So behind a stream a session is enabled
+/// where one of its commands was such, and else it is legacy, or it has ended.
+pub fn only_utf8_changes_the_mode()
+    ensures accepted { (meanings : Meanings) (state : State) (store : StoreState) (argument : Option (List ℕ))
+        → let command : Command = record { keyword = keyword.Utf8; argument = argument } in
+        ((step meanings state store command).reply ≡ done) ↔ IsTrue (enables state command) }
+    ensures other { (state : State) (command : Command) → command.keyword ≢ keyword.Utf8 → ¬ IsTrue (enables state command) }
+    ensures command { (meanings : Meanings) (state : State) (store : StoreState) (command : Command) (mode : Mode)
+        → IsOfMode mode state → IsOfMode (mode_behind (enables state command) mode) (step meanings state store command).state }
+    ensures stream { (meanings : Meanings) (store : StoreState) (octets : List ℕ)
+        → IsOfMode (mode_behind (some_enables meanings (start_of store) (commands_in octets)) legacy) (turns_of meanings (start_of store) octets).after.state }
+{}
+
+/// QUIT takes out exactly the messages that DELE has marked since the last RSET, where each DELE is one that was answered so. No other
+/// command changes the store: until the session has ended, it is as it was.
+pub fn quit_takes_out_what_is_marked()
+    ensures login { (meanings : Meanings) (mode is : Mode) (user : Option (List ℕ)) (store : StoreState) (command : Command) (maildrop : List MaildropMessage)
+        → (step meanings (authorization mode user) store command).state ≡ transaction is maildrop
+        → (account : ℕ) × (maildrop ≡ with_marks 1 [] (inbox_messages store.kept account)) }
+    ensures marked { (meanings : Meanings) (mode : Mode) (listing : List Listed) (marks : List ℕ) (machine : Machine) (commands : List Command)
+        → IsMarked mode listing marks machine.state
+        → IsMarked mode listing (marks_after listing marks commands) (after_commands meanings machine commands).state }
+    ensures answered { (meanings : Meanings) (mode : Mode) (listing : List Listed) (marks : List ℕ) (store : StoreState) (text : List ℕ) (number : ℕ)
+        → number_of text ≡ Some number
+        → ((transaction_step meanings mode (with_marks 1 marks listing) store keyword.Dele (Some text)).reply ≡ done)
+        ↔ (marks_by listing marks keyword.Dele (Some text) ≡ number ∷ marks) }
+    ensures quit { (meanings : Meanings) (mode : Mode) (listing : List Listed) (marks : List ℕ) (store : StoreState) (command : Command)
+        → let state = transaction mode (with_marks 1 marks listing) in IsQuit state command → step meanings state store command ≡ quit_step (with_marks 1 marks listing) }
+    ensures others { (meanings : Meanings) (state : State) (store : StoreState) (command : Command) → ¬ IsQuit state command
+        → (step meanings state store command).changes ≡ [] }
+    ensures stream { (meanings : Meanings) (machine : Machine) (octets : List ℕ) → (turns_of meanings machine octets).after.state ≢ ended
+        → (turns_of meanings machine octets).after.store ≡ machine.store }
 {}

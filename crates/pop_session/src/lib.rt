@@ -7,6 +7,4 @@ pub mod replies;
 pub mod session;
 pub mod states;
 mod stuffing;
-#[cfg(test)]
-mod tests;
 mod top;

@@ -19,6 +19,7 @@ use mail_store::kept::Listed;
 use mail_store::storing::Store;
 use mail_wire::outside::{Fault, Wire};
 use mail_wire::values::Memory;
+use mime_tree::entity::TreeFault;
 use mime_tree::reading::read_tree;
 use std::alloc::Global;
 use surrogate_cache::cache::Cache;
@@ -34,7 +35,9 @@ fn show<V: View>(alloc: Global, cache: &mut Cache, id: u32, octets: &[u8]) -> Re
 {
     match read_tree(alloc, octets) {
         Ok(tree) => V::show(alloc, cache, id, octets, tree),
-        Err(_) => Err(Memory),
+        Err(TreeFault::Memory) => Err(Memory),
+        // It has a tree.
+        Err(_) => unreachable!(),
     }
 }
 

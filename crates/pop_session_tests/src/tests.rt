@@ -1,5 +1,4 @@
 //! Sessions over a wire in memory and a store whose journal was written here: whole, octet by octet and in every single cut.
-use crate::session::PopSession;
 use mail_store::records::Record;
 use mail_store::storing::Store;
 use mail_store::writing::push_record;
@@ -7,6 +6,7 @@ use mail_wire::in_memory::{Failure, MemWire};
 use mail_wire::mem_keeper::MemKeeper;
 use mail_wire::outside::{Entry, Fault};
 use mail_wire::values::{Memory, Octets};
+use pop_session::session::PopSession;
 use std::alloc::Global;
 use std::test::Fail;
 use surrogate_cache::cache::Cache;

@@ -1,7 +1,7 @@
 //! The rows of sessions, over wires and keepers in memory.
-use crate::command::run;
-use crate::roles::Role;
-use crate::serving::{Limits, Served, open_desk, serve_one};
+use mail_command::command::run;
+use mail_command::roles::Role;
+use mail_command::serving::{LIMITS, Limits, Served, open_desk, serve_one};
 use mail_wire::clock::FixedClock;
 use mail_wire::in_memory::{Failure, MemWire};
 use mail_wire::mem_keeper::MemKeeper;
@@ -165,7 +165,7 @@ fn served_up_to(
     session_max: u64,
     keeper: &mut MemKeeper,
 ) -> Result<(Served, Octets), Fail> {
-    let message_max = message_max.min(33_554_432);
+    let message_max = message_max.min(LIMITS.message_max);
     let limits = Limits {
         message_max,
         session_max: session_max.max(u64::from(message_max) + 1),

@@ -1,5 +1,5 @@
 //! The rows of `downgrade`, over wires in memory.
-use crate::command::run;
+use mail_command::command::run;
 use mail_wire::clock::FixedClock;
 use mail_wire::in_memory::{Failure, MemWire};
 use mail_wire::mem_keeper::MemKeeper;

@@ -1,0 +1,291 @@
+-- Which mode a session is in behind commands, and behind the lines of a stream.
+use Rattle.std.proofs.Common.{◌≡◌, ◌≢◌, ℕ, zero, suc, List, [], ◌∷◌, Bool, true, false, refl, sym, ap, subst, ◌∙◌, ◌⊎◌, inl, inr, Some, None, Option, arith}
+use Rattle.std.specs.Prelude.{◌||◌, ◌↔◌, IsTrue}
+use Rattle.std.specs.Option.{option_map_or}
+use Rattle.mail_wire.specs.Framing.{Framed, waiting, whole, too_long, next_line}
+use Rattle.mail_wire.specs.Turns.{Turn, stay, behind, turns}
+use Rattle.mail_wire.proofs.TurnsLemmas.{turns-stop}
+use Rattle.mail_store.specs.declared.kept.Listed.{Listed}
+use Rattle.mail_store.specs.declared.records.Record.{Record}
+use Rattle.mail_store.specs.Acts.{Act}
+use Rattle.mail_store.specs.Following.{records_of}
+use Rattle.mail_store.specs.Kept.{logged_in}
+use Rattle.mail_store.specs.StoreState.{StoreState, with_records}
+use Rattle.surrogate_cache.specs.Served.{Mode, legacy, enabled, Meanings}
+use Rattle.pop_session.specs.declared.command.Keyword.{Keyword}
+use Rattle.pop_session.specs.declared.command.Keyword.TheVariants as keyword
+use Rattle.pop_session.specs.declared.states.MaildropMessage.{MaildropMessage}
+use Rattle.pop_session.specs.Commands.{Command, command_of, number_of}
+use Rattle.pop_session.specs.History.{after_command, after_commands, commands_by, commands_up_to, commands_in, IsOfMode, is_utf8, enables, some_enables, mode_behind, IsQuit}
+use Rattle.pop_session.specs.Machine.{Part, line, shown, State, authorization, transaction, ended, done, out_of_order, syntax_error, message_at, step, authorization_step, transaction_step, dele_message, dele_step, pass_step}
+use Rattle.pop_session.specs.Session.{Machine, next_turn, turn_by, turn_in, turns_of, start_of}
+use Rattle.pop_session.proofs.RowLemmas.{authorization_changes, dele_changes}
+
+-- ---- one command
+
+pass_mode : (mode : Mode) (store : StoreState) (found : Option ℕ) → IsOfMode mode (pass_step mode store found).state
+pass_mode mode store None = refl
+pass_mode mode store (Some account) = refl
+
+authorization_mode : (meanings : Meanings) (mode : Mode) (user : Option (List ℕ)) (store : StoreState) (word : Keyword) (argument : Option (List ℕ))
+    → IsOfMode (mode_behind (is_utf8 word argument) mode) (authorization_step meanings mode user store word argument).state
+authorization_mode meanings mode user store keyword.Stat argument = refl
+authorization_mode meanings mode user store keyword.List argument = refl
+authorization_mode meanings mode user store keyword.Uidl argument = refl
+authorization_mode meanings mode user store keyword.Retr argument = refl
+authorization_mode meanings mode user store keyword.Top argument = refl
+authorization_mode meanings mode user store keyword.Dele argument = refl
+authorization_mode meanings mode user store keyword.Rset argument = refl
+authorization_mode meanings mode user store keyword.Noop argument = refl
+authorization_mode meanings mode user store keyword.Other argument = refl
+authorization_mode meanings mode user store keyword.Capa None = refl
+authorization_mode meanings mode user store keyword.Capa (Some text) = refl
+authorization_mode meanings mode user store keyword.Utf8 None = refl
+authorization_mode meanings mode user store keyword.Utf8 (Some text) = refl
+authorization_mode meanings mode user store keyword.User None = refl
+authorization_mode meanings mode user store keyword.User (Some []) = refl
+authorization_mode meanings mode user store keyword.User (Some (x ∷ name)) = refl
+authorization_mode meanings mode None store keyword.Pass None = refl
+authorization_mode meanings mode (Some name) store keyword.Pass None = refl
+authorization_mode meanings mode None store keyword.Pass (Some password) = refl
+authorization_mode meanings mode (Some name) store keyword.Pass (Some password) = pass_mode mode store (logged_in meanings.path_of store.kept name password)
+authorization_mode meanings mode user store keyword.Quit None = tt
+authorization_mode meanings mode user store keyword.Quit (Some text) = refl
+
+message_mode : (mode : Mode) (maildrop : List MaildropMessage) (number : ℕ) (found : Option Listed) → IsOfMode mode (dele_message mode maildrop number found).state
+message_mode mode maildrop number None = refl
+message_mode mode maildrop number (Some one) = refl
+
+dele_mode : (mode : Mode) (maildrop : List MaildropMessage) (number : Option ℕ) → IsOfMode mode (dele_step mode maildrop number).state
+dele_mode mode maildrop None = refl
+dele_mode mode maildrop (Some number) = message_mode mode maildrop number (message_at maildrop number)
+
+transaction_mode : (meanings : Meanings) (mode : Mode) (maildrop : List MaildropMessage) (store : StoreState) (word : Keyword) (argument : Option (List ℕ))
+    → IsOfMode mode (transaction_step meanings mode maildrop store word argument).state
+transaction_mode meanings mode maildrop store keyword.Dele None = refl
+transaction_mode meanings mode maildrop store keyword.Dele (Some text) = dele_mode mode maildrop (number_of text)
+transaction_mode meanings mode maildrop store keyword.Rset None = refl
+transaction_mode meanings mode maildrop store keyword.Rset (Some text) = refl
+transaction_mode meanings mode maildrop store keyword.Quit None = tt
+transaction_mode meanings mode maildrop store keyword.Quit (Some text) = refl
+transaction_mode meanings mode maildrop store keyword.User argument = refl
+transaction_mode meanings mode maildrop store keyword.Pass argument = refl
+transaction_mode meanings mode maildrop store keyword.Utf8 argument = refl
+transaction_mode meanings mode maildrop store keyword.Stat argument = refl
+transaction_mode meanings mode maildrop store keyword.List argument = refl
+transaction_mode meanings mode maildrop store keyword.Retr argument = refl
+transaction_mode meanings mode maildrop store keyword.Capa argument = refl
+transaction_mode meanings mode maildrop store keyword.Uidl argument = refl
+transaction_mode meanings mode maildrop store keyword.Top argument = refl
+transaction_mode meanings mode maildrop store keyword.Noop argument = refl
+transaction_mode meanings mode maildrop store keyword.Other argument = refl
+
+-- a command leaves the mode, but UTF8 before login
+pub step_mode : (meanings : Meanings) (state : State) (store : StoreState) (command : Command) (mode : Mode) → IsOfMode mode state
+    → IsOfMode (mode_behind (enables state command) mode) (step meanings state store command).state
+unfolding step
+step_mode meanings (authorization is user) store command mode same =
+    subst (λ m. IsOfMode (mode_behind (is_utf8 command.keyword command.argument) m) (authorization_step meanings is user store command.keyword command.argument).state) same
+    (authorization_mode meanings is user store command.keyword command.argument)
+step_mode meanings (transaction is maildrop) store command mode same =
+    subst (λ m. IsOfMode m (transaction_step meanings is maildrop store command.keyword command.argument).state) same
+    (transaction_mode meanings is maildrop store command.keyword command.argument)
+step_mode meanings ended store command mode same = tt
+
+transaction_quiet : (meanings : Meanings) (mode : Mode) (maildrop : List MaildropMessage) (store : StoreState) (word : Keyword) (argument : Option (List ℕ))
+    → ((word ≡ keyword.Quit) × (argument ≡ None)) ⊎ ((transaction_step meanings mode maildrop store word argument).changes ≡ [])
+transaction_quiet meanings mode maildrop store keyword.Dele None = inr refl
+transaction_quiet meanings mode maildrop store keyword.Dele (Some text) = inr (dele_changes mode maildrop (number_of text))
+transaction_quiet meanings mode maildrop store keyword.Rset None = inr refl
+transaction_quiet meanings mode maildrop store keyword.Rset (Some text) = inr refl
+transaction_quiet meanings mode maildrop store keyword.Quit None = inl (refl, refl)
+transaction_quiet meanings mode maildrop store keyword.Quit (Some text) = inr refl
+transaction_quiet meanings mode maildrop store keyword.User argument = inr refl
+transaction_quiet meanings mode maildrop store keyword.Pass argument = inr refl
+transaction_quiet meanings mode maildrop store keyword.Utf8 argument = inr refl
+transaction_quiet meanings mode maildrop store keyword.Stat argument = inr refl
+transaction_quiet meanings mode maildrop store keyword.List argument = inr refl
+transaction_quiet meanings mode maildrop store keyword.Retr argument = inr refl
+transaction_quiet meanings mode maildrop store keyword.Capa argument = inr refl
+transaction_quiet meanings mode maildrop store keyword.Uidl argument = inr refl
+transaction_quiet meanings mode maildrop store keyword.Top argument = inr refl
+transaction_quiet meanings mode maildrop store keyword.Noop argument = inr refl
+transaction_quiet meanings mode maildrop store keyword.Other argument = inr refl
+
+-- a command changes nothing, but QUIT after login
+pub step_quiet : (meanings : Meanings) (state : State) (store : StoreState) (command : Command) → IsQuit state command ⊎ ((step meanings state store command).changes ≡ [])
+unfolding step
+step_quiet meanings (authorization mode user) store command = inr (authorization_changes meanings mode user store command.keyword command.argument)
+step_quiet meanings (transaction mode maildrop) store command = transaction_quiet meanings mode maildrop store command.keyword command.argument
+step_quiet meanings ended store command = inr refl
+
+-- QUIT ends the session
+quit_ends : (meanings : Meanings) (state : State) (store : StoreState) (command : Command) → IsQuit state command → (step meanings state store command).state ≡ ended
+unfolding step
+quit_ends meanings (authorization mode user) store command is = absurd is
+quit_ends meanings (transaction mode maildrop) store command is = rw (is.0, is.1) refl
+quit_ends meanings ended store command is = absurd is
+
+-- ---- several commands
+
+behind_both : (a b : Bool) (mode : Mode) → mode_behind b (mode_behind a mode) ≡ mode_behind (a || b) mode
+behind_both true true mode = refl
+behind_both true false mode = refl
+behind_both false true mode = refl
+behind_both false false mode = refl
+
+pub commands_mode : (meanings : Meanings) (machine : Machine) (commands : List Command) (mode : Mode) → IsOfMode mode machine.state
+    → IsOfMode (mode_behind (some_enables meanings machine commands) mode) (after_commands meanings machine commands).state
+commands_mode meanings machine [] mode is = is
+commands_mode meanings machine (command ∷ commands) mode is =
+    subst (λ m. IsOfMode m (after_commands meanings (after_command meanings machine command) commands).state)
+    (behind_both (enables machine.state command) (some_enables meanings (after_command meanings machine command) commands) mode)
+    (commands_mode meanings (after_command meanings machine command) commands (mode_behind (enables machine.state command) mode)
+    (step_mode meanings machine.state machine.store command mode is))
+
+abbrev pub at_end : StoreState → Machine
+at_end store = record { state = ended; store = store }
+
+-- after the end commands do nothing
+pub ended_stays : (meanings : Meanings) (store : StoreState) (commands : List Command) → after_commands meanings (at_end store) commands ≡ at_end store
+unfolding step
+ended_stays meanings store [] = refl
+ended_stays meanings store (command ∷ commands) = ended_stays meanings store commands
+
+pub machine_ends : (machine : Machine) → machine.state ≡ ended → machine ≡ at_end machine.store
+machine_ends machine is = ap (λ (state : State). (let at : Machine = record { state = state; store = machine.store } in at)) is
+
+pub ended_all : (meanings : Meanings) (machine : Machine) (commands : List Command) → machine.state ≡ ended → (after_commands meanings machine commands).state ≡ ended
+ended_all meanings machine commands is =
+    ap (λ (m : Machine). (after_commands meanings m commands).state) (machine_ends machine is) ∙ ap (λ (m : Machine). m.state) (ended_stays meanings machine.store commands)
+
+-- unless the session has ended, the store is as before
+pub commands_keep : (meanings : Meanings) (machine : Machine) (commands : List Command) → ((after_commands meanings machine commands).state ≡ ended → ⊥)
+    → (after_commands meanings machine commands).store ≡ machine.store
+commands_keep meanings machine [] goes_on = refl
+commands_keep meanings machine (command ∷ commands) goes_on =
+    elim (step_quiet meanings machine.state machine.store command) [
+      | inl quit ↦ absurd (goes_on (ended_all meanings (after_command meanings machine command) commands (quit_ends meanings machine.state machine.store command quit)))
+      | inr none ↦ commands_keep meanings (after_command meanings machine command) commands goes_on
+          ∙ ap (λ (changes : List (List Record)). with_records machine.store (records_of changes)) none
+    ]
+
+-- ---- a stream
+
+-- What is left of a stream: the machine behind its commands, or one that a line too long has ended.
+pub record IsLeft (meanings : Meanings) (machine : Machine) (commands : List Command) (left : Machine) : Type 0 where
+  pub store : left.store ≡ (after_commands meanings machine commands).store
+  pub state : (left.state ≡ (after_commands meanings machine commands).state) ⊎ (left.state ≡ ended)
+
+-- the machine behind so many turns
+abbrev pub left_by : Meanings → ℕ → Machine → List ℕ → Machine
+left_by meanings n machine octets = (turns (next_turn meanings) n machine octets).after
+
+-- the machine behind this turn and so many more
+abbrev pub left_behind : Meanings → ℕ → Machine → List ℕ → Option (Turn Machine (Act Part)) → Machine
+left_behind meanings n machine octets first =
+    (option_map_or (λ turn. behind turn.parts (turns (next_turn meanings) n turn.after turn.rest)) first (stay machine octets)).after
+
+long_line_ends : (meanings : Meanings) (n : ℕ) (store : StoreState) (octets : List ℕ) → left_by meanings n (at_end store) octets ≡ at_end store
+unfolding next_turn
+long_line_ends meanings n store octets = ap (λ (t : Turn Machine (Act Part)). t.after) (turns-stop (next_turn meanings) n (at_end store) octets refl)
+
+framed_left : (meanings : Meanings) (n : ℕ) (machine : Machine) (octets : List ℕ) (framed : Framed)
+    → ((next : Machine) (rest : List ℕ) → IsLeft meanings next (commands_up_to n rest) (left_by meanings n next rest))
+    → IsLeft meanings machine (commands_by (commands_up_to n) framed) (left_behind meanings n machine octets (turn_by meanings machine framed))
+framed_left meanings n machine octets waiting more = record { store = refl; state = inl refl }
+framed_left meanings n machine octets (whole text rest) more =
+    let left = more (after_command meanings machine (command_of text)) rest in record { store = left.store; state = left.state }
+framed_left meanings n machine octets (too_long rest) more =
+    let is = long_line_ends meanings n machine.store rest in
+    record { store = ap (λ (m : Machine). m.store) is; state = inr (ap (λ (m : Machine). m.state) is) }
+
+state_left : (meanings : Meanings) (n : ℕ) (state : State) (machine : Machine) (octets : List ℕ) → machine.state ≡ state
+    → ((next : Machine) (rest : List ℕ) → IsLeft meanings next (commands_up_to n rest) (left_by meanings n next rest))
+    → IsLeft meanings machine (commands_by (commands_up_to n) (next_line octets)) (left_behind meanings n machine octets (turn_in meanings state machine octets))
+state_left meanings n (authorization mode user) machine octets is more = framed_left meanings n machine octets (next_line octets) more
+state_left meanings n (transaction mode maildrop) machine octets is more = framed_left meanings n machine octets (next_line octets) more
+state_left meanings n ended machine octets is more =
+    let commands = commands_by (commands_up_to n) (next_line octets) in
+    record {
+      store = sym (ap (λ (m : Machine). (after_commands meanings m commands).store) (machine_ends machine is) ∙ ap (λ (m : Machine). m.store) (ended_stays meanings machine.store commands));
+      state = inr is;
+    }
+
+turns_left : (meanings : Meanings) (n : ℕ) (machine : Machine) (octets : List ℕ) → IsLeft meanings machine (commands_up_to n octets) (left_by meanings n machine octets)
+unfolding turns next_turn commands_up_to
+turns_left meanings zero machine octets = record { store = refl; state = inl refl }
+turns_left meanings (suc n) machine octets = state_left meanings n machine.state machine octets refl (turns_left meanings n)
+
+mode_as : (mode : Mode) (state left : State) → IsOfMode mode state → (left ≡ state) ⊎ (left ≡ ended) → IsOfMode mode left
+mode_as mode state left is (inl same) = subst (IsOfMode mode) (sym same) is
+mode_as mode state left is (inr end) = subst (IsOfMode mode) (sym end) tt
+
+-- a session is enabled behind a stream where one of its commands was UTF8 before login
+pub stream_mode : (meanings : Meanings) (store : StoreState) (octets : List ℕ)
+    → IsOfMode (mode_behind (some_enables meanings (start_of store) (commands_in octets)) legacy) (turns_of meanings (start_of store) octets).after.state
+stream_mode meanings store octets =
+    mode_as _ (after_commands meanings (start_of store) (commands_in octets)).state _ (commands_mode meanings (start_of store) (commands_in octets) legacy refl)
+    (turns_left meanings _ (start_of store) octets).state
+
+-- unless the session has ended, a stream leaves the store
+pub stream_keeps : (meanings : Meanings) (machine : Machine) (octets : List ℕ) → ((turns_of meanings machine octets).after.state ≡ ended → ⊥)
+    → (turns_of meanings machine octets).after.store ≡ machine.store
+stream_keeps meanings machine octets goes_on =
+    let left = turns_left meanings _ machine octets in
+    left.store ∙ commands_keep meanings machine (commands_in octets) (λ end. goes_on (elim left.state [
+      | inl same ↦ same ∙ end
+      | inr is ↦ is
+    ]))
+
+-- ---- which commands do so
+
+-- the first octet of a reply, where it has a line
+abbrev pub first_octet : List Part → ℕ
+first_octet [] = 0
+first_octet (line [] ∷ parts) = 0
+first_octet (line (x ∷ rest) ∷ parts) = x
+first_octet (shown msg mode at len ∷ parts) = 0
+
+pub refused_not_done : (reply : List Part) → first_octet reply ≡ 45 → (reply ≡ done) → ⊥
+refused_not_done reply minus same = let differ : 45 ≡ 43 = sym minus ∙ ap first_octet same in omega (arith, differ)
+
+nothing_not_done : ([] ≡ done) → ⊥
+nothing_not_done same = let differ : 0 ≡ 43 = ap first_octet same in omega (arith, differ)
+
+-- UTF8 is answered +OK where it enables
+pub utf8_accepted : (meanings : Meanings) (state : State) (store : StoreState) (argument : Option (List ℕ))
+    → let command : Command = record { keyword = keyword.Utf8; argument = argument } in
+    ((step meanings state store command).reply ≡ done) ↔ IsTrue (enables state command)
+unfolding step
+utf8_accepted meanings (authorization mode user) store None = (λ same. refl, λ is. refl)
+utf8_accepted meanings (authorization mode user) store (Some text) = (λ same. absurd (refused_not_done syntax_error refl same), λ is. cc)
+utf8_accepted meanings (transaction mode maildrop) store argument = (λ same. absurd (refused_not_done out_of_order refl same), λ is. cc)
+utf8_accepted meanings ended store argument = (λ same. absurd (nothing_not_done same), λ is. cc)
+
+not_utf8 : (word : Keyword) (argument : Option (List ℕ)) → word ≢ keyword.Utf8 → ¬ IsTrue (is_utf8 word argument)
+not_utf8 keyword.Utf8 argument other is = other refl
+not_utf8 keyword.Stat argument other is = cc
+not_utf8 keyword.List argument other is = cc
+not_utf8 keyword.Uidl argument other is = cc
+not_utf8 keyword.Retr argument other is = cc
+not_utf8 keyword.Top argument other is = cc
+not_utf8 keyword.Dele argument other is = cc
+not_utf8 keyword.Rset argument other is = cc
+not_utf8 keyword.Noop argument other is = cc
+not_utf8 keyword.Other argument other is = cc
+not_utf8 keyword.Capa argument other is = cc
+not_utf8 keyword.User argument other is = cc
+not_utf8 keyword.Pass argument other is = cc
+not_utf8 keyword.Quit argument other is = cc
+
+pub other_enables_not : (state : State) (command : Command) → command.keyword ≢ keyword.Utf8 → ¬ IsTrue (enables state command)
+other_enables_not (authorization mode user) command other is = not_utf8 command.keyword command.argument other is
+other_enables_not (transaction mode maildrop) command other is = cc
+other_enables_not ended command other is = cc
+
+pub others_quiet : (meanings : Meanings) (state : State) (store : StoreState) (command : Command) → ¬ IsQuit state command → (step meanings state store command).changes ≡ []
+others_quiet meanings state store command other = elim (step_quiet meanings state store command) [
+  | inl quit ↦ absurd (other quit)
+  | inr none ↦ none
+]

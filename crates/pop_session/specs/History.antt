@@ -1,0 +1,110 @@
+-- What the commands of a session come to, one after another: which mode it is in, and which messages are marked.
+use Rattle.std.specs.Prelude.{◌≡◌, ℕ, zero, suc, ◌==◌, ◌||◌, List, [], ◌∷◌, Bool, true, false, Option, None, Some, length}
+use Rattle.mail_wire.specs.Framing.{Framed, waiting, whole, too_long, next_line}
+use Rattle.mail_store.specs.declared.kept.Listed.{Listed}
+use Rattle.surrogate_cache.specs.Served.{Mode, enabled, Meanings}
+use Rattle.pop_session.specs.declared.command.Keyword.{Keyword}
+use Rattle.pop_session.specs.declared.command.Keyword.TheVariants as keyword
+use Rattle.pop_session.specs.declared.states.MaildropMessage.{MaildropMessage}
+use Rattle.pop_session.specs.Commands.{Command, command_of, number_of}
+use Rattle.pop_session.specs.Machine.{State, authorization, transaction, ended, message_at, step}
+use Rattle.pop_session.specs.Session.{Machine, after_step}
+
+-- ---- the commands that are done
+
+-- the machine behind a command
+abbrev pub after_command : Meanings → Machine → Command → Machine
+after_command meanings machine command = after_step machine.store (step meanings machine.state machine.store command)
+
+-- the machine behind these commands
+abbrev pub after_commands : Meanings → Machine → List Command → Machine
+after_commands meanings machine [] = machine
+after_commands meanings machine (command ∷ commands) = after_commands meanings (after_command meanings machine command) commands
+
+-- the command of a line, and more behind it
+abbrev pub commands_by : (List ℕ → List Command) → Framed → List Command
+commands_by more waiting = []
+commands_by more (whole line rest) = command_of line ∷ more rest
+commands_by more (too_long rest) = []
+
+-- the commands of the first lines, at most so many
+unfoldable pub commands_up_to : ℕ → List ℕ → List Command
+commands_up_to zero octets = []
+commands_up_to (suc n) octets = commands_by (commands_up_to n) (next_line octets)
+
+-- the commands of the lines of these octets, up to one that is too long
+abbrev pub commands_in : List ℕ → List Command
+commands_in octets = commands_up_to (length octets) octets
+
+-- ---- the mode
+
+-- the state has this mode, or the session has ended
+abbrev pub IsOfMode : Mode → State → Type 0
+IsOfMode mode (authorization is user) = is ≡ mode
+IsOfMode mode (transaction is maildrop) = is ≡ mode
+IsOfMode mode ended = Unit {0}
+
+-- UTF8, which has no argument (RFC 6856, 2)
+abbrev pub is_utf8 : Keyword → Option (List ℕ) → Bool
+is_utf8 keyword.Utf8 None = true
+is_utf8 word argument = false
+
+-- it asks for UTF-8, before login
+abbrev pub enables : State → Command → Bool
+enables (authorization mode user) command = is_utf8 command.keyword command.argument
+enables (transaction mode maildrop) command = false
+enables ended command = false
+
+-- one of these commands does so
+abbrev pub some_enables : Meanings → Machine → List Command → Bool
+some_enables meanings machine [] = false
+some_enables meanings machine (command ∷ commands) = enables machine.state command || some_enables meanings (after_command meanings machine command) commands
+
+-- the mode behind commands one of which asks for UTF-8, or none does
+abbrev pub mode_behind : Bool → Mode → Mode
+mode_behind true mode = enabled
+mode_behind false mode = mode
+
+-- ---- the marks
+
+-- QUIT after login
+abbrev pub IsQuit : State → Command → Type 0
+IsQuit (authorization mode user) command = ⊥
+IsQuit (transaction mode maildrop) command = (command.keyword ≡ keyword.Quit) × (command.argument ≡ None)
+IsQuit ended command = ⊥
+
+abbrev pub is_among : ℕ → List ℕ → Bool
+is_among number [] = false
+is_among number (n ∷ numbers) = (number == n) || is_among number numbers
+
+-- the maildrop of these messages, numbered from this number on, in which those of these numbers are marked
+abbrev pub with_marks : ℕ → List ℕ → List Listed → List MaildropMessage
+with_marks number marks [] = []
+with_marks number marks (one ∷ listing) = record { listed = one; deleted = is_among number marks } ∷ with_marks (suc number) marks listing
+
+-- one mark more where the message was found
+abbrev pub marks_found : ℕ → List ℕ → Option Listed → List ℕ
+marks_found number marks None = marks
+marks_found number marks (Some one) = number ∷ marks
+
+-- DELE marks the message of a number that is there and isn't marked
+abbrev pub marks_by_number : List Listed → List ℕ → Option ℕ → List ℕ
+marks_by_number listing marks None = marks
+marks_by_number listing marks (Some number) = marks_found number marks (message_at (with_marks 1 marks listing) number)
+
+-- the numbers of the marked messages behind a command: DELE marks one, and RSET takes all marks away
+abbrev pub marks_by : List Listed → List ℕ → Keyword → Option (List ℕ) → List ℕ
+marks_by listing marks keyword.Dele (Some text) = marks_by_number listing marks (number_of text)
+marks_by listing marks keyword.Rset None = []
+marks_by listing marks word argument = marks
+
+-- and behind these commands
+abbrev pub marks_after : List Listed → List ℕ → List Command → List ℕ
+marks_after listing marks [] = marks
+marks_after listing marks (command ∷ commands) = marks_after listing (marks_by listing marks command.keyword command.argument) commands
+
+-- the session is logged in to these messages, of which those of these numbers are marked, or it has ended
+abbrev pub IsMarked : Mode → List Listed → List ℕ → State → Type 0
+IsMarked mode listing marks (authorization is user) = ⊥
+IsMarked mode listing marks (transaction is maildrop) = (is ≡ mode) × (maildrop ≡ with_marks 1 marks listing)
+IsMarked mode listing marks ended = Unit {0}

@@ -1,0 +1,5 @@
+//! Sessions of pop_session, by its public calls.
+#![tactic(auto)]
+
+#[cfg(test)]
+mod tests;
