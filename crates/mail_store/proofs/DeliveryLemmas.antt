@@ -1,5 +1,5 @@
 -- The records of a delivery.
-use Rattle.std.proofs.Common.{◌≡◌, ◌⊎◌, ℕ, suc, ◌+◌, ◌<◌, ◌≤◌, Bool, true, false, not, ◌||◌, ◌&&◌, eqb, List, [], ◌∷◌, ◌++◌, length, map, take, get_or, Option, Some, None, unwrap_or, refl, sym, ap, subst, ◌∙◌, arith, inl, inr, append_assoc, append-nil, length-append}
+use Rattle.std.proofs.Common.{◌≡◌, ◌⊎◌, ℕ, suc, ◌+◌, ◌<◌, ◌≤◌, Bool, true, false, not, cond, ◌||◌, ◌&&◌, eqb, List, [], ◌∷◌, ◌++◌, length, map, take, get_or, Option, Some, None, unwrap_or, refl, sym, ap, subst, ◌∙◌, arith, inl, inr, append_assoc, append-nil, length-append}
 use Rattle.std.specs.List.{flat_map, All, AllByRecursion}
 use Rattle.std.specs.Prelude.{IfSome, ◌*◌}
 use Rattle.address_lists.specs.declared.Address.{Address}
@@ -14,7 +14,8 @@ use Rattle.address_lists.proofs.WritingLemmas.{path_again}
 use Rattle.mail_store.specs.declared.kept.Message.{Message}
 use Rattle.mail_store.specs.declared.records.Record.{Record}
 use Rattle.mail_store.specs.declared.records.Record.TheVariants as records
-use Rattle.mail_store.specs.Changing.{IsDeliverable, IsSendable, delivered, IsWritable, path_text, queued, copy_for, inboxes_of, has_large_octets, has_many_things, are_too_many}
+use Rattle.mail_store.specs.Changing.{IsDeliverable, IsSendable, delivered, IsWritable, path_text, queued, copy_for, inboxes_of, has_large_octets, has_many_things, are_too_many, delivery_refusal}
+use Rattle.mail_store.specs.declared.changing.StoreFault.TheVariants as faults
 use Rattle.mail_store.specs.Delivering.{copied}
 use Rattle.mail_store.specs.Kept.{Kept, after, after_all, inbox_of}
 use Rattle.mail_store.specs.Grammar.{IsDate}
@@ -240,3 +241,21 @@ queued-writable store delivery (Some one) d bound small is =
           let made : one ≡ records.Queue (path_text delivery.path) (map address_text delivery.remote) delivery.remote_octets = one_is one _ (rw some at is) in
           subst IsWritable (sym made) (queue-writable delivery.path delivery.remote delivery.remote_octets d.path d.addresses d.few (omega (arith, octets, bound)))
     ]
+
+-- ---- what isn't refused
+
+free_large : (large : Bool) → cond large (Some faults.TooLarge) None ≡ None → large ≡ false
+free_large true e = absurd cc
+free_large false e = refl
+
+pub delivery_free : (store : StoreState) (delivery : Delivery) → delivery_refusal store delivery ≡ None
+    → (has_large_octets store.message_max delivery || has_many_things store.kept delivery) ≡ false
+delivery_free store delivery e = free_large (has_large_octets store.message_max delivery || has_many_things store.kept delivery) e
+
+pub delivery_large : (store : StoreState) (delivery : Delivery) → (has_large_octets store.message_max delivery || has_many_things store.kept delivery) ≡ true
+    → delivery_refusal store delivery ≡ Some faults.TooLarge
+delivery_large store delivery e = rw e refl
+
+pub delivery_taken : (store : StoreState) (delivery : Delivery) → (has_large_octets store.message_max delivery || has_many_things store.kept delivery) ≡ false
+    → delivery_refusal store delivery ≡ None
+delivery_taken store delivery e = rw e refl

@@ -1,5 +1,5 @@
 -- One more domain, and a name that is taken back.
-use Rattle.std.proofs.Common.{◌≡◌, ◌≢◌, ℕ, ◌<◌, ◌≤◌, true, false, List, [], ◌∷◌, length, Option, Some, None, refl, sym, ap, subst, ◌∙◌, arith, inl, inr}
+use Rattle.std.proofs.Common.{◌≡◌, ◌≢◌, ℕ, ◌<◌, ◌≤◌, Bool, true, false, cond, List, [], ◌∷◌, length, Option, Some, None, refl, sym, ap, subst, ◌∙◌, arith, inl, inr}
 use Rattle.std.specs.Prelude.{is_some}
 use Rattle.std.specs.Str.{bytes_eq}
 use Rattle.std.proofs.lemmas.Bool.{cases_Bool}
@@ -102,3 +102,13 @@ AreIndexes-same_mailboxes kept i mailboxes x same = record {
   messages_are_stored = x.messages_are_stored;
   few = x.few;
 }
+
+-- ---- what isn't refused
+
+free_parts : (there many : Bool) → cond there (Some faults.Exists) (cond many (Some faults.TooLarge) None) ≡ None → (there ≡ false) × (many ≡ false)
+free_parts true many e = absurd cc
+free_parts false true e = absurd cc
+free_parts false false e = (refl, refl)
+
+pub domain_free : (kept : Kept) (domain : List ℕ) → domain_refusal kept domain ≡ None → (is_local kept domain ≡ false) × (are_too_many (length kept.domains) 1 ≡ false)
+domain_free kept domain e = free_parts (is_local kept domain) (are_too_many (length kept.domains) 1) e

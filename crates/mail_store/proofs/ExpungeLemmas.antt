@@ -86,3 +86,7 @@ next_within old mid ids i within all m =
     let len : length mid.kept.messages ≡ length old.kept.messages = ap (λ s. length s.kept.messages) m ∙ length-expunged old.kept (take i ids) in
     let there : get_or ids i 0 < length old.kept.messages = all i 0 within in
     omega (arith, len, there)
+
+pub none_expunged : (ids : List ℕ) → expunged ids ≡ [] → ids ≡ []
+none_expunged [] e = refl
+none_expunged (id ∷ ids) e = absurd (cc e)

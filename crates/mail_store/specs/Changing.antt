@@ -1,8 +1,9 @@
 -- What a call that changes a store does, by its answer.
-use Rattle.std.specs.Prelude.{◌≡◌, ℕ, ◌+◌, ◌<◌, ◌≤◌, List, [], ◌∷◌, ◌++◌, length, take, map, Bool, true, false, ◌||◌, ◌&&◌, ◌==◌, not, nat_lt, Option, Some, None, is_some, unwrap_or, Result, Ok, Err, slice_get, IfSome, if◌then◌else◌}
+use Rattle.std.specs.Prelude.{◌≡◌, ◌≢◌, ℕ, ◌+◌, ◌<◌, ◌≤◌, List, [], ◌∷◌, ◌++◌, length, take, map, Bool, true, false, ◌||◌, ◌&&◌, ◌==◌, not, nat_lt, Option, Some, None, is_some, unwrap_or, Result, Ok, Err, slice_get, IfSome, if◌then◌else◌}
 use Rattle.std.specs.List.{All, flat_map, list_all}
 use Rattle.std.specs.Option.{option_map_or}
 use Rattle.mail_wire.specs.Keeping.{with_last}
+use Rattle.mail_wire.specs.KeeperTelling.{KeeperTelling}
 use Rattle.address_lists.specs.declared.Address.{Address}
 use Rattle.address_lists.specs.Addresses.{address_text}
 use Rattle.address_lists.specs.Paths.{ComesInPath}
@@ -34,6 +35,12 @@ Changes old new had has (Err faults.TooLarge) all = (new ≡ old) × (has ≡ ha
 Changes old new had has (Err faults.Exists) all = (new ≡ old) × (has ≡ had)
 Changes old new had has (Err faults.NoSuch) all = (new ≡ old) × (has ≡ had)
 Changes old new had has (Err faults.Memory) all = (new ≡ old) × (has ≡ had)
+
+-- Nothing was done: the store is as before, the keeper wasn't called, so that it tells the same, and the answer is no fault of it.
+pub record LeavesAll {T : Type 0} (old new : StoreState) (before now : KeeperTelling) (result : Result T StoreFault) : Type 0 where
+  pub store : new ≡ old
+  pub keeper : now ≡ before
+  pub answer : result ≢ Err faults.Keeper
 
 -- The call is refused exactly so, unless memory was wanted; and only a call that isn't refused comes to the keeper.
 abbrev pub IsRefusedAs : {T : Type 0} → Result T StoreFault → Option StoreFault → Type 0

@@ -1,5 +1,6 @@
 -- What a delivery puts into a store, and what refuses an account; words of the private calls.
-use Rattle.std.specs.Prelude.{ℕ, ◌+◌, ◌≤◌, ◌<◌, List, map, length, true, ◌||◌, not, Option, Some, None, if◌then◌else◌}
+use Rattle.std.specs.Prelude.{ℕ, ◌+◌, ◌≤◌, ◌≡◌, ◌<◌, List, map, length, true, ◌||◌, not, Option, Some, None, option_and_then, if◌then◌else◌}
+use Rattle.std.specs.Option.{option_to_list}
 use Rattle.mail_store.specs.declared.changing.StoreFault.{StoreFault}
 use Rattle.mail_store.specs.declared.changing.StoreFault.TheVariants as faults
 use Rattle.mail_store.specs.Changing.{are_too_many}
@@ -19,6 +20,10 @@ copied date octets folder = record { folder = folder; flags = 0; live = true; da
 abbrev pub entry_of : Record → Option Entry
 entry_of (records.Queue path addresses octets) = Some (record { path = path; recipients = map waiting addresses; octets = octets })
 entry_of other = None
+
+-- the entry of the records of a delivery's queue, of which there is at most one
+abbrev pub IsEntryOf : Option Entry → List Record → Type 0
+IsEntryOf entry records = (one : Option Record) × (option_to_list one ≡ records) × (entry ≡ option_and_then entry_of one)
 
 -- where there are local accounts, a copy's record is within the limit
 abbrev pub HasShortCopies : Delivery → Type 0

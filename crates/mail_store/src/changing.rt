@@ -1,12 +1,13 @@
 //! The calls that change a store, and write the change to its keeper.
-ghost use Rattle.std.specs.Prelude.{◌≡◌, ◌≢◌, ◌≤◌, ◌<◌, ◌+◌, ◌==◌, ◌||◌, ◌∷◌, ◌++◌, [], length, vec_len, vec_capacity, IfOk, OnOk, IfSome, IfNone, IsUtf8, Some, None, Err, false, map, ℕ, slice_get, option_and_then};
+ghost use Rattle.std.specs.Prelude.{◌≡◌, ◌≢◌, ◌≤◌, ◌<◌, ◌+◌, ◌==◌, ◌||◌, ◌∷◌, ◌++◌, [], length, vec_len, vec_capacity, IfOk, OnOk, OnErr, List, IfSome, IfNone, IsUtf8, Some, None, Err, false, map, ℕ, slice_get, option_and_then};
 ghost use Rattle.std.specs.List.{All, IsDistinct, flat_map, list_all};
 ghost use Rattle.mail_wire.specs.Keeping.{HasKeeperCause};
 ghost use Rattle.std.specs.Option.{option_map_or, option_to_list};
 ghost use Rattle.ace_domains.specs.Domains.{normal_form, compared_form};
-ghost use Rattle.mail_store.specs.Kept.{is_local};
-ghost use Rattle.mail_store.specs.Chains.{empty_content};
-ghost use Rattle.mail_store.specs.Delivering.{copied, entry_of as entry_for, HasShortCopies, room_refusal};
+ghost use Rattle.mail_store.specs.Kept.{inbox, is_local};
+ghost use Rattle.mail_store.specs.Names.{PutsName, number_of as number_of_name};
+ghost use Rattle.mail_store.specs.Chains.{AreChained, empty_content};
+ghost use Rattle.mail_store.specs.Delivering.{copied, entry_of as entry_for, IsEntryOf, HasShortCopies, room_refusal};
 ghost use Rattle.mail_store.specs.Records.{recipient_count};
 ghost use Rattle.mail_store.specs.StoreState.{with_record, with_records};
 ghost use Rattle.mail_store.specs.declared.kept.Message.{Message as MessageValue};
@@ -15,7 +16,7 @@ ghost use Rattle.address_lists.specs.Paths.{ComesInPath};
 ghost use Rattle.mail_store.specs.declared.limits.TheConstants.{TEXT_MAX, THINGS_MAX};
 ghost use Rattle.mail_store.specs.declared.records.Record.TheVariants as records;
 ghost use Rattle.mail_store.specs.Addresses.{WithPaths};
-ghost use Rattle.mail_store.specs.Changing.{Writes, Changes, IsRefusedAs, IsDeliverable, IsSendable, IsWritable, path_text as path_text_of, queued as queued_of, copy_for, inboxes_of, has_many_things, domain_refusal, account_refusal, delivery_refusal, delivered, expunge_refusal, expunged, has_large_octets as has_large_octets_of};
+ghost use Rattle.mail_store.specs.Changing.{Writes, Changes, LeavesAll, IsRefusedAs, IsDeliverable, IsSendable, IsWritable, path_text as path_text_of, queued as queued_of, copy_for, inboxes_of, has_many_things, domain_refusal, account_refusal, delivery_refusal, delivered, expunge_refusal, expunged, has_large_octets as has_large_octets_of};
 ghost use Rattle.mail_store.specs.Spelling.{record_text};
 ghost use Rattle.mail_store.specs.declared.changing.StoreFault.TheVariants as faults;
 
@@ -33,6 +34,7 @@ use mail_wire::keeping::Keeper;
 use mail_wire::outside::Failed;
 use mail_wire::values::{Memory as OutOfMemory, Octets};
 use std::alloc::{AllocError, AllocFailed, Global};
+use std::collections::BTreeMap;
 use thiserror::Error;
 
 /// Why a store wasn't changed.
@@ -94,6 +96,38 @@ fn write<J: Keeper>(keeper: &mut J, text: &[u8], failed: &mut bool) -> Result<()
     }
 }
 
+// A name, the number that it is to get, and the text of the record that brings it.
+#[derive(Drop)]
+struct Named {
+    name: Octets,
+    number: u32,
+    text: Octets,
+}
+
+// Puts the number at a name that has none, and the text last in the keeper. Where that fails the name has none again.
+fn write_named<J: Keeper>(
+    alloc: Global,
+    keeper: &mut J,
+    numbers: &mut BTreeMap<Vec<u8>, u32>,
+    named: &Named,
+    failed: &mut bool,
+) -> Result<(), StoreFault>
+    requires { number_of_name numbers.old named.now.name ≡ None }
+    ensures writes { Writes failed.old failed.new (J.tells keeper.old).octets (J.tells keeper.new).octets result named.now.text }
+    ensures ok { OnOk result (PutsName (number_of_name numbers.old) (number_of_name numbers.new) named.now.name named.now.number) }
+    ensures err { OnErr result ((q : List ℕ) → number_of_name numbers.new q ≡ number_of_name numbers.old q) }
+    ensures cause { HasKeeperCause (J.tells keeper.old) (J.tells keeper.new) result StoreFault.Keeper }
+{
+    put_first(alloc, numbers, named.name.as_slice(), named.number)?;
+    match write(keeper, named.text.as_slice(), failed) {
+        Ok(()) => Ok(()),
+        Err(fault) => {
+            take_back(numbers, named.name.as_slice());
+            Err(fault)
+        }
+    }
+}
+
 // The text of one record.
 fn text_of(alloc: Global, one: &Record) -> Result<Octets, OutOfMemory>
     requires { IsWritable one.now }
@@ -102,6 +136,17 @@ fn text_of(alloc: Global, one: &Record) -> Result<Octets, OutOfMemory>
     let mut text = Octets::new(alloc);
     push_record(&mut text, one)?;
     Ok(text)
+}
+
+// The text of a domain's record.
+fn domain_text(alloc: Global, name: &[u8]) -> Result<Octets, OutOfMemory>
+    requires { IsWritable (records.Domain name.now) }
+    ensures { IfOk result (λ text. text ≡ record_text (records.Domain name.now)) }
+{
+    let made = Record::Domain {
+        name: Octets::from_slice(alloc, name)?,
+    };
+    text_of(alloc, &made)
 }
 
 // The address text of each address.
@@ -151,8 +196,16 @@ fn account_made(alloc: Global, address: &Address, password: &[u8]) -> Result<Acc
     })
 }
 
+// What is put last for an account: what is written of it, itself, and the name of its folder.
+#[derive(Drop)]
+struct NewAccount {
+    named: Named,
+    own: Account,
+    inbox: Octets,
+}
+
 // Makes room for an account and its folder.
-fn reserve_account(
+pub(crate) fn reserve_account(
     accounts: &mut Vec<Account>,
     folders: &mut Vec<Folder>,
     contents: &mut Vec<Content>,
@@ -175,7 +228,7 @@ fn reserve_account(
 }
 
 // Puts an account and its folder last, for which there is room.
-fn put_account(
+pub(crate) fn put_account(
     accounts: &mut Vec<Account>,
     folders: &mut Vec<Folder>,
     contents: &mut Vec<Content>,
@@ -271,6 +324,40 @@ fn put_entry(entries: &mut Vec<Entry>, recipients: &mut usize, entry: Option<Ent
     }
 }
 
+// What is put last for a delivery: the text of its records, the messages for the local accounts, and the entry of the queue.
+#[derive(Drop)]
+struct Parcel {
+    text: Octets,
+    copies: Vec<Message>,
+    entry: Option<Entry>,
+}
+
+// Puts the messages and the entry of a delivery last, for which there is room.
+fn put_parcel(
+    contents: &mut Vec<Content>,
+    previous: &mut Vec<Option<u32>>,
+    messages: &mut Vec<Message>,
+    entries: &mut Vec<Entry>,
+    recipients: &mut usize,
+    parcel: Parcel,
+)
+    requires chained { AreChained messages.old.items contents.old.items previous.old.items }
+    requires few { length messages.old.items + length parcel.copies.items ≤ THINGS_MAX }
+    requires known { All (λ message. message.folder < length contents.old.items) parcel.copies.items }
+    requires room { vec_len messages.old + length parcel.copies.items ≤ vec_capacity messages.old }
+    requires room_before { vec_len previous.old + length parcel.copies.items ≤ vec_capacity previous.old }
+    requires entry_room { vec_len entries.old < vec_capacity entries.old }
+    requires few_recipients { recipients.old + recipient_count (option_to_list parcel.entry) ≤ THINGS_MAX }
+    ensures messages { messages.new.items ≡ messages.old.items ++ parcel.copies.items }
+    ensures chained { AreChained messages.new.items contents.new.items previous.new.items }
+    ensures count { length contents.new.items ≡ length contents.old.items }
+    ensures entries { entries.new.items ≡ entries.old.items ++ option_to_list parcel.entry }
+    ensures recipients { recipients.new ≡ recipients.old + recipient_count (option_to_list parcel.entry) }
+{
+    put_messages(contents, previous, messages, parcel.copies);
+    put_entry(entries, recipients, parcel.entry);
+}
+
 /// Whether the octets for the local accounts, or those for the remote recipients, are more than the limit. Octets that nobody
 /// is to have don't count.
 pub fn has_large_octets(delivery: &Delivery, message_max: u32) -> bool
@@ -308,6 +395,28 @@ impl Store {
         ensures refusal { IsRefusedAs result (domain_refusal self.old.kept domain.now) }
         ensures cause { HasKeeperCause (J.tells keeper.old) (J.tells keeper.new) result StoreFault.Keeper }
     {
+        let named = self.named_domain(domain)?;
+        self.domains.reserve(1)?;
+        write_named(
+            self.alloc,
+            keeper,
+            &mut self.locals,
+            &named,
+            &mut self.failed,
+        )?;
+        push_reserved(&mut self.domains, named.name);
+        Ok(())
+    }
+
+    // What is written of a domain, unless it is refused.
+    fn named_domain(&self, domain: &str) -> Result<Named, StoreFault>
+        requires { normal_form domain.now ≢ None }
+        ensures name { IfOk result (λ named. named.name ≡ compared_form domain.now) }
+        ensures number { IfOk result (λ named. named.number ≡ length self.now.kept.domains) }
+        ensures text { IfOk result (λ named. named.text ≡ record_text (records.Domain (compared_form domain.now))) }
+        ensures refusal { IsRefusedAs result (domain_refusal self.now.kept domain.now) }
+        ensures no_keeper { result ≢ Err faults.Keeper }
+    {
         let name = domain_key(self.alloc, domain)?;
         if number_of(&self.locals, name.as_slice()).is_some() {
             return Err(StoreFault::Exists);
@@ -316,20 +425,12 @@ impl Store {
         if are_too_many(number, 1) {
             return Err(StoreFault::TooLarge);
         }
-        let copy = Octets::from_slice(self.alloc, name.as_slice())?;
-        let text = text_of(self.alloc, &Record::Domain { name: copy })?;
-        self.domains.reserve(1)?;
-        put_first(self.alloc, &mut self.locals, name.as_slice(), number as u32)?;
-        match write(keeper, text.as_slice(), &mut self.failed) {
-            Ok(()) => {
-                push_reserved(&mut self.domains, name);
-                Ok(())
-            }
-            Err(fault) => {
-                take_back(&mut self.locals, name.as_slice());
-                Err(fault)
-            }
-        }
+        let text = domain_text(self.alloc, name.as_slice())?;
+        Ok(Named {
+            name,
+            number: number as u32,
+            text,
+        })
     }
 
     /// Makes an account and its folder INBOX, and answers the account's number.
@@ -352,35 +453,61 @@ impl Store {
         if number_of(&self.mailboxes, key.as_slice()).is_some() {
             return Err(StoreFault::Exists);
         }
-        self.room_for_account(address.domain.as_slice())?;
-        let text = account_text(self.alloc, address, password)?;
-        let own = account_made(self.alloc, address, password)?;
-        let name = Octets::from_slice(self.alloc, b"INBOX")?;
-        let account = self.accounts.len() as u32;
+        let made = self.new_account(key, address, password)?;
+        let account = made.named.number;
         reserve_account(
             &mut self.accounts,
             &mut self.folders,
             &mut self.contents,
             &mut self.inboxes,
         )?;
-        put_first(self.alloc, &mut self.mailboxes, key.as_slice(), account)?;
-        match write(keeper, text.as_slice(), &mut self.failed) {
-            Ok(()) => {
-                put_account(
-                    &mut self.accounts,
-                    &mut self.folders,
-                    &mut self.contents,
-                    &mut self.inboxes,
-                    own,
-                    name,
-                );
-                Ok(account)
-            }
-            Err(fault) => {
-                take_back(&mut self.mailboxes, key.as_slice());
-                Err(fault)
-            }
-        }
+        write_named(
+            self.alloc,
+            keeper,
+            &mut self.mailboxes,
+            &made.named,
+            &mut self.failed,
+        )?;
+        put_account(
+            &mut self.accounts,
+            &mut self.folders,
+            &mut self.contents,
+            &mut self.inboxes,
+            made.own,
+            made.inbox,
+        );
+        Ok(account)
+    }
+
+    // What is put last for an account whose mailbox has none and is known by this key, unless it is refused.
+    fn new_account(
+        &self,
+        key: Octets,
+        address: &Address,
+        password: &[u8],
+    ) -> Result<NewAccount, StoreFault>
+        requires address { IsSendable address.now }
+        requires password { length password.now ≤ TEXT_MAX }
+        ensures name { IfOk result (λ made. made.named.name ≡ key) }
+        ensures number { IfOk result (λ made. made.named.number ≡ length self.now.kept.accounts) }
+        ensures text { IfOk result (λ made. made.named.text ≡ record_text (records.Account (address_text address.now) password.now)) }
+        ensures address { IfOk result (λ made. made.own.address ≡ address_text address.now) }
+        ensures password { IfOk result (λ made. made.own.password ≡ password.now) }
+        ensures inbox { IfOk result (λ made. made.inbox ≡ inbox) }
+        ensures refusal { IsRefusedAs result (room_refusal self.now.kept address.now.domain) }
+        ensures no_keeper { result ≢ Err faults.Keeper }
+    {
+        self.room_for_account(address.domain.as_slice())?;
+        let text = account_text(self.alloc, address, password)?;
+        let own = account_made(self.alloc, address, password)?;
+        let inbox = Octets::from_slice(self.alloc, b"INBOX")?;
+        let number = self.accounts.len() as u32;
+        let named = Named {
+            name: key,
+            number,
+            text,
+        };
+        Ok(NewAccount { named, own, inbox })
     }
 
     // An account in this domain isn't refused for its domain, nor because there would be too many.
@@ -490,33 +617,53 @@ impl Store {
         requires deliverable { IsDeliverable self.old delivery.now }
         ensures changes { Changes self.old self.new (J.tells keeper.old).octets (J.tells keeper.new).octets result (delivered self.old.kept delivery.now) }
         ensures refusal { IsRefusedAs result (delivery_refusal self.old delivery.now) }
+        ensures nothing { delivered self.old.kept delivery.now ≡ [] → LeavesAll self.old self.new (J.tells keeper.old) (J.tells keeper.new) result }
         ensures cause { HasKeeperCause (J.tells keeper.old) (J.tells keeper.new) result StoreFault.Keeper }
+    {
+        let parcel = self.parcel(delivery)?;
+        if parcel.text.is_empty() {
+            return Ok(());
+        }
+        reserve_delivery(
+            &mut self.messages,
+            &mut self.previous,
+            &mut self.entries,
+            parcel.copies.len(),
+        )?;
+        write(keeper, parcel.text.as_slice(), &mut self.failed)?;
+        put_parcel(
+            &mut self.contents,
+            &mut self.previous,
+            &mut self.messages,
+            &mut self.entries,
+            &mut self.recipients,
+            parcel,
+        );
+        Ok(())
+    }
+
+    // What is put last for a delivery, unless it is refused.
+    fn parcel(&self, delivery: &Delivery) -> Result<Parcel, StoreFault>
+        requires { IsDeliverable self.now delivery.now }
+        ensures text { IfOk result (λ parcel. parcel.text ≡ flat_map record_text (delivered self.now.kept delivery.now)) }
+        ensures copies { IfOk result (λ parcel. parcel.copies.items
+            ≡ map (copied delivery.now.date delivery.now.local_octets) (inboxes_of self.now.kept delivery.now.local)) }
+        ensures entry { IfOk result (λ parcel. IsEntryOf parcel.entry (queued_of delivery.now)) }
+        ensures refusal { IsRefusedAs result (delivery_refusal self.now delivery.now) }
+        ensures no_keeper { result ≢ Err faults.Keeper }
     {
         if self.is_too_large(delivery) {
             return Err(StoreFault::TooLarge);
         }
         let queued = queued(self.alloc, delivery)?;
         let text = self.delivery_text(delivery, &queued)?;
-        if text.is_empty() {
-            return Ok(());
-        }
-        let copies = self.copies(delivery)?;
         let entry = entry_of(self.alloc, queued)?;
-        reserve_delivery(
-            &mut self.messages,
-            &mut self.previous,
-            &mut self.entries,
-            copies.len(),
-        )?;
-        write(keeper, text.as_slice(), &mut self.failed)?;
-        put_messages(
-            &mut self.contents,
-            &mut self.previous,
-            &mut self.messages,
+        let copies = self.copies(delivery)?;
+        Ok(Parcel {
+            text,
             copies,
-        );
-        put_entry(&mut self.entries, &mut self.recipients, entry);
-        Ok(())
+            entry,
+        })
     }
 
     // The message goes.
@@ -543,6 +690,7 @@ impl Store {
         requires distinct { IsDistinct (λ a b. a == b) ids.now }
         ensures changes { Changes self.old self.new (J.tells keeper.old).octets (J.tells keeper.new).octets result (expunged ids.now) }
         ensures refusal { IsRefusedAs result (expunge_refusal self.old.kept ids.now) }
+        ensures nothing { expunged ids.now ≡ [] → LeavesAll self.old self.new (J.tells keeper.old) (J.tells keeper.new) result }
         ensures cause { HasKeeperCause (J.tells keeper.old) (J.tells keeper.new) result StoreFault.Keeper }
     {
         if !are_live(&self.messages, ids) {

@@ -12,6 +12,7 @@ ghost use Rattle.mail_store.specs.Records.{IsAddress, IsUnsettled};
 ghost use Rattle.mail_store.specs.Stored.{IsStored};
 
 use crate::addresses::{domain_key, is_domain_text, key_of, read_text};
+use crate::changing::{put_account, reserve_account};
 use crate::checks::{self, account_fits, are_too_many, has_room, message_fits};
 use crate::contents::{Content, EMPTY, push_reserved, put_message};
 use crate::grammar::is_folder_name;
@@ -234,26 +235,26 @@ impl Store {
         };
         let key = key_of(self.alloc, &own)?;
         let name = Octets::from_slice(self.alloc, b"INBOX")?;
-        self.accounts.reserve(1)?;
-        self.folders.reserve(1)?;
-        self.contents.reserve(1)?;
-        self.inboxes.reserve(1)?;
+        reserve_account(
+            &mut self.accounts,
+            &mut self.folders,
+            &mut self.contents,
+            &mut self.inboxes,
+        )?;
         put_first(
             self.alloc,
             &mut self.mailboxes,
             key.as_slice(),
             account as u32,
         )?;
-        push_reserved(&mut self.accounts, Account { address, password });
-        push_reserved(
+        put_account(
+            &mut self.accounts,
             &mut self.folders,
-            Folder {
-                account: account as u32,
-                name,
-            },
+            &mut self.contents,
+            &mut self.inboxes,
+            Account { address, password },
+            name,
         );
-        push_reserved(&mut self.contents, EMPTY);
-        push_reserved(&mut self.inboxes, folder as u32);
         Ok(())
     }
 

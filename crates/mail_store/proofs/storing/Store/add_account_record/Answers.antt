@@ -24,16 +24,14 @@ invariant_of-self-2 c =
     subst (λ (key : List ℕ). PutsName (number_of c.self.inside.mailboxes) after key (length c.self.inside.accounts.items)) (c.as_slice-4.ensures ∙ c.in_ok-key.ensures) (subst (PutsName (number_of c.self.inside.mailboxes) after c.as_slice-4.result.now) account c.in_ok-put_first.ensures.ok) in
     record {
       indexes = rw (
-        c.push_reserved.ensures.items,
-        c.push_reserved-2.ensures.items,
-        c.push_reserved-3.ensures.items,
-        c.push_reserved-4.ensures.items,
-        c.in_ok-reserve.ensures.items,
-        c.in_ok-reserve-2.ensures.items,
-        c.in_ok-reserve-3.ensures.items,
-        c.in_ok-reserve-4.ensures.items,
-        account,
-        folder,
+        c.put_account.ensures.accounts,
+        c.put_account.ensures.folders,
+        c.put_account.ensures.contents,
+        c.put_account.ensures.inboxes,
+        c.in_ok-reserve_account.ensures.accounts,
+        c.in_ok-reserve_account.ensures.folders,
+        c.in_ok-reserve_account.ensures.contents,
+        c.in_ok-reserve_account.ensures.inboxes,
       ) (AreIndexes-account (kept_of c.self.inside) (indexes_of c.self.inside) after (record { address = c.args.address; password = c.args.password }) own c.in_ok-name.name c.self.invariant.indexes text more room puts);
       message_bound = c.self.invariant.message_bound;
     }
