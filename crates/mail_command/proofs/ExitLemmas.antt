@@ -8,6 +8,7 @@ use Rattle.mail_store.specs.StoreState.{StoreState}
 use Rattle.mail_command.specs.declared.roles.Role.{Role}
 use Rattle.mail_command.specs.declared.roles.Session.{Session}
 use Rattle.mail_command.specs.declared.serving.Served.TheVariants.{Ended, Limit}
+use Rattle.mail_command.specs.declared.taking.TheConstants.{PIECE}
 use Rattle.mail_command.specs.Protocols.{WithProtocol}
 use Rattle.mail_command.specs.Roles.{ForRole, OverCall, Begins, Feeds, HasEnded}
 use Rattle.mail_command.specs.Served.{served_of}
@@ -51,29 +52,29 @@ not_taken role reading store after had has met max a b c session taken not few n
 
 -- nothing was left to take
 pub nothing_left : (role : Role) (reading : Option ℕ) (store after : StoreState) (had has : Option (List ℕ)) (max : ℕ) (a b c : Telling) (session : Session) (taken n : ℕ) (into : List ℕ)
-    → TakesPiece b c n into → n ≡ 0 → taken < max → GoesBy role reading store after had has a b session taken → ServesBy role reading store after had has (Ok true) max a c
-nothing_left role reading store after had has max a b c session taken n into took none low goes =
+    → (HasEnded session → ⊥) → TakesPiece b c n into → n ≡ 0 → taken < max → GoesBy role reading store after had has a b session taken → ServesBy role reading store after had has (Ok true) max a c
+nothing_left role reading store after had has max a b c session taken n into goes_still took none low goes =
     at_end role reading (λ protocol Stands. Goes protocol Stands store after had has a b session taken) (λ protocol. Serves protocol store after had has Ended max a c)
-    (λ protocol Stands machine so_far. input_ends protocol Stands machine store after had has a b c session taken max n into so_far took none low) goes
+    (λ protocol Stands machine so_far. input_ends protocol Stands machine store after had has a b c session taken max n into so_far goes_still took none low) goes
 
 -- a piece was fed
 pub fed : (role : Role) (reading : Option ℕ) (store after last : StoreState) (had has having : Option (List ℕ)) (a b c d : Telling) (session next : Session) (taken n : ℕ) (into piece : List ℕ)
-    → TakesPiece b c n into → n ≤ length into → piece ≡ take n into → GoesBy role reading store after had has a b session taken
+    → (HasEnded session → ⊥) → TakesPiece b c n into → n ≤ length into → n ≤ PIECE → piece ≡ take n into → GoesBy role reading store after had has a b session taken
     → FeedsOver role reading session c d after last has having (Ok next) piece → GoesBy role reading store last had having a d next (taken + n)
-fed role reading store after last had has having a b c d session next taken n into piece took low same goes feeds =
+fed role reading store after last had has having a b c d session next taken n into piece goes_still took low piece_max same goes feeds =
     over_call role reading (λ protocol Stands. Goes protocol Stands store after had has a b session taken) (λ protocol Stands. Goes protocol Stands store last had having a d next (taken + n))
     (λ protocol Stands Stays. Feeds protocol Stands Stays session c d after last has having (Ok next) piece)
-    (λ protocol Stands Stays machine so_far feeds. goes_on protocol Stands Stays machine store after last had has having a b c d session next taken n into piece so_far took low same feeds)
+    (λ protocol Stands Stays stood machine so_far feeds. goes_on protocol Stands Stays stood machine store after last had has having a b c d session next taken n into piece so_far goes_still took low piece_max same feeds)
     goes feeds
 
 -- a piece wasn't fed
 pub not_fed : (role : Role) (reading : Option ℕ) (store after last : StoreState) (had has having : Option (List ℕ)) (met : Fault) (max : ℕ) (a b c d : Telling) (session : Session) (taken n : ℕ)
-    (into piece : List ℕ) → taken + n ≤ max → TakesPiece b c n into → n ≤ length into → piece ≡ take n into → GoesBy role reading store after had has a b session taken
+    (into piece : List ℕ) → taken + n ≤ max → (HasEnded session → ⊥) → TakesPiece b c n into → n ≤ length into → n ≤ PIECE → piece ≡ take n into → GoesBy role reading store after had has a b session taken
     → FeedsOver role reading session c d after last has having (Err met) piece → ServesBy role reading store last had having (Err met) max a d
-not_fed role reading store after last had has having met max a b c d session taken n into piece few took low same goes feeds =
+not_fed role reading store after last had has having met max a b c d session taken n into piece few goes_still took low piece_max same goes feeds =
     call_ends role reading (λ protocol Stands. Goes protocol Stands store after had has a b session taken) (λ protocol. Serves protocol store last had having (served_of (Err met)) max a d)
     (λ protocol Stands Stays. Feeds protocol Stands Stays session c d after last has having (Err met) piece)
-    (λ protocol Stands Stays machine so_far feeds. feed_fails protocol Stands Stays machine store after last had has having met max a b c d session taken n into piece few so_far took low same feeds)
+    (λ protocol Stands Stays stood machine so_far feeds. feed_fails protocol Stands Stays stood machine store after last had has having met max a b c d session taken n into piece few so_far goes_still took low piece_max same feeds)
     goes feeds
 
 -- the session has ended

@@ -21,10 +21,11 @@ use Rattle.mail_store.proofs.FollowLemmas.{Follows-nil, Follows-more}
 use Rattle.mail_command.specs.declared.roles.Session.{Session}
 use Rattle.mail_command.specs.declared.serving.Served.{Served}
 use Rattle.mail_command.specs.declared.serving.Served.TheVariants.{Ended, Limit}
+use Rattle.mail_command.specs.declared.taking.TheConstants.{PIECE}
 use Rattle.mail_command.specs.Protocols.{Protocol, turns_for, acts_for, replies_to, changes_by, EndsBy}
 use Rattle.mail_command.specs.Roles.{Standing, Begins, Feeds, FeedsBy, HasEnded}
 use Rattle.mail_command.specs.Served.{answer_of, served_of}
-use Rattle.mail_command.specs.Serving.{IsSent, IsPrefixOf, ServesLawfully, ServesAll, Serves}
+use Rattle.mail_command.specs.Serving.{IsSent, IsPrefixOf, MayTake, ServesLawfully, ServesAll, Serves}
 use Rattle.mail_command.proofs.ServingLemmas.{Grows, Serving, Halfway, Halfway-of, Serving-of, Halfway-first, Halfway-take, Halfway-give, Serving-nothing, left_begins, left_all, begins_answer}
 
 -- What a machine keeps to, and what a session that stands for its turns tells of it: a turn doesn't depend on what comes later, and
@@ -129,7 +130,7 @@ not_limit fault.Memory is = cc
 -- Between two takes: all that was taken is answered, its changes are made, and the session stands for what follows.
 pub record Goes (protocol : Protocol) (Stands : Standing protocol) (store after : StoreState) (had has : Option (List ℕ)) (before now : Telling) (session : Session) (taken : ℕ) : Type 0 where
   pub octets : List ℕ
-  pub serving : Serving (replies_to protocol store) before now octets
+  pub serving : Serving (replies_to protocol store) (MayTake protocol store) before now octets
   pub stands : Stands session after (turns_for protocol store octets)
   pub fit : AllByRecursion (IsFitAct protocol.Fits) (acts_for protocol store octets)
   pub follows : Follows store after had has (records_of (changes_by protocol store octets))
@@ -142,7 +143,7 @@ goes_first protocol Stands store had a b session begins =
     let none = acts_for-nil protocol store in
     record {
       octets = [];
-      serving = Serving-of (replies_to protocol store) a b [] begins.does.given (Halfway-first (replies_to protocol store) a b begins.does.given begins.does.gives)
+      serving = Serving-of (replies_to protocol store) (MayTake protocol store) a b [] begins.does.given (Halfway-first (replies_to protocol store) (MayTake protocol store) a b begins.does.given begins.does.gives)
           (begins.does.done.0 ∙ sym (ap (given_by protocol.spelled) none));
       stands = rw (turns_for-nil protocol store) begins.stands;
       fit = rw none begins.fit;
@@ -153,11 +154,20 @@ goes_first protocol Stands store had a b session begins =
 taken_more : (octets into : List ℕ) (taken n : ℕ) → length octets ≡ taken → n ≤ length into → length (octets ++ take n into) ≡ taken + n
 taken_more octets into taken n count low = length-append octets (take n into) ∙ (rw (count, length-take-le n into low) refl)
 
+-- a take of a session that goes on
+may_take : (protocol : Protocol) (Stands : Standing protocol) → IsMachine protocol Stands → (store after : StoreState) (had has : Option (List ℕ)) (a b : Telling) (session : Session) (taken n : ℕ)
+    (into : List ℕ) → (so_far : Goes protocol Stands store after had has a b session taken) → (HasEnded session → ⊥) → n ≤ length into → n ≤ PIECE
+    → MayTake protocol store so_far.octets (take n into)
+may_take protocol Stands machine store after had has a b session taken n into so_far goes_still low piece_max = record {
+  goes_on = λ ends. goes_still (machine.ended session after (turns_for protocol store so_far.octets) so_far.stands ends);
+  piece = rw (length-take-le n into low) piece_max;
+}
+
 -- the acts of a piece were done
-pub goes_on : (protocol : Protocol) (Stands Stays : Standing protocol) → IsMachine protocol Stays → (store after last : StoreState) (had has having : Option (List ℕ)) (a b c d : Telling)
-    (session next : Session) (taken n : ℕ) (into piece : List ℕ) → Goes protocol Stands store after had has a b session taken → TakesPiece b c n into → n ≤ length into → piece ≡ take n into
+pub goes_on : (protocol : Protocol) (Stands Stays : Standing protocol) → IsMachine protocol Stands → IsMachine protocol Stays → (store after last : StoreState) (had has having : Option (List ℕ)) (a b c d : Telling)
+    (session next : Session) (taken n : ℕ) (into piece : List ℕ) → Goes protocol Stands store after had has a b session taken → (HasEnded session → ⊥) → TakesPiece b c n into → n ≤ length into → n ≤ PIECE → piece ≡ take n into
     → Feeds protocol Stands Stays session c d after last has having (Ok next) piece → Goes protocol Stays store last had having a d next (taken + n)
-goes_on protocol Stands Stays machine store after last had has having a b c d session next taken n into piece so_far took low same feeds =
+goes_on protocol Stands Stays stood machine store after last had has having a b c d session next taken n into piece so_far goes_still took low piece_max same feeds =
     let turn = piece_turn protocol store so_far.octets (take n into) in
     let fed : FeedsBy protocol Stays c d after last has having (Ok next) turn = subst (λ xs. FeedsBy protocol Stays c d after last has having (Ok next) (piece_turn protocol store so_far.octets xs)) same
     (feeds (turns_for protocol store so_far.octets) so_far.stands) in
@@ -165,9 +175,9 @@ goes_on protocol Stands Stays machine store after last had has having a b c d se
     let front = replies_to protocol store so_far.octets in
     record {
       octets = so_far.octets ++ take n into;
-      serving = Serving-of (replies_to protocol store) a d (so_far.octets ++ take n into) (front ++ fed.does.given)
-          (Halfway-give (replies_to protocol store) a c d (so_far.octets ++ take n into) front fed.does.given
-          (Halfway-take (replies_to protocol store) a b c so_far.octets into n so_far.serving took) fed.does.gives)
+      serving = Serving-of (replies_to protocol store) (MayTake protocol store) a d (so_far.octets ++ take n into) (front ++ fed.does.given)
+          (Halfway-give (replies_to protocol store) (MayTake protocol store) a c d (so_far.octets ++ take n into) front fed.does.given
+          (Halfway-take (replies_to protocol store) (MayTake protocol store) a b c so_far.octets into n so_far.serving took (may_take protocol Stands stood store after had has a b session taken n into so_far goes_still low piece_max)) fed.does.gives)
           (ap (λ l. front ++ l) fed.does.done.0 ∙ sym (replies_to-append protocol machine.framed store so_far.octets (take n into)));
       stands = subst (Stays next last) (sym (turns_for-append protocol machine.framed store so_far.octets (take n into)))
           (machine.later next last (turns_for protocol store so_far.octets).parts turn fed.stands);
@@ -180,21 +190,22 @@ goes_on protocol Stands Stays machine store after last had has having a b c d se
 -- ---- what was served so far
 
 lawfully : (protocol : Protocol) → IsFramed protocol.next → (store after : StoreState) (had has : Option (List ℕ)) (served : Served) (max : ℕ) (a b : Telling) (taken given : List ℕ) → length taken ≤ max
-    → (half : Halfway (replies_to protocol store) a b taken given) → IsDone protocol.spelled store after had has (answer_of served) (acts_for protocol store taken) given
+    → (half : Halfway (replies_to protocol store) (MayTake protocol store) a b taken given) → IsDone protocol.spelled store after had has (answer_of served) (acts_for protocol store taken) given
     → ServesLawfully protocol store after had has served max a b
 lawfully protocol framed store after had has served max a b taken given few half done = record {
   entries = half.entries;
   moves = half.moves;
   lawful = half.lawful;
+  takes = half.takes;
   few = rw half.taken_is few;
-  begun = rw half.given_is (begins_answer (replies_to protocol store) a b taken given (grows protocol framed store) half
+  begun = rw half.given_is (begins_answer (replies_to protocol store) (MayTake protocol store) a b taken given (grows protocol framed store) half
       (done_begins protocol.spelled store after had has (answer_of served) (acts_for protocol store taken) given done));
   done = rw (half.taken_is, half.given_is) done;
 }
 
 -- a fault broke it off
 broken_off : (protocol : Protocol) → IsFramed protocol.next → (store after : StoreState) (had has : Option (List ℕ)) (met : Fault) (max : ℕ) (a b : Telling) (taken given : List ℕ) → length taken ≤ max
-    → Halfway (replies_to protocol store) a b taken given → IsDone {T = Unit {0}} protocol.spelled store after had has (Err met) (acts_for protocol store taken) given
+    → Halfway (replies_to protocol store) (MayTake protocol store) a b taken given → IsDone {T = Unit {0}} protocol.spelled store after had has (Err met) (acts_for protocol store taken) given
     → Serves protocol store after had has (served_of (Err met)) max a b
 broken_off protocol framed store after had has met max a b taken given few half done = record {
   lawful = lawfully protocol framed store after had has (served_of (Err met)) max a b taken given few half (rw (answered met) done);
@@ -207,7 +218,7 @@ pub start_fails : (protocol : Protocol) (Stands : Standing protocol) → IsMachi
     → Begins protocol Stands store had (Err met) a b → Serves protocol store store had had (served_of (Err met)) max a b
 start_fails protocol Stands machine store had met max a b begins =
     broken_off protocol machine.framed store store had had met max a b [] begins.does.given (omega arith)
-    (Halfway-first (replies_to protocol store) a b begins.does.given begins.does.gives)
+    (Halfway-first (replies_to protocol store) (MayTake protocol store) a b begins.does.given begins.does.gives)
     (IsDone-more protocol.P Session (Unit {0}) protocol.spelled store store store had had had met [] (protocol.opening store) (turns_for protocol store []).parts begins.does.given
     (Follows-nil store had) begins.does.done)
 
@@ -219,14 +230,14 @@ take_fails protocol Stands machine store after had has met max a b c session tak
     let acts = acts_for protocol store so_far.octets in
     let done = IsDone-more protocol.P (Unit {0}) (Unit {0}) protocol.spelled store after after had has has met acts [] [] [] so_far.follows (none_done protocol.spelled after has met [] not) in
     broken_off protocol machine.framed store after had has met max a c so_far.octets (replies_to protocol store so_far.octets) (rw so_far.count few)
-    (Halfway-of (replies_to protocol store) a c so_far.octets (Serving-nothing (replies_to protocol store) a b c so_far.octets so_far.serving none))
+    (Halfway-of (replies_to protocol store) (MayTake protocol store) a c so_far.octets (Serving-nothing (replies_to protocol store) (MayTake protocol store) a b c so_far.octets so_far.serving none))
     (rw (append-nil acts, append-nil (given_by protocol.spelled acts)) at done)
 
 -- the acts of a piece were broken off
-pub feed_fails : (protocol : Protocol) (Stands Stays : Standing protocol) → IsMachine protocol Stays → (store after last : StoreState) (had has having : Option (List ℕ)) (met : Fault) (max : ℕ) (a b c d : Telling)
-    (session : Session) (taken n : ℕ) (into piece : List ℕ) → taken + n ≤ max → Goes protocol Stands store after had has a b session taken → TakesPiece b c n into → n ≤ length into → piece ≡ take n into
+pub feed_fails : (protocol : Protocol) (Stands Stays : Standing protocol) → IsMachine protocol Stands → IsMachine protocol Stays → (store after last : StoreState) (had has having : Option (List ℕ)) (met : Fault) (max : ℕ) (a b c d : Telling)
+    (session : Session) (taken n : ℕ) (into piece : List ℕ) → taken + n ≤ max → Goes protocol Stands store after had has a b session taken → (HasEnded session → ⊥) → TakesPiece b c n into → n ≤ length into → n ≤ PIECE → piece ≡ take n into
     → Feeds protocol Stands Stays session c d after last has having (Err met) piece → Serves protocol store last had having (served_of (Err met)) max a d
-feed_fails protocol Stands Stays machine store after last had has having met max a b c d session taken n into piece few so_far took low same feeds =
+feed_fails protocol Stands Stays stood machine store after last had has having met max a b c d session taken n into piece few so_far goes_still took low piece_max same feeds =
     let turn = piece_turn protocol store so_far.octets (take n into) in
     let acts = acts_for protocol store so_far.octets in
     let front = replies_to protocol store so_far.octets in
@@ -235,8 +246,8 @@ feed_fails protocol Stands Stays machine store after last had has having met max
     let whole : acts_for protocol store (so_far.octets ++ take n into) ≡ acts ++ (turn.parts ++ []) =
     acts_for-append protocol machine.framed store so_far.octets (take n into) ∙ ap (λ l. acts ++ l) (sym (append-nil turn.parts)) in
     broken_off protocol machine.framed store last had having met max a d (so_far.octets ++ take n into) (front ++ fed.does.given) (rw (taken_more so_far.octets into taken n so_far.count low) few)
-    (Halfway-give (replies_to protocol store) a c d (so_far.octets ++ take n into) front fed.does.given
-    (Halfway-take (replies_to protocol store) a b c so_far.octets into n so_far.serving took) fed.does.gives)
+    (Halfway-give (replies_to protocol store) (MayTake protocol store) a c d (so_far.octets ++ take n into) front fed.does.given
+    (Halfway-take (replies_to protocol store) (MayTake protocol store) a b c so_far.octets into n so_far.serving took (may_take protocol Stands stood store after had has a b session taken n into so_far goes_still low piece_max)) fed.does.gives)
     (rw whole (IsDone-more protocol.P Session (Unit {0}) protocol.spelled store after last had has having met acts turn.parts [] fed.does.given so_far.follows fed.does.done))
 
 -- ---- the ends
@@ -259,16 +270,16 @@ sent_of protocol Stands machine store after had has a b session taken so_far =
 
 -- all that was taken was done
 served_lawfully : (protocol : Protocol) → IsFramed protocol.next → (store after : StoreState) (had has : Option (List ℕ)) (served : Served) (max : ℕ) (a b : Telling) (octets taken : List ℕ)
-    → answer_of served ≡ Ok tt → length octets ≤ max → Halfway (replies_to protocol store) a b octets (replies_to protocol store taken) → taken ≡ octets
+    → answer_of served ≡ Ok tt → length octets ≤ max → Halfway (replies_to protocol store) (MayTake protocol store) a b octets (replies_to protocol store taken) → taken ≡ octets
     → Follows store after had has (records_of (changes_by protocol store taken)) → ServesLawfully protocol store after had has served max a b
 served_lawfully protocol framed store after had has served max a b octets taken fine few half same follows =
     lawfully protocol framed store after had has served max a b octets (replies_to protocol store taken) few half (rw (fine, ← same) (refl, follows))
 
 -- nothing was left to take
 input_all : (protocol : Protocol) (Stands : Standing protocol) → IsMachine protocol Stands → (store after : StoreState) (had has : Option (List ℕ)) (a b c : Telling) (session : Session) (taken max n : ℕ)
-    (into : List ℕ) → Goes protocol Stands store after had has a b session taken → TakesPiece b c n into → n ≡ 0 → taken < max → ServesAll protocol store after had has max a c
-input_all protocol Stands machine store after had has a b c session taken max n into so_far piece none low =
-    let half = Halfway-take (replies_to protocol store) a b c so_far.octets into n so_far.serving piece in
+    (into : List ℕ) → Goes protocol Stands store after had has a b session taken → (HasEnded session → ⊥) → TakesPiece b c n into → n ≡ 0 → taken < max → ServesAll protocol store after had has max a c
+input_all protocol Stands machine store after had has a b c session taken max n into so_far goes_still piece none low =
+    let half = Halfway-take (replies_to protocol store) (MayTake protocol store) a b c so_far.octets into n so_far.serving piece (may_take protocol Stands machine store after had has a b session taken n into so_far goes_still (omega (arith, none)) (omega (arith, none))) in
     let same : so_far.octets ++ take n into ≡ so_far.octets = rw none (append-nil so_far.octets) in
     let is = sent protocol Stands machine store after had has a b session taken so_far in
     let taken_is : taken_of half.entries ≡ so_far.octets = half.taken_is ∙ same in
@@ -276,10 +287,11 @@ input_all protocol Stands machine store after had has a b c session taken max n 
       entries = half.entries;
       moves = half.moves;
       lawful = half.lawful;
+      takes = half.takes;
       few = rw taken_is (omega (arith, so_far.count));
       sent = rw (taken_is, half.given_is) is;
       whole = rw half.given_is (IfSome_then a.left {P = λ octets. so_far.octets ++ take n into ≡ octets}
-          (left_all (replies_to protocol store) a c (so_far.octets ++ take n into) (replies_to protocol store so_far.octets) half (piece.end none))
+          (left_all (replies_to protocol store) (MayTake protocol store) a c (so_far.octets ++ take n into) (replies_to protocol store so_far.octets) half (piece.end none))
           (λ octets all. subst (λ xs. IsSent protocol store after had has xs (replies_to protocol store so_far.octets)) (sym same ∙ all) is));
       end = inr (piece.end none, rw taken_is (omega (arith, so_far.count)));
     }
@@ -288,13 +300,13 @@ never_limit : Ended ≡ Limit → ⊥
 never_limit is = cc
 
 pub input_ends : (protocol : Protocol) (Stands : Standing protocol) → IsMachine protocol Stands → (store after : StoreState) (had has : Option (List ℕ)) (a b c : Telling) (session : Session) (taken max n : ℕ)
-    (into : List ℕ) → Goes protocol Stands store after had has a b session taken → TakesPiece b c n into → n ≡ 0 → taken < max → Serves protocol store after had has Ended max a c
-input_ends protocol Stands machine store after had has a b c session taken max n into so_far piece none low =
+    (into : List ℕ) → Goes protocol Stands store after had has a b session taken → (HasEnded session → ⊥) → TakesPiece b c n into → n ≡ 0 → taken < max → Serves protocol store after had has Ended max a c
+input_ends protocol Stands machine store after had has a b c session taken max n into so_far goes_still piece none low =
     let same : so_far.octets ++ take n into ≡ so_far.octets = rw none (append-nil so_far.octets) in
     record {
       lawful = served_lawfully protocol machine.framed store after had has Ended max a c (so_far.octets ++ take n into) so_far.octets refl (rw same (omega (arith, so_far.count)))
-          (Halfway-take (replies_to protocol store) a b c so_far.octets into n so_far.serving piece) (sym same) so_far.follows;
-      ended = λ is. input_all protocol Stands machine store after had has a b c session taken max n into so_far piece none low;
+          (Halfway-take (replies_to protocol store) (MayTake protocol store) a b c so_far.octets into n so_far.serving piece (may_take protocol Stands machine store after had has a b session taken n into so_far goes_still (omega (arith, none)) (omega (arith, none)))) (sym same) so_far.follows;
+      ended = λ is. input_all protocol Stands machine store after had has a b c session taken max n into so_far goes_still piece none low;
       limit = λ is. absurd (never_limit is);
     }
 
@@ -325,11 +337,12 @@ session_all protocol Stands machine store after had has a b session taken max fe
       entries = so_far.serving.entries;
       moves = so_far.serving.moves;
       lawful = so_far.serving.lawful;
+      takes = so_far.serving.takes;
       few = rw (so_far.serving.taken_is, so_far.count) few;
       sent = sent_of protocol Stands machine store after had has a b session taken so_far;
       whole = rw so_far.serving.answered (IfSome_then a.left {P = λ octets. IsPrefixOf so_far.octets octets}
-          (left_begins (replies_to protocol store) a b so_far.octets (replies_to protocol store so_far.octets)
-          (Halfway-of (replies_to protocol store) a b so_far.octets so_far.serving))
+          (left_begins (replies_to protocol store) (MayTake protocol store) a b so_far.octets (replies_to protocol store so_far.octets)
+          (Halfway-of (replies_to protocol store) (MayTake protocol store) a b so_far.octets so_far.serving))
           (λ octets front. rw front.1 (sent_more protocol Stands machine store after had has so_far.octets (replies_to protocol store so_far.octets) front.0 ends due)));
       end = inl (rw so_far.serving.taken_is ends);
     }
@@ -338,7 +351,7 @@ goes_lawfully : (protocol : Protocol) (Stands : Standing protocol) → IsMachine
     (session : Session) (taken : ℕ) → answer_of served ≡ Ok tt → taken ≤ max → Goes protocol Stands store after had has a b session taken → ServesLawfully protocol store after had has served max a b
 goes_lawfully protocol Stands machine store after had has served max a b session taken fine few so_far =
     served_lawfully protocol machine.framed store after had has served max a b so_far.octets so_far.octets fine (rw so_far.count few)
-    (Halfway-of (replies_to protocol store) a b so_far.octets so_far.serving) refl so_far.follows
+    (Halfway-of (replies_to protocol store) (MayTake protocol store) a b so_far.octets so_far.serving) refl so_far.follows
 
 -- the session has ended
 pub session_ends : (protocol : Protocol) (Stands : Standing protocol) → IsMachine protocol Stands → (store after : StoreState) (had has : Option (List ℕ)) (a b : Telling) (session : Session) (taken max : ℕ)
@@ -359,6 +372,7 @@ limit_reached protocol Stands machine store after had has a b session taken max 
     entries = so_far.serving.entries;
     moves = so_far.serving.moves;
     lawful = so_far.serving.lawful;
+    takes = so_far.serving.takes;
     sent = sent_of protocol Stands machine store after had has a b session taken so_far;
     full = rw so_far.serving.taken_is (so_far.count ∙ full);
     goes_on = rw so_far.serving.taken_is (λ ends. goes_on (machine.ended session after (turns_for protocol store so_far.octets) so_far.stands ends));

@@ -122,16 +122,16 @@ for_role Smtp reading P Q step has =
 
 -- a call leads from what holds of a session to what holds of the next one
 pub over_call : (role : Role) (reading : Option ℕ) (P Q : (protocol : Protocol) → Standing protocol → Type 0) (F : (protocol : Protocol) → Standing protocol → Standing protocol → Type 0)
-    → ((protocol : Protocol) (Stands Stays : Standing protocol) → IsMachine protocol Stays → P protocol Stands → F protocol Stands Stays → Q protocol Stays)
+    → ((protocol : Protocol) (Stands Stays : Standing protocol) → IsMachine protocol Stands → IsMachine protocol Stays → P protocol Stands → F protocol Stands Stays → Q protocol Stays)
     → ForRole role reading P → OverCall role reading F → ForRole role reading Q
 over_call Pop reading P Q F step has call =
-    λ meanings are. step (pop_protocol meanings) StandsPop StandsPop (pop_is_machine meanings) (has meanings are) (call meanings are)
+    λ meanings are. step (pop_protocol meanings) StandsPop StandsPop (pop_is_machine meanings) (pop_is_machine meanings) (has meanings are) (call meanings are)
 over_call Smtp reading P Q F step has call = (
   has.0 ++ call.0,
   All-append (smtp.IsTold reading) has.0 call.0 has.1 call.1,
   λ readings are more. subst (λ moments. Q (smtp_protocol readings moments) (StandsSmtp more)) (sym (append_assoc has.0 call.0 more))
       (step (smtp_protocol readings (has.0 ++ (call.0 ++ more))) (StandsSmtp (call.0 ++ more)) (StandsSmtp more)
-      (smtp_is_machine readings (has.0 ++ (call.0 ++ more)) more) (has.2 readings are (call.0 ++ more)) (call.2 readings are (has.0 ++ (call.0 ++ more)) more)),
+      (smtp_is_machine readings (has.0 ++ (call.0 ++ more)) (call.0 ++ more)) (smtp_is_machine readings (has.0 ++ (call.0 ++ more)) more) (has.2 readings are (call.0 ++ more)) (call.2 readings are (has.0 ++ (call.0 ++ more)) more)),
 )
 
 -- at the end no more moments are to come
@@ -148,7 +148,7 @@ at_end Smtp reading P Q step has = (
 -- a call after which nothing more is to come
 pub call_ends : (role : Role) (reading : Option ℕ) (P : (protocol : Protocol) → Standing protocol → Type 0) (Q : Protocol → Type 0)
     (F : (protocol : Protocol) → Standing protocol → Standing protocol → Type 0)
-    → ((protocol : Protocol) (Stands Stays : Standing protocol) → IsMachine protocol Stays → P protocol Stands → F protocol Stands Stays → Q protocol)
+    → ((protocol : Protocol) (Stands Stays : Standing protocol) → IsMachine protocol Stands → IsMachine protocol Stays → P protocol Stands → F protocol Stands Stays → Q protocol)
     → ForRole role reading P → OverCall role reading F → WithProtocol role reading Q
 call_ends role reading P Q F step has call =
     at_end role reading (λ protocol Stands. Q protocol) Q (λ protocol Stands machine is. is) (over_call role reading P (λ protocol Stands. Q protocol) F step has call)

@@ -12,6 +12,7 @@ use Rattle.mail_store.specs.Answers.{IsFold, OpensTo, IsJournalFault, LeavesReco
 use Rattle.mail_store.specs.StoreState.{StoreState}
 use Rattle.mail_store.proofs.Readings.{records_not_bad}
 use Rattle.mail_command.specs.declared.roles.Role.{Role}
+use Rattle.mail_command.specs.declared.serving.Limits.{Limits}
 use Rattle.mail_command.specs.declared.serving.Served.{Served}
 use Rattle.mail_command.specs.declared.serving.Served.TheVariants as came_to
 use Rattle.mail_command.specs.Protocols.{Protocol, acts_for, WithProtocol}
@@ -31,46 +32,46 @@ use Rattle.mail_command.proofs.RunLemmas.{some_of}
 quiet : (a b : Telling) → b ≡ a → Gives a b []
 quiet a b same = subst (λ (t : Telling). Gives a t []) (sym same) (Gives-nil a)
 
-unopened_by : (protocol : Protocol) (max : ℕ) (old new : Option (List ℕ)) (a b : Telling) (met : OpenFault) (result : Result ℕ Fault) → LeavesRecords old new
-    → IfSome old (λ octets. IsJournalFault octets new met) → TellsUnopened met a b result → RunsSession protocol max old new a b (status_of result)
-unopened_by protocol max old new a b faults.Keeper result leaves is tells = rw tells.1 (Broken (inr refl) (InJournal (quiet a b tells.0) leaves))
-unopened_by protocol max old new a b faults.Memory result leaves is tells = rw tells.1 (Broken (inl (inr refl)) (InJournal (quiet a b tells.0) leaves))
-unopened_by protocol max old new a b (faults.BadJournal at) (Ok status) leaves is tells =
+unopened_by : (protocol : Protocol) (limits : Limits) (old new : Option (List ℕ)) (a b : Telling) (met : OpenFault) (result : Result ℕ Fault) → LeavesRecords old new
+    → IfSome old (λ octets. IsJournalFault octets new met) → TellsUnopened met a b result → RunsSession protocol limits old new a b (status_of result)
+unopened_by protocol limits old new a b faults.Keeper result leaves is tells = rw tells.1 (Broken (inr refl) (InJournal (quiet a b tells.0) leaves))
+unopened_by protocol limits old new a b faults.Memory result leaves is tells = rw tells.1 (Broken (inl (inr refl)) (InJournal (quiet a b tells.0) leaves))
+unopened_by protocol limits old new a b (faults.BadJournal at) (Ok status) leaves is tells =
     Unopened (place_line (codes "bad journal at ") at) (record { fault = faults.BadJournal at; told = (tells.1, refl); is = is }) tells.0
-unopened_by protocol max old new a b (faults.BadJournal at) (Err fault.Wire) leaves is tells =
+unopened_by protocol limits old new a b (faults.BadJournal at) (Err fault.Wire) leaves is tells =
     Broken (inl (inl refl)) (InLine 5 (place_line (codes "bad journal at ") at) (record { fault = faults.BadJournal at; told = (refl, refl); is = is }) tells leaves)
-unopened_by protocol max old new a b (faults.BadJournal at) (Err fault.Memory) leaves is tells =
+unopened_by protocol limits old new a b (faults.BadJournal at) (Err fault.Memory) leaves is tells =
     Broken (inl (inr refl)) (InLine 5 (place_line (codes "bad journal at ") at) (record { fault = faults.BadJournal at; told = (refl, refl); is = is }) tells leaves)
-unopened_by protocol max old new a b (faults.BadJournal at) (Err fault.Keeper) leaves is tells = absurd tells
+unopened_by protocol limits old new a b (faults.BadJournal at) (Err fault.Keeper) leaves is tells = absurd tells
 
 -- why the journal wasn't opened was told, or that was broken off
-pub unopened : (role : Role) (reading : Option ℕ) (max : ℕ) (old new : Option (List ℕ)) (a b : Telling) (met : OpenFault) (result : Result ℕ Fault) → LeavesRecords old new
-    → IfSome old (λ octets. IsJournalFault octets new met) → TellsUnopened met a b result → WithProtocol role reading (λ protocol. RunsSession protocol max old new a b (status_of result))
-unopened role reading max old new a b met result leaves is tells =
-    of_each role reading (λ protocol. RunsSession protocol max old new a b (status_of result)) (λ protocol. unopened_by protocol max old new a b met result leaves is tells)
+pub unopened : (role : Role) (reading : Option ℕ) (limits : Limits) (old new : Option (List ℕ)) (a b : Telling) (met : OpenFault) (result : Result ℕ Fault) → LeavesRecords old new
+    → IfSome old (λ octets. IsJournalFault octets new met) → TellsUnopened met a b result → WithProtocol role reading (λ protocol. RunsSession protocol limits old new a b (status_of result))
+unopened role reading limits old new a b met result leaves is tells =
+    of_each role reading (λ protocol. RunsSession protocol limits old new a b (status_of result)) (λ protocol. unopened_by protocol limits old new a b met result leaves is tells)
 
 -- a session was served
-pub served : (role : Role) (reading : Option ℕ) (max : ℕ) (old opened new : Option (List ℕ)) (a b : Telling) (store after : StoreState) (came : Served) → came ≡ came_to.Ended → LeavesRecords old opened
-    → IsFold store.kept → IfSome old (λ octets. OpensTo octets opened store.kept) → WithProtocol role reading (λ protocol. Serves protocol store after opened new came max a b)
-    → WithProtocol role reading (λ protocol. RunsSession protocol max old new a b 0)
-served role reading max old opened new a b store after came is leaves fold opens serves =
-    with_protocol role reading (λ protocol. Serves protocol store after opened new came max a b) (λ protocol. RunsSession protocol max old new a b 0)
+pub served : (role : Role) (reading : Option ℕ) (limits : Limits) (old opened new : Option (List ℕ)) (a b : Telling) (store after : StoreState) (came : Served) → came ≡ came_to.Ended → LeavesRecords old opened
+    → IsFold store.kept → store.message_max ≡ limits.message_max → IfSome old (λ octets. OpensTo octets opened store.kept) → WithProtocol role reading (λ protocol. Serves protocol store after opened new came limits.session_max a b)
+    → WithProtocol role reading (λ protocol. RunsSession protocol limits old new a b 0)
+served role reading limits old opened new a b store after came is leaves fold bound opens serves =
+    with_protocol role reading (λ protocol. Serves protocol store after opened new came limits.session_max a b) (λ protocol. RunsSession protocol limits old new a b 0)
     (λ protocol does.
-    Ended store after opened (record { fold = fold; opens = opens }) (does.ended is) (holds_by old opened new store after _ leaves opens (does.ended is).sent.changes) refl) serves
+    Ended store after opened (record { fold = fold; opens = opens }) bound (does.ended is) (holds_by old opened new store after _ leaves opens (does.ended is).sent.changes) refl) serves
 
-pub served_up_to : (role : Role) (reading : Option ℕ) (max : ℕ) (old opened new : Option (List ℕ)) (a b : Telling) (store after : StoreState) (came : Served) → came ≡ came_to.Limit → LeavesRecords old opened
-    → IsFold store.kept → IfSome old (λ octets. OpensTo octets opened store.kept) → WithProtocol role reading (λ protocol. Serves protocol store after opened new came max a b)
-    → WithProtocol role reading (λ protocol. RunsSession protocol max old new a b 6)
-served_up_to role reading max old opened new a b store after came is leaves fold opens serves =
-    with_protocol role reading (λ protocol. Serves protocol store after opened new came max a b) (λ protocol. RunsSession protocol max old new a b 6)
+pub served_up_to : (role : Role) (reading : Option ℕ) (limits : Limits) (old opened new : Option (List ℕ)) (a b : Telling) (store after : StoreState) (came : Served) → came ≡ came_to.Limit → LeavesRecords old opened
+    → IsFold store.kept → store.message_max ≡ limits.message_max → IfSome old (λ octets. OpensTo octets opened store.kept) → WithProtocol role reading (λ protocol. Serves protocol store after opened new came limits.session_max a b)
+    → WithProtocol role reading (λ protocol. RunsSession protocol limits old new a b 6)
+served_up_to role reading limits old opened new a b store after came is leaves fold bound opens serves =
+    with_protocol role reading (λ protocol. Serves protocol store after opened new came limits.session_max a b) (λ protocol. RunsSession protocol limits old new a b 6)
     (λ protocol does.
-    Limit store after opened (record { fold = fold; opens = opens }) (does.limit is) (holds_by old opened new store after _ leaves opens (does.limit is).sent.changes) refl) serves
+    Limit store after opened (record { fold = fold; opens = opens }) bound (does.limit is) (holds_by old opened new store after _ leaves opens (does.limit is).sent.changes) refl) serves
 
-pub served_partly : (role : Role) (reading : Option ℕ) (max : ℕ) (old opened new : Option (List ℕ)) (a b : Telling) (store after : StoreState) (came : Served) (status : ℕ) → status ≡ status_of_served came
-    → BreaksSessionOff status → IsFold store.kept → IfSome old (λ octets. OpensTo octets opened store.kept)
-    → WithProtocol role reading (λ protocol. Serves protocol store after opened new came max a b) → WithProtocol role reading (λ protocol. RunsSession protocol max old new a b status)
-served_partly role reading max old opened new a b store after came status is off fold opens serves =
-    with_protocol role reading (λ protocol. Serves protocol store after opened new came max a b) (λ protocol. RunsSession protocol max old new a b status)
+pub served_partly : (role : Role) (reading : Option ℕ) (limits : Limits) (old opened new : Option (List ℕ)) (a b : Telling) (store after : StoreState) (came : Served) (status : ℕ) → status ≡ status_of_served came
+    → BreaksSessionOff status → IsFold store.kept → store.message_max ≡ limits.message_max → IfSome old (λ octets. OpensTo octets opened store.kept)
+    → WithProtocol role reading (λ protocol. Serves protocol store after opened new came limits.session_max a b) → WithProtocol role reading (λ protocol. RunsSession protocol limits old new a b status)
+served_partly role reading limits old opened new a b store after came status is off fold bound opens serves =
+    with_protocol role reading (λ protocol. Serves protocol store after opened new came limits.session_max a b) (λ protocol. RunsSession protocol limits old new a b status)
     (λ protocol does. Broken off (InSession (record {
       told = is;
       store = store;
@@ -78,6 +79,7 @@ served_partly role reading max old opened new a b store after came status is off
       opened = opened;
       served = came;
       opens = record { fold = fold; opens = opens };
+      message_limit = bound;
       lawful = does.lawful;
       holds = begun_held protocol.spelled old store after opened new (answer_of came) (acts_for protocol store (taken_of does.lawful.entries)) (given_of does.lawful.entries) opens does.lawful.done;
     }))) serves

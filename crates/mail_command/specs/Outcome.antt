@@ -1,6 +1,7 @@
 -- What a command of one message comes to: its status, and the octets that it gives.
 use Rattle.std.specs.Prelude.{◌≡◌, ◌≢◌, ℕ, ◌<◌, ◌≤◌, List, [], ◌++◌, length, codes, decimal}
 use Rattle.mail_wire.specs.Lines.{crlf}
+use Rattle.mail_store.specs.declared.limits.TheConstants.{MESSAGE_MAX}
 use Rattle.mime_tree.specs.declared.entity.TreeFault.{TreeFault}
 use Rattle.mime_tree.specs.declared.entity.TreeFault.TheVariants.{Nul, BareCr, BareLf, NotField, NotUtf8, Memory}
 use Rattle.mime_tree.specs.Completing.{IsCompleted}
@@ -9,7 +10,7 @@ use Rattle.surrogate_rope.specs.Layout.{HasSurrogate}
 
 -- the most octets of a message: 32 MiB
 abbrev pub message_max : ℕ
-message_max = 33_554_432
+message_max = MESSAGE_MAX
 
 -- the line that tells where a message is refused, and why
 abbrev pub refusal_line : ℕ → List ℕ → List ℕ

@@ -1,8 +1,9 @@
 -- What a session is sent of a stream, and what the call that serves it does to its wire, its store and its keeper.
-use Rattle.std.specs.Prelude.{◌≡◌, ◌⊎◌, ℕ, ◌<◌, ◌≤◌, List, ◌++◌, length, Option, IfSome, false}
+use Rattle.std.specs.Prelude.{◌≡◌, ◌⊎◌, ℕ, ◌<◌, ◌≤◌, List, [], ◌∷◌, ◌++◌, length, Option, IfSome, false}
 use Rattle.std.specs.Io.KnownBytes.{IsAtEnd}
 use Rattle.std.specs.List.{AllByRecursion}
 use Rattle.mail_wire.specs.declared.outside.Entry.{Entry}
+use Rattle.mail_wire.specs.declared.outside.Entry.TheVariants.{Taken, Given}
 use Rattle.mail_wire.specs.Telling.{Telling}
 use Rattle.mail_wire.specs.Transcript.{IsLawful, taken_of, given_of}
 use Rattle.mail_wire.specs.Moves.{Moves}
@@ -17,6 +18,7 @@ use Rattle.mail_command.specs.declared.serving.Limits.{Limits}
 use Rattle.mail_command.specs.declared.serving.Desk.{Desk}
 use Rattle.mail_command.specs.declared.serving.Served.{Served}
 use Rattle.mail_command.specs.declared.serving.Served.TheVariants.{Ended, Limit}
+use Rattle.mail_command.specs.declared.taking.TheConstants.{PIECE}
 use Rattle.mail_command.specs.Protocols.{Protocol, acts_for, replies_to, changes_by, store_after, EndsBy}
 use Rattle.mail_command.specs.Served.{answer_of}
 
@@ -55,13 +57,25 @@ pub record IsSent (protocol : Protocol) (store after : StoreState) (had has : Op
 abbrev pub IsPrefixOf : List ℕ → List ℕ → Type 0
 IsPrefixOf front whole = (rest : List ℕ) × (whole ≡ front ++ rest)
 
--- Before each take all that was taken was answered, and nothing was given but a prefix of the replies to what was left. No
--- more was taken than a session may take. What was taken brings acts: all of them were done, or, by the answer, the first of
--- them, in their order.
+-- this holds of each take: of what was taken before it, these octets first, and of what it takes
+abbrev pub EachTake : (List ℕ → List ℕ → Type 0) → List ℕ → List Entry → Type 0
+EachTake May taken [] = Unit {0}
+EachTake May taken (Taken octets ∷ entries) = May taken octets × EachTake May (taken ++ octets) entries
+EachTake May taken (Given octets ∷ entries) = EachTake May taken entries
+
+-- What was taken has not ended the session, and no more than a piece is taken.
+pub record MayTake (protocol : Protocol) (store : StoreState) (taken octets : List ℕ) : Type 0 where
+  pub goes_on : ¬ EndsBy protocol store taken
+  pub piece : length octets ≤ PIECE
+
+-- Before each take all that was taken was answered and had not ended the session, and no take was of more than a piece. Nothing was
+-- given but a prefix of the replies to what was left. No more was taken than a session may take. What was taken brings acts: all
+-- of them were done, or, by the answer, the first of them, in their order.
 pub record ServesLawfully (protocol : Protocol) (store after : StoreState) (had has : Option (List ℕ)) (served : Served) (max : ℕ) (before now : Telling) : Type 0 where
   pub entries : List Entry
   pub moves : Moves before now entries
   pub lawful : IsLawful (replies_to protocol store) entries
+  pub takes : EachTake (MayTake protocol store) [] entries
   pub few : length (taken_of entries) ≤ max
   pub begun : IfSome before.left (λ octets. IsPrefixOf (given_of entries) (replies_to protocol store octets))
   pub done : IsDone protocol.spelled store after had has (answer_of served) (acts_for protocol store (taken_of entries)) (given_of entries)
@@ -71,6 +85,7 @@ pub record ServesAll (protocol : Protocol) (store after : StoreState) (had has :
   pub entries : List Entry
   pub moves : Moves before now entries
   pub lawful : IsLawful (replies_to protocol store) entries
+  pub takes : EachTake (MayTake protocol store) [] entries
   pub few : length (taken_of entries) ≤ max
   pub sent : IsSent protocol store after had has (taken_of entries) (given_of entries)
   pub whole : IfSome before.left (λ octets. IsSent protocol store after had has octets (given_of entries))
@@ -81,6 +96,7 @@ pub record ServesUpTo (protocol : Protocol) (store after : StoreState) (had has 
   pub entries : List Entry
   pub moves : Moves before now entries
   pub lawful : IsLawful (replies_to protocol store) entries
+  pub takes : EachTake (MayTake protocol store) [] entries
   pub sent : IsSent protocol store after had has (taken_of entries) (given_of entries)
   pub full : length (taken_of entries) ≡ max
   pub goes_on : ¬ EndsBy protocol store (taken_of entries)

@@ -100,7 +100,7 @@ fn work<W: Wire, J: Keeper, C: Clock>(
 ) -> Result<u8, Fault>
     ensures words { IsNoCommand words.now → RefusesWords (W.tells wire.old) (W.tells wire.new) (status_of result) }
     ensures downgrade { IsDowngrade words.now → RunsDowngrade (W.tells wire.old) (W.tells wire.new) (status_of result) }
-    ensures session { (role : RoleValue) → IsSession words.now role → WithProtocol role (C.tells clock.old) (λ protocol. RunsSession protocol LIMITS.session_max
+    ensures session { (role : RoleValue) → IsSession words.now role → WithProtocol role (C.tells clock.old) (λ protocol. RunsSession protocol LIMITS
         (J.tells keeper.old).octets (J.tells keeper.new).octets (W.tells wire.old) (W.tells wire.new) (status_of result)) }
     ensures account { (address : AddressValue) (password : List ℕ) → IsAccount words.now address password → WithPaths (λ path_of.
         RunsAdding (λ kept. account_refusal path_of kept address) (records.Account (address_text address) password)
@@ -145,7 +145,7 @@ pub fn run<W: Wire, J: Keeper, C: Clock>(
 ) -> u8
     ensures words { IsNoCommand words.now → RefusesWords (W.tells wire.old) (W.tells wire.new) result }
     ensures downgrade { IsDowngrade words.now → RunsDowngrade (W.tells wire.old) (W.tells wire.new) result }
-    ensures session { (role : RoleValue) → IsSession words.now role → WithProtocol role (C.tells clock.old) (λ protocol. RunsSession protocol LIMITS.session_max
+    ensures session { (role : RoleValue) → IsSession words.now role → WithProtocol role (C.tells clock.old) (λ protocol. RunsSession protocol LIMITS
         (J.tells keeper.old).octets (J.tells keeper.new).octets (W.tells wire.old) (W.tells wire.new) result) }
     ensures account { (address : AddressValue) (password : List ℕ) → IsAccount words.now address password → WithPaths (λ path_of.
         RunsAdding (λ kept. account_refusal path_of kept address) (records.Account (address_text address) password)

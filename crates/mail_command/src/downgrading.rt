@@ -18,7 +18,7 @@ use std::alloc::Global;
 use surrogate_rope::rope::Rope;
 
 /// The most octets of a message: 32 MiB.
-pub const MESSAGE_MAX: usize = 33_554_432;
+pub const MESSAGE_MAX: usize = mail_store::limits::MESSAGE_MAX as usize;
 
 // A message is refused at this place.
 fn refused(alloc: Global, at: usize, reason: &[u8]) -> Result<Reply, Memory>

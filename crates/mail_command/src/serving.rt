@@ -9,6 +9,8 @@ ghost use Rattle.mail_command.specs.Serving.{AreLimits, IsOpen, Serves};
 ghost use Rattle.mail_command.specs.Served.{HasServedCause, served_of};
 
 use crate::roles::{Role, Session};
+use crate::taking::PIECE;
+use mail_store::limits::MESSAGE_MAX;
 use mail_store::opening::OpenFault;
 use mail_store::storing::Store;
 use mail_wire::clock::Clock;
@@ -29,7 +31,7 @@ pub struct Limits {
 
 /// The limits of the program: messages of 32 MiB, sessions that take 1 GiB.
 pub const LIMITS: Limits = Limits {
-    message_max: 33_554_432,
+    message_max: MESSAGE_MAX,
     session_max: 1_073_741_824,
     pool_blocks: 1024,
     cache_entries: 256,
@@ -80,9 +82,6 @@ pub fn open_desk<J: Keeper>(
     })
 }
 
-// The greatest piece that is taken at a time.
-const PIECE: usize = 4096;
-
 // Serves a session. Whether it or the input ended before the limit.
 fn serve<W: Wire, J: Keeper, C: Clock>(
     alloc: Global,
@@ -131,8 +130,8 @@ pub fn serve_one<W: Wire, J: Keeper, C: Clock>(
     clock: &mut C,
 ) -> Served
     requires { IsOpen desk.old }
-    // By the machine of the role's protocol: before each take all that was taken was answered, nothing else was ever given, and no
-    // more was taken than the limit. What was taken was done: the replies given and the changes made in the store and in the
+    // By the machine of the role's protocol: before each take all that was taken was answered and had not ended the session, no take
+    // was of more than a piece, nothing else was ever given, and no more was taken than the limit. What was taken was done: the replies given and the changes made in the store and in the
     // keeper, in their order, or, after a fault, the first of them. At Ended it was sent what is due for all that was left, and has
     // ended, or nothing is left. At Limit it was sent what is due for as many octets as a session may take, and has not ended.
     ensures serves { WithProtocol role (C.tells clock.old) (λ protocol. Serves protocol desk.old.store desk.new.store

@@ -22,7 +22,7 @@ pub fn run_session<W: Wire, J: Keeper, C: Clock>(
     keeper: &mut J,
     clock: &mut C,
 ) -> Result<u8, Fault>
-    ensures runs { WithProtocol role (C.tells clock.old) (λ protocol. RunsSession protocol LIMITS.session_max
+    ensures runs { WithProtocol role (C.tells clock.old) (λ protocol. RunsSession protocol LIMITS
         (J.tells keeper.old).octets (J.tells keeper.new).octets (W.tells wire.old) (W.tells wire.new) (status_of result)) }
     // A bad journal is told.
     ensures journal { IfSome (J.tells keeper.old).octets (λ octets. IsExactJournal octets (status_of result)) }

@@ -44,7 +44,7 @@ pub returns-then-count-eq0-clause-serves : goal.returns-then-count-eq0-clause-se
 returns-then-count-eq0-clause-serves g c =
     nothing_left c.args.role (g.C.Clock.tells c.args.clock.now) c.args.desk.now.store c.loop-taken.desk.store (g.J.Keeper.tells c.args.keeper.now).octets (g.J.Keeper.tells c.loop-taken.keeper).octets
     c.args.desk.now.limits.session_max (g.W.Wire.tells c.args.wire.now) (g.W.Wire.tells c.loop-taken.wire) (g.W.Wire.tells c.take_piece.new.wire) c.loop-taken.session c.loop-taken.taken
-    c.in_ok-count.count c.take_piece.new.into c.in_ok-count.ensures.takes c.if-count-eq0.true c.loop-taken-test.true c.loop-taken.invariant.goes
+    c.in_ok-count.count c.take_piece.new.into c.loop-taken.invariant.goes_on c.in_ok-count.ensures.takes c.if-count-eq0.true c.loop-taken-test.true c.loop-taken.invariant.goes
 
 pub returns-in_err-session-2-clause-serves : goal.returns-in_err-session-2-clause-serves
 returns-in_err-session-2-clause-serves g c =
@@ -55,7 +55,8 @@ returns-in_err-session-2-clause-serves g c =
     (g.W.Wire.tells c.args.wire.now) (g.W.Wire.tells c.loop-taken.wire) (g.W.Wire.tells c.take_piece.new.wire) (g.W.Wire.tells c.feed.new.wire)
     c.loop-taken.session c.loop-taken.taken c.in_ok-count.count c.take_piece.new.into _
     (omega (arith, c.loop-taken.invariant.low, c.in_ok-count.ensures.bound, c.min-room.ensures, c.take_piece.auto.into, length-take {A = ℕ}))
-    c.in_ok-count.ensures.takes c.in_ok-count.ensures.bound
+    c.loop-taken.invariant.goes_on c.in_ok-count.ensures.takes c.in_ok-count.ensures.bound
+    (omega (arith, c.in_ok-count.ensures.bound, c.min-room.ensures, c.take_piece.auto.into, length-take {A = ℕ}))
     (take-append-le c.in_ok-count.count c.take_piece.new.into (drop c.min-room.result c.loop-taken.piece) c.in_ok-count.ensures.bound)
     c.loop-taken.invariant.goes (rw c.loop-taken.invariant.clock at (c.in_err-session-2.ensures.feeds c.args.role)))
 
@@ -68,7 +69,8 @@ returns-then-ended-clause-serves g c =
     (g.J.Keeper.tells c.args.keeper.now).octets (g.J.Keeper.tells c.loop-taken.keeper).octets (g.J.Keeper.tells c.feed.new.keeper).octets
     (g.W.Wire.tells c.args.wire.now) (g.W.Wire.tells c.loop-taken.wire) (g.W.Wire.tells c.take_piece.new.wire) (g.W.Wire.tells c.feed.new.wire)
     c.loop-taken.session c.in_ok-session-2.session c.loop-taken.taken c.in_ok-count.count c.take_piece.new.into _
-    c.in_ok-count.ensures.takes c.in_ok-count.ensures.bound
+    c.loop-taken.invariant.goes_on c.in_ok-count.ensures.takes c.in_ok-count.ensures.bound
+    (omega (arith, c.in_ok-count.ensures.bound, c.min-room.ensures, c.take_piece.auto.into, length-take {A = ℕ}))
     (take-append-le c.in_ok-count.count c.take_piece.new.into (drop c.min-room.result c.loop-taken.piece) c.in_ok-count.ensures.bound)
     c.loop-taken.invariant.goes (rw c.loop-taken.invariant.clock at (c.in_ok-session-2.ensures.feeds c.args.role)))
 
@@ -78,7 +80,8 @@ loop-taken-preserved g c = record {
       (g.J.Keeper.tells c.args.keeper.now).octets (g.J.Keeper.tells c.loop-taken.keeper).octets (g.J.Keeper.tells c.feed.new.keeper).octets
       (g.W.Wire.tells c.args.wire.now) (g.W.Wire.tells c.loop-taken.wire) (g.W.Wire.tells c.take_piece.new.wire) (g.W.Wire.tells c.feed.new.wire)
       c.loop-taken.session c.in_ok-session-2.session c.loop-taken.taken c.in_ok-count.count c.take_piece.new.into _
-      c.in_ok-count.ensures.takes c.in_ok-count.ensures.bound
+      c.loop-taken.invariant.goes_on c.in_ok-count.ensures.takes c.in_ok-count.ensures.bound
+      (omega (arith, c.in_ok-count.ensures.bound, c.min-room.ensures, c.take_piece.auto.into, length-take {A = ℕ}))
       (take-append-le c.in_ok-count.count c.take_piece.new.into (drop c.min-room.result c.loop-taken.piece) c.in_ok-count.ensures.bound)
       c.loop-taken.invariant.goes (rw c.loop-taken.invariant.clock at (c.in_ok-session-2.ensures.feeds c.args.role));
   ready = c.in_ok-session-2.ensures.ready;
