@@ -18,7 +18,7 @@ use Rattle.smtp_session.specs.Data.{data_end, end_cut, behind_command, data_cut,
 -- ---- the end, octet by octet
 
 -- the test whether the end comes first
-pub ends_here : List ℕ → Bool
+unfoldable pub ends_here : List ℕ → Bool
 ends_here octets = bytes_eq (take 5 octets) data_end
 
 -- octets other than the end don't come first
@@ -223,7 +223,7 @@ put_before-ended x [] some ended = absurd (omega arith)
 put_before-ended x (line ∷ lines) some ended = ((x ∷ ended.0.0, ap (λ line. x ∷ line) ended.0.1), ended.1)
 
 -- behind a CRLF no octets are left, or they end with CRLF
-ended_behind-crlf : (x y : ℕ) (rest front : List ℕ) → is_crlf x y ≡ true → x ∷ y ∷ rest ≡ front ++ crlf → IsEnded rest
+pub ended_behind-crlf : (x y : ℕ) (rest front : List ℕ) → is_crlf x y ≡ true → x ∷ y ∷ rest ≡ front ++ crlf → IsEnded rest
 ended_behind-crlf x y rest [] both h = inl cc
 ended_behind-crlf x y rest (a ∷ []) both h =
     let lf : y ≡ 10 = (is_crlf_parts x y both).1 in
@@ -232,7 +232,7 @@ ended_behind-crlf x y rest (a ∷ []) both h =
 ended_behind-crlf x y rest (a ∷ b ∷ front) both h = inr (front, cc)
 
 -- behind an octet with which no CRLF begins the octets end with CRLF
-ended_behind-other : (x y : ℕ) (rest front : List ℕ) → is_crlf x y ≡ false → x ∷ y ∷ rest ≡ front ++ crlf → IsEnded (y ∷ rest)
+pub ended_behind-other : (x y : ℕ) (rest front : List ℕ) → is_crlf x y ≡ false → x ∷ y ∷ rest ≡ front ++ crlf → IsEnded (y ∷ rest)
 ended_behind-other x y rest [] other h =
     let cr : x ≡ 13 = cc in
     let lf : y ≡ 10 = cc in

@@ -58,12 +58,12 @@ delivered_name old new delivery is =
 -- ---- what is due
 
 -- the last of four steps by three tests
-last_of : (large is_message : Bool) (refusal : Option StoreFault) (a b c d : Step) → large ≡ false → is_message ≡ true → refusal ≡ None
+pub last_of : (large is_message : Bool) (refusal : Option StoreFault) (a b c d : Step) → large ≡ false → is_message ≡ true → refusal ≡ None
     → cond large a (cond (not is_message) b (cond (is_some refusal) c d)) ≡ d
 last_of large is_message refusal a b c d p q r = rw (p, q, r) refl
 
 -- octets that may be kept are told so
-tells_true : (has_tree : List ℕ → Bool) (octets : List ℕ) → TellsTrees has_tree → IsStored octets → has_tree octets ≡ true
+pub tells_true : (has_tree : List ℕ → Bool) (octets : List ℕ) → TellsTrees has_tree → IsStored octets → has_tree octets ≡ true
 tells_true has_tree octets tells stored = let t = (tells octets).1 stored in search rules
 
 -- a message that the store was called with is due

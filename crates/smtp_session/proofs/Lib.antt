@@ -19,3 +19,7 @@ pub mod EndLemmas
 pub mod IntakeLemmas
 pub mod KnownRecipients
 pub mod StreamLemmas
+pub mod TransactionLemmas
+pub mod SentLines
+pub mod TakenLemmas
+pub mod GrammarPaths

@@ -33,7 +33,7 @@ use Rattle.smtp_session.specs.Commands.{behind_word, path_and_rest, path_behind,
 -- ---- octets that a path goes on with
 
 -- The path goes on behind the octets, from one place to another, whatever follows them.
-abbrev Passes : Place → List ℕ → Place → Type 0
+abbrev pub Passes : Place → List ℕ → Place → Type 0
 Passes at octets next = (rest : List ℕ) → path_len at (octets ++ rest) ≡ option_map (λ n. n + length octets) (path_len next rest)
 
 -- no octets more
@@ -47,22 +47,22 @@ more_both a b c sum None = refl
 more_both a b c sum (Some n) = ap Some (omega (arith, sum))
 
 -- no octets change nothing
-passes_none : (at : Place) → Passes at [] at
+pub passes_none : (at : Place) → Passes at [] at
 passes_none at rest = more_none (path_len at rest)
 
 -- one octet
-passes_one : (x : ℕ) (at : Place) → stands_plain 62 at x ≡ false → stands_plain 40 at x ≡ false → Passes at (x ∷ []) (place_after at x)
+pub passes_one : (x : ℕ) (at : Place) → stands_plain 62 at x ≡ false → stands_plain 40 at x ≡ false → Passes at (x ∷ []) (place_after at x)
 unfolding path_len
 passes_one x at goes plain rest = rw (goes, plain) refl
 
 -- two texts, one behind the other
-passes_both : (a b : List ℕ) (at next last : Place) → Passes at a next → Passes next b last → Passes at (a ++ b) last
+pub passes_both : (a b : List ℕ) (at next last : Place) → Passes at a next → Passes next b last → Passes at (a ++ b) last
 passes_both a b at next last first second rest =
     ap (path_len at) (append_assoc a b rest) ∙ first (b ++ rest) ∙ ap (option_map (λ n. n + length a)) (second rest)
     ∙ more_both (length a) (length b) (length (a ++ b)) (length-append a b) (path_len last rest)
 
 -- an octet that changes nothing outside of quotes and of a literal
-abbrev goes_on : ℕ → Bool
+abbrev pub goes_on : ℕ → Bool
 goes_on x = not (x == 34) && (not (x == 91) && (not (x == 62) && not (x == 40)))
 
 -- such an octet is none of the four
@@ -91,14 +91,14 @@ going_on x h =
     }
 
 -- the path goes on behind such an octet
-passes_octet : (x : ℕ) → goes_on x ≡ true → Passes place.Plain (x ∷ []) place.Plain
+pub passes_octet : (x : ℕ) → goes_on x ≡ true → Passes place.Plain (x ∷ []) place.Plain
 passes_octet x h =
     let is = going_on x h in
     let stays : place_after place.Plain x ≡ place.Plain = rw (is.no_quote, is.no_literal) refl in
     subst (Passes place.Plain (x ∷ [])) stays (passes_one x place.Plain is.no_end is.no_comment)
 
 -- and behind several
-passes_octets : (octets : List ℕ) → list_all goes_on octets ≡ true → Passes place.Plain octets place.Plain
+pub passes_octets : (octets : List ℕ) → list_all goes_on octets ≡ true → Passes place.Plain octets place.Plain
 passes_octets [] h = passes_none place.Plain
 passes_octets (x ∷ octets) h =
     let parts = and_parts (goes_on x) (list_all goes_on octets) h in
@@ -111,7 +111,7 @@ atom_goes : (x : ℕ) → is_atom_octet Mail x ≡ true → goes_on x ≡ true
 atom_goes x atom = grind (arith, nat_tests)
 
 -- and so are those of an atom
-atoms_go : (octets : List ℕ) → list_all (is_atom_octet Mail) octets ≡ true → list_all goes_on octets ≡ true
+pub atoms_go : (octets : List ℕ) → list_all (is_atom_octet Mail) octets ≡ true → list_all goes_on octets ≡ true
 atoms_go [] h = refl
 atoms_go (x ∷ octets) h =
     let parts = and_parts (is_atom_octet Mail x) (list_all (is_atom_octet Mail) octets) h in
@@ -206,7 +206,7 @@ passes_inside (Pair x more) is flat =
 passes_inside (Nested inside more) is flat = absurd (omega (arith, flat))
 
 -- a literal
-passes_literal : (kind : TokenKind) (octets : List ℕ) → is_literal_kind kind ≡ true → Shape kind octets → Passes place.Plain (content_of kind octets) place.Plain
+pub passes_literal : (kind : TokenKind) (octets : List ℕ) → is_literal_kind kind ≡ true → Shape kind octets → Passes place.Plain (content_of kind octets) place.Plain
 passes_literal Literal octets h shape =
     let inside = inside_octets literal_marks shape.inside in
     rw (shape.spelled)
@@ -262,14 +262,14 @@ unfolding path_len
 ends_here rest = refl
 
 -- how long the path in its angle brackets is
-written_len : (octets rest : List ℕ) → Passes place.Plain octets place.Plain → path_len place.Plain (in_angles octets ++ rest) ≡ Some (length (in_angles octets))
+pub written_len : (octets rest : List ℕ) → Passes place.Plain octets place.Plain → path_len place.Plain (in_angles octets ++ rest) ≡ Some (length (in_angles octets))
 written_len octets rest passes =
     let all = passes_both (60 ∷ []) octets place.Plain place.Plain place.Plain (passes_octet 60 refl) passes (62 ∷ rest) in
     ap (λ back. path_len place.Plain (60 ∷ back)) (append_assoc octets (62 ∷ []) rest) ∙ all
     ∙ ap (option_map (λ n. n + length (60 ∷ octets))) (ends_here rest) ∙ ap Some (omega (arith, length-append octets (62 ∷ [])))
 
 -- what stands before the place where the path ends, and behind it
-found_at : (path rest : List ℕ) → stands_apart rest ≡ true → path_and_rest (path ++ rest) (length path) ≡ Some (record { path = path; rest = rest })
+pub found_at : (path rest : List ℕ) → stands_apart rest ≡ true → path_and_rest (path ++ rest) (length path) ≡ Some (record { path = path; rest = rest })
 found_at path rest apart = rw (drop_at path rest (length path) refl, take_at path rest (length path) refl, apart) refl
 
 -- the path is found whole
@@ -286,13 +286,13 @@ same_itself : (xs : List ℕ) → bytes_eq xs xs ≡ true
 same_itself xs = (bytes_eq-Decides xs xs).1 refl
 
 -- a word is followed by what stands behind it
-follows_word : (word text : List ℕ) → behind_word word (word ++ 60 ∷ text) ≡ Some (60 ∷ text)
+pub follows_word : (word text : List ℕ) → behind_word word (word ++ 60 ∷ text) ≡ Some (60 ∷ text)
 unfolding same_name
 follows_word word text =
     rw (take_at word (60 ∷ text) (length word) refl, drop_at word (60 ∷ text) (length word) refl, same_itself (map to_ascii_lowercase word)) refl
 
 -- and so it is where a space stands between
-follows_space : (word text : List ℕ) → behind_word word (word ++ 32 ∷ text) ≡ Some text
+pub follows_space : (word text : List ℕ) → behind_word word (word ++ 32 ∷ text) ≡ Some text
 unfolding same_name
 follows_space word text =
     rw (take_at word (32 ∷ text) (length word) refl, drop_at word (32 ∷ text) (length word) refl, same_itself (map to_ascii_lowercase word)) refl

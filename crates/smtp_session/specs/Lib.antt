@@ -2,5 +2,8 @@ pub mod Commands
 pub mod Data
 pub mod Intake
 pub mod Machine
+pub mod Paths
+pub mod Sending
 pub mod Session
 pub mod Steps
+pub mod Transaction

@@ -1,19 +1,28 @@
-//! Laws of the data, of what may be kept of them, of paths, and of what is kept.
-ghost use Rattle.std.specs.Prelude.{◌≡◌, ◌≢◌, ◌++◌, ◌∷◌, ℕ, List, [], Bool, Option, Some, IfSome, true, codes};
+//! Laws of the data, of which of them are taken, of paths, of transactions, and of what is kept.
+ghost use Rattle.std.specs.Prelude.{◌≡◌, ◌≢◌, ◌<◌, ◌++◌, ◌∷◌, ℕ, List, [], Bool, Option, Some, IfSome, length, true, codes};
 ghost use Rattle.std.specs.List.{All};
 ghost use Rattle.mail_wire.specs.Lines.{Cut, lines_of};
+ghost use Rattle.mail_wire.specs.Message.{IsEnded};
+ghost use Rattle.mail_wire.specs.Turns.{behind};
 ghost use Rattle.address_lists.specs.declared.Address.{Address};
 ghost use Rattle.address_lists.specs.Paths.{ComesInPath, in_angles};
+ghost use Rattle.mail_store.specs.Acts.{gives, changes};
 ghost use Rattle.mail_store.specs.Answers.{IsFold};
-ghost use Rattle.mail_store.specs.Changing.{path_text};
+ghost use Rattle.mail_store.specs.Changing.{delivered, path_text};
 ghost use Rattle.mail_store.specs.Kept.{Kept, name_of};
-ghost use Rattle.mail_store.specs.StoreState.{StoreState};
-ghost use Rattle.smtp_session.specs.Commands.{path_behind, stands_apart};
-ghost use Rattle.smtp_session.specs.Data.{Moment, TellsTrees, data_cut};
-ghost use Rattle.smtp_session.specs.Intake.{AreRecipients, IsKeptOnce, KeepsAccepted, KnowsRecipients, acceptance, kept_after};
-ghost use Rattle.smtp_session.specs.Machine.{Readings, State, fresh, greeted, step, delivery_of, end_data};
-ghost use Rattle.smtp_session.specs.Session.{IsName, start_of, turns_of};
+ghost use Rattle.mail_store.specs.StoreState.{StoreState, with_records};
+ghost use Rattle.mail_store.specs.Stored.{IsStored};
+ghost use Rattle.smtp_session.specs.Commands.{path_behind, path_len, stands_apart};
+ghost use Rattle.smtp_session.specs.Data.{Moment, TellsTrees, data_cut, unstuffed};
+ghost use Rattle.smtp_session.specs.Intake.{AreRecipients, IsKeptOnce, KeepsAccepted, KnowsRecipients, acceptance, kept_after, stored_line};
+ghost use Rattle.smtp_session.specs.Machine.{Readings, State, collecting, fresh, greeted, mail, recipient_count, says, step, delivery_of, end_data};
+ghost use Rattle.smtp_session.specs.Paths.{IsPathText};
+ghost use Rattle.smtp_session.specs.Sending.{IsWithinLimits, sent, stuffed};
+ghost use Rattle.smtp_session.specs.Session.{IsName, later, next_moment, start_of, turns_of};
+ghost use Rattle.smtp_session.specs.Transaction.{GoesOn, IsTransactionKept, TakesData, TakesRecipient, TakesSender, go_ahead, recipient_ok, sender_ok};
+ghost use Rattle.smtp_session.specs.declared.command.Place.TheVariants.{Plain};
 ghost use Rattle.smtp_session.specs.declared.command.Verb.{Verb};
+ghost use Rattle.smtp_session.specs.declared.command.Verb.TheVariants as verb;
 ghost use Rattle.smtp_session.specs.declared.states.Client.{Client};
 ghost use Rattle.smtp_session.specs.declared.states.Envelope.{Envelope};
 
@@ -28,6 +37,25 @@ pub fn data_end_once()
     ensures split { (octets : List ℕ) (cut : Cut) → data_cut octets ≡ Some cut → octets ≡ cut.line ++ (codes ".\r\n" ++ cut.rest) }
 {}
 
+/// Data that a client sends of any lines are found exactly there, and say these lines again. With a recipient DATA is accepted, and data
+/// that have a tree and are within the limits are accepted: over a stream they are kept and told to be stored, and what follows
+/// them is read on.
+pub fn whole_data_are_taken()
+    ensures found { (octets : List ℕ) → IsEnded octets → (rest : List ℕ) → data_cut (sent octets rest) ≡ Some (record { line = stuffed octets; rest = rest }) }
+    ensures back { (octets : List ℕ) → unstuffed (stuffed octets) ≡ octets }
+    ensures begun { (readings : Readings) (client : Client) (envelope : Envelope) (store : StoreState) (argument : List ℕ) → 0 < recipient_count envelope
+        → step readings (mail client envelope) store verb.Data argument ≡ says (codes "354 go ahead") (collecting client envelope) }
+    ensures accepted { (readings : Readings) (store : StoreState) (client : Client) (envelope : Envelope) (moment : Moment) (octets : List ℕ)
+        → TellsTrees readings.has_tree → IsStored octets → IsWithinLimits store (delivery_of store client envelope moment octets)
+        → (end_data readings store client envelope moment octets).reply ≡ acceptance }
+    ensures stream { (readings : Readings) (store : StoreState) (client : Client) (envelope : Envelope) (moments : List Moment) (octets rest : List ℕ)
+        → TellsTrees readings.has_tree → IsEnded octets → IsStored octets
+        → let delivery = delivery_of store client envelope (next_moment moments) octets in IsWithinLimits store delivery
+        → turns_of readings (record { state = collecting client envelope; store = store; moments = moments }) (sent octets rest)
+        ≡ behind (changes (delivered store.kept delivery) ∷ gives stored_line ∷ [])
+        (turns_of readings (record { state = greeted client; store = with_records store (delivered store.kept delivery); moments = later moments }) rest) }
+{}
+
 /// The path that is written for an address is found whole behind any word, also where a space stands between, and so is the
 /// null path, where nothing follows or white does.
 pub fn written_paths_are_found()
@@ -35,6 +63,30 @@ pub fn written_paths_are_found()
         → path_behind word (word ++ (in_angles (path_text path) ++ rest)) ≡ Some (record { path = in_angles (path_text path); rest = rest }) }
     ensures spaced { (word : List ℕ) (path : Option Address) → IfSome path ComesInPath → (rest : List ℕ) → stands_apart rest ≡ true
         → path_behind word (word ++ 32 ∷ (in_angles (path_text path) ++ rest)) ≡ Some (record { path = in_angles (path_text path); rest = rest }) }
+{}
+
+/// Each path of the grammar, and the null path, is found whole from its `<` to its `>` where it has no comments, behind any word, also
+/// where a space stands between, and where nothing follows or white does.
+pub fn grammar_paths_are_found()
+    ensures whole { (text : List ℕ) (answer : Option Address) → IsPathText text answer → (rest : List ℕ) → path_len Plain (text ++ rest) ≡ Some (length text) }
+    ensures behind { (word text : List ℕ) (answer : Option Address) → IsPathText text answer → (rest : List ℕ) → stands_apart rest ≡ true
+        → path_behind word (word ++ (text ++ rest)) ≡ Some (record { path = text; rest = rest }) }
+    ensures spaced { (word text : List ℕ) (answer : Option Address) → IsPathText text answer → (rest : List ℕ) → stands_apart rest ≡ true
+        → path_behind word (word ++ 32 ∷ (text ++ rest)) ≡ Some (record { path = text; rest = rest }) }
+{}
+
+/// An accepted MAIL begins a transaction with the path that it says and without recipients; of an accepted RCPT the recipient stands
+/// behind all that were there; after an accepted DATA the data are those of the transaction; and while it goes on no command takes
+/// its path or a recipient away.
+pub fn recipients_stay()
+    ensures sender { (readings : Readings) (state : State) (store : StoreState) (argument : List ℕ)
+        → let taken = step readings state store verb.Mail argument in taken.reply ≡ sender_ok → TakesSender readings argument state taken.state }
+    ensures recipient { (readings : Readings) (state : State) (store : StoreState) (argument : List ℕ)
+        → let taken = step readings state store verb.Rcpt argument in taken.reply ≡ recipient_ok → TakesRecipient readings store.kept argument state taken.state }
+    ensures data { (readings : Readings) (state : State) (store : StoreState) (argument : List ℕ)
+        → let taken = step readings state store verb.Data argument in taken.reply ≡ go_ahead → TakesData state taken.state }
+    ensures going { (readings : Readings) (client : Client) (envelope : Envelope) (store : StoreState) (word : Verb) (argument : List ℕ)
+        → GoesOn client envelope (step readings (mail client envelope) store word argument).state }
 {}
 
 /// Mail that is accepted is kept once for each of its recipients, and nothing else is kept: neither of mail that isn't accepted
@@ -46,6 +98,10 @@ pub fn accepted_mail_is_kept_once()
         → IsFold store.kept → AreRecipients store.kept envelope
         → let taken = end_data readings store client envelope moment octets in taken.reply ≡ acceptance
         → IsKeptOnce store.kept (kept_after store taken) (delivery_of store client envelope moment octets) }
+    ensures transaction { (readings : Readings) (store : StoreState) (client : Client) (envelope : Envelope) (moment : Moment) (octets : List ℕ)
+        → IsFold store.kept → AreRecipients store.kept envelope
+        → let taken = end_data readings store client envelope moment octets in taken.reply ≡ acceptance
+        → IsTransactionKept store.kept (kept_after store taken) client envelope moment octets }
     ensures refused { (readings : Readings) (store : StoreState) (client : Client) (envelope : Envelope) (moment : Moment) (octets : List ℕ)
         → let taken = end_data readings store client envelope moment octets in taken.reply ≢ acceptance → taken.changes ≡ [] }
     ensures commands { (readings : Readings) (state : State) (store : StoreState) (verb : Verb) (argument : List ℕ)

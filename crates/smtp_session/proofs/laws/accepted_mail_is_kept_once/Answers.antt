@@ -2,10 +2,14 @@ use Rattle.smtp_session.proofs.IntakeLemmas.{accepted_kept_once, data_forget, re
 use Rattle.smtp_session.proofs.KnownRecipients.{step-recipients}
 use Rattle.smtp_session.proofs.RowLemmas.{step-changes}
 use Rattle.smtp_session.proofs.StreamLemmas.{stream_kept}
+use Rattle.smtp_session.proofs.TransactionLemmas.{transaction_kept}
 use Rattle.smtp_session.proofs.laws.accepted_mail_is_kept_once.Goals as goal
 
 pub returns-clause-stored : goal.returns-clause-stored
 returns-clause-stored c = accepted_kept_once
+
+pub returns-clause-transaction : goal.returns-clause-transaction
+returns-clause-transaction c = transaction_kept
 
 pub returns-clause-refused : goal.returns-clause-refused
 returns-clause-refused c = refused_kept_none

@@ -1,11 +1,11 @@
 //! The end of the data, the data without their dots, and the fields that are put before them.
-use crate::data::{find_data_end, push_unstuffed, received_field, return_path_field};
 use address_lists::read_path;
 use mail_wire::values::Octets;
+use smtp_session::data::{find_data_end, push_unstuffed, received_field, return_path_field};
 use std::test::Fail;
 
 // Looks at the first of the octets, so many, and then at all.
-#[tactic(auto, unfolding(crate::specs::Data::end_cut))]
+#[tactic(auto, unfolding(smtp_session::specs::Data::end_cut))]
 fn found_in_two(octets: &[u8], old: usize) -> Option<usize> {
     if old > octets.len() {
         return None;
@@ -18,7 +18,7 @@ fn found_in_two(octets: &[u8], old: usize) -> Option<usize> {
 }
 
 #[test]
-#[tactic(auto, unfolding(crate::specs::Data::end_cut))]
+#[tactic(auto, unfolding(smtp_session::specs::Data::end_cut))]
 fn ends_are_found(rt: HostRuntime) {
     assert_eq!(rt; find_data_end(b"\r\n.\r\n", 0), Some(0));
     assert_eq!(rt; find_data_end(b"\r\nab\r\n.\r\n.\r\n", 0), Some(4));
@@ -33,7 +33,7 @@ fn ends_are_found(rt: HostRuntime) {
 }
 
 #[test]
-#[tactic(auto, unfolding(crate::specs::Data::end_cut))]
+#[tactic(auto, unfolding(smtp_session::specs::Data::end_cut))]
 fn no_ends_are_found(rt: HostRuntime) {
     for octets in [
         &b""[..],

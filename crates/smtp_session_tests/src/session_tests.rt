@@ -4,7 +4,6 @@ ghost use Rattle.std.specs.Prelude.{IfOk, IsTrue};
 ghost use Rattle.mail_store.specs.Kept.{name_of};
 ghost use Rattle.smtp_session.specs.Session.{IsName};
 
-use crate::session::SmtpSession;
 use ace_domains::normal;
 use mail_store::records::Record;
 use mail_store::storing::Store;
@@ -14,6 +13,7 @@ use mail_wire::in_memory::{Failure, MemWire};
 use mail_wire::mem_keeper::MemKeeper;
 use mail_wire::outside::{Entry, Fault};
 use mail_wire::values::{Memory, Octets};
+use smtp_session::session::SmtpSession;
 use std::alloc::Global;
 use std::test::Fail;
 

@@ -1,0 +1,135 @@
+-- Data that have a tree and are within the limits are taken.
+use Rattle.std.proofs.Common.{◌≡◌, ℕ, zero, suc, ◌+◌, ◌<◌, ◌≤◌, ◌==◌, Bool, true, false, not, ◌&&◌, ◌||◌, List, [], ◌∷◌, length, if◌then◌else◌, Some, None, refl, ap, ◌∙◌, arith, codes, append-nil}
+use Rattle.std.specs.Prelude.{nat_lt}
+use Rattle.std.specs.Option.{option_map}
+use Rattle.std.proofs.lemmas.Bool.Decides.{nat_tests}
+use Rattle.mail_wire.specs.Lines.{Cut}
+use Rattle.mail_wire.specs.Message.{IsEnded}
+use Rattle.mail_wire.specs.Turns.{Turn, behind}
+use Rattle.mail_wire.proofs.TurnsLemmas.{all_turns-go}
+use Rattle.mail_store.specs.declared.changing.StoreFault.TheVariants as faults
+use Rattle.mail_store.specs.declared.delivery.Delivery.{Delivery}
+use Rattle.mail_store.specs.declared.limits.TheConstants.{THINGS_MAX}
+use Rattle.mail_store.specs.declared.records.Record.{Record}
+use Rattle.mail_store.specs.Acts.{Act, gives, changes}
+use Rattle.mail_store.specs.Changing.{delivered, delivery_refusal, has_large_octets, has_many_things}
+use Rattle.mail_store.specs.Records.{recipient_count as waiting_count}
+use Rattle.mail_store.specs.StoreState.{StoreState, with_records}
+use Rattle.mail_store.specs.Stored.{IsStored}
+use Rattle.smtp_session.specs.declared.command.Verb.TheVariants as verb
+use Rattle.smtp_session.specs.declared.states.Client.{Client}
+use Rattle.smtp_session.specs.declared.states.Envelope.{Envelope}
+use Rattle.smtp_session.specs.Data.{Moment, TellsTrees, data_cut}
+use Rattle.smtp_session.specs.Intake.{acceptance, stored_line}
+use Rattle.smtp_session.specs.Machine.{Readings, Step, acts_in, collecting, delivery_of, end_by, end_data, greeted, mail, recipient_count, says, step}
+use Rattle.smtp_session.specs.Sending.{IsWithinLimits, sent, stuffed}
+use Rattle.smtp_session.specs.Session.{Machine, after_step, data_turn, later, next_moment, next_turn, turns_of}
+use Rattle.smtp_session.proofs.EndLemmas.{last_of, tells_true}
+use Rattle.smtp_session.proofs.FeedLemmas.{next_turn-framed}
+use Rattle.smtp_session.proofs.SentLines.{sent_found, unstuffed_back}
+
+-- ---- the limits
+
+-- no number passes a limit that it is within, where there are any
+none_pass : (count limit number : ℕ) → (0 < count → number ≤ limit) → (not (count == 0) && nat_lt limit number) ≡ false
+none_pass zero limit number within = refl
+none_pass (suc count) limit number within =
+    let fits = within (omega arith) in
+    let test : nat_lt limit number ≡ false = grind (arith, nat_tests) in
+    let some : (suc count == 0) ≡ false = grind (arith, nat_tests) in
+    rw (some, test) refl
+
+both_false : (a b : Bool) → a ≡ false → b ≡ false → (a || b) ≡ false
+both_false a b first second = rw (first, second) refl
+
+-- the kept octets aren't too large
+not_large : (store : StoreState) (delivery : Delivery) → IsWithinLimits store delivery → has_large_octets store.message_max delivery ≡ false
+not_large store delivery within =
+    both_false _ _ (none_pass (length delivery.local) store.message_max (length delivery.local_octets) within.local)
+    (none_pass (length delivery.remote) store.message_max (length delivery.remote_octets) within.remote)
+
+within_limit : (limit number : ℕ) → number ≤ limit → nat_lt limit number ≡ false
+within_limit limit number fits = grind (arith, nat_tests)
+
+none_passes : (count : ℕ) (a b : Bool) → (0 < count → a ≡ false) → (0 < count → b ≡ false) → (not (count == 0) && (a || b)) ≡ false
+none_passes zero a b first second = refl
+none_passes (suc count) a b first second =
+    let some : (suc count == 0) ≡ false = grind (arith, nat_tests) in
+    rw (some, first (omega arith), second (omega arith)) refl
+
+-- there is room for what is kept
+not_many : (store : StoreState) (delivery : Delivery) → IsWithinLimits store delivery → has_many_things store.kept delivery ≡ false
+not_many store delivery within =
+    both_false _ _ (within_limit THINGS_MAX (length store.kept.messages + length delivery.local) within.messages)
+    (none_passes (length delivery.remote) _ _ (λ some. within_limit THINGS_MAX (length store.kept.entries + 1) (within.entries some))
+    (λ some. within_limit THINGS_MAX (waiting_count store.kept.entries + length delivery.remote) (within.waiting some)))
+
+not_refused : (large many : Bool) → large ≡ false → many ≡ false → (if large || many then Some faults.TooLarge else None) ≡ None
+not_refused large many first second = rw (first, second) refl
+
+-- ---- the end of the data
+
+-- the step that keeps a delivery
+abbrev keeping : StoreState → Client → Delivery → Step
+keeping store client delivery = record { changes = delivered store.kept delivery ∷ []; reply = acceptance; state = greeted client }
+
+kept_by : (is_message : Bool) (store : StoreState) (client : Client) (delivery : Delivery) → is_message ≡ true → IsWithinLimits store delivery
+    → end_by is_message store client delivery ≡ keeping store client delivery
+kept_by is_message store client delivery is within =
+    let large = not_large store delivery within in
+    last_of (has_large_octets store.message_max delivery) is_message (delivery_refusal store delivery) _ _ _ (keeping store client delivery) large is
+    (not_refused (has_large_octets store.message_max delivery) (has_many_things store.kept delivery) large (not_many store delivery within))
+
+data_kept : (readings : Readings) (store : StoreState) (client : Client) (envelope : Envelope) (moment : Moment) (octets : List ℕ)
+    → TellsTrees readings.has_tree → IsStored octets → IsWithinLimits store (delivery_of store client envelope moment octets)
+    → end_data readings store client envelope moment octets ≡ keeping store client (delivery_of store client envelope moment octets)
+data_kept readings store client envelope moment octets tells tree within =
+    kept_by (readings.has_tree octets) store client (delivery_of store client envelope moment octets) (tells_true readings.has_tree octets tells tree) within
+
+pub data_accepted : (readings : Readings) (store : StoreState) (client : Client) (envelope : Envelope) (moment : Moment) (octets : List ℕ)
+    → TellsTrees readings.has_tree → IsStored octets → IsWithinLimits store (delivery_of store client envelope moment octets)
+    → (end_data readings store client envelope moment octets).reply ≡ acceptance
+data_accepted readings store client envelope moment octets tells tree within =
+    ap (λ (taken : Step). taken.reply) (data_kept readings store client envelope moment octets tells tree within)
+
+-- ---- the stream
+
+-- DATA with a recipient
+some_recipients : (count : ℕ) → 0 < count → (count == 0) ≡ false
+some_recipients count some = grind (arith, nat_tests)
+
+pub data_begin : (readings : Readings) (client : Client) (envelope : Envelope) (store : StoreState) (argument : List ℕ) → 0 < recipient_count envelope
+    → step readings (mail client envelope) store verb.Data argument ≡ says (codes "354 go ahead") (collecting client envelope)
+unfolding step
+data_begin readings client envelope store argument some = rw (some_recipients (recipient_count envelope) some) refl
+
+-- the data are read up to their end
+first_turn : (readings : Readings) (store : StoreState) (client : Client) (envelope : Envelope) (moments : List Moment) (octets : List ℕ) (cut : Cut) → data_cut octets ≡ Some cut
+    → next_turn readings (record { state = collecting client envelope; store = store; moments = moments }) octets
+    ≡ Some (data_turn readings (record { state = collecting client envelope; store = store; moments = moments }) client envelope cut)
+unfolding next_turn
+first_turn readings store client envelope moments octets cut found =
+    ap (option_map (data_turn readings (record { state = collecting client envelope; store = store; moments = moments }) client envelope)) found
+
+-- what a step and the turns behind it bring
+abbrev brings : Readings → StoreState → List Moment → List ℕ → Step → Turn Machine (Act (List ℕ))
+brings readings store moments rest taken = behind (acts_in taken) (turns_of readings (after_step store (later moments) taken) rest)
+
+pub sent_kept : (readings : Readings) (store : StoreState) (client : Client) (envelope : Envelope) (moments : List Moment) (octets rest : List ℕ) → TellsTrees readings.has_tree
+    → IsEnded octets → IsStored octets → let delivery = delivery_of store client envelope (next_moment moments) octets in IsWithinLimits store delivery
+    → turns_of readings (record { state = collecting client envelope; store = store; moments = moments }) (sent octets rest)
+    ≡ behind (changes (delivered store.kept delivery) ∷ gives stored_line ∷ [])
+    (turns_of readings (record { state = greeted client; store = with_records store (delivered store.kept delivery); moments = later moments }) rest)
+sent_kept readings store client envelope moments octets rest tells ended tree within =
+    let machine : Machine = record { state = collecting client envelope; store = store; moments = moments } in
+    let moment = next_moment moments in
+    let delivery = delivery_of store client envelope moment octets in
+    let records = delivered store.kept delivery in
+    let next : List Record → Turn Machine (Act (List ℕ)) = λ all.
+    behind (changes records ∷ gives stored_line ∷ []) (turns_of readings (record { state = greeted client; store = with_records store all; moments = later moments }) rest) in
+    let whole : Cut = record { line = stuffed octets; rest = rest } in
+    all_turns-go (next_turn readings) (next_turn-framed readings) machine (sent octets rest) (data_turn readings machine client envelope whole)
+    (first_turn readings store client envelope moments (sent octets rest) whole (sent_found octets ended rest))
+    ∙ ap (λ said. brings readings store moments rest (end_data readings store client envelope moment said)) (unstuffed_back octets)
+    ∙ ap (brings readings store moments rest) (data_kept readings store client envelope moment octets tells tree within)
+    ∙ ap next (append-nil records)
