@@ -2,14 +2,12 @@
 #![tactic(auto)]
 
 pub mod addresses;
-#[cfg(test)]
-mod change_tests;
 pub mod changing;
 mod checks;
 pub mod contents;
 pub mod delivery;
 mod frames;
-mod grammar;
+pub mod grammar;
 pub mod kept;
 pub mod laws;
 pub mod limits;
@@ -19,6 +17,4 @@ mod reading;
 pub mod records;
 mod stored;
 pub mod storing;
-#[cfg(test)]
-mod tests;
 pub mod writing;

@@ -9,6 +9,9 @@ use mail_wire::outside::{Fault, Wire};
 use mail_wire::values::Memory;
 use std::alloc::Global;
 
+/// The version of the program.
+pub const VERSION: &str = "0.9.0";
+
 // The commands, and what each does.
 const COMMANDS: [(&str, &str); 6] = [
     (
@@ -28,8 +31,10 @@ const COMMANDS: [(&str, &str); 6] = [
 // The command of which the others are subcommands.
 fn all_commands<'a>(alloc: Global) -> Result<Command<'a>, Memory> {
     let mut all = Command::new(alloc, "dervlask")
+        .version(VERSION)
         .about("A mail server over standard input and output")
         .override_usage("dervlask COMMAND [WORDS]")
+        .disable_version_flag(true)
         .disable_help_flag(true)
         .disable_help_subcommand(true);
     for (name, does) in COMMANDS {
@@ -38,13 +43,16 @@ fn all_commands<'a>(alloc: Global) -> Result<Command<'a>, Memory> {
     Ok(all)
 }
 
-// The text of `help`.
+// The text of `help`: a line with the version, and then the commands.
 fn help_text(alloc: Global) -> Result<String, Memory> {
     let mut all = all_commands(alloc)?;
-    Ok(all.render_help()?)
+    let help = all.render_help()?;
+    let mut text = all.render_version()?;
+    text.push_str(help.as_str())?;
+    Ok(text)
 }
 
-/// Gives the text of `help`.
+/// Gives the text of `help`, which begins with the version.
 pub fn run_help<W: Wire>(alloc: Global, wire: &mut W) -> Result<u8, Fault>
     ensures gives { (text : List ℕ) × TellsLine (W.tells wire.old) (W.tells wire.new) result 0 text }
     ensures cause { HasWireCause (W.tells wire.old) (W.tells wire.new) result Fault.Wire }

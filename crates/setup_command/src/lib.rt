@@ -5,8 +5,6 @@ pub mod adding;
 pub mod helping;
 mod lines;
 pub mod refusals;
-#[cfg(test)]
-mod tests;
 mod values;
 pub mod word_forms;
 pub mod word_laws;

@@ -1,12 +1,12 @@
 //! The rows of words and of what is added, over wires and keepers in memory.
-use crate::adding::{run_account, run_domain};
-use crate::helping::run_help;
-use crate::word_forms::{read_account, read_domain};
 use mail_wire::in_memory::{Failure, MemWire};
 use mail_wire::mem_keeper::MemKeeper;
 use mail_wire::outside::{Entry, Fault};
 use mail_wire::values::{Memory, Octets};
 use mail_wire::words::Words;
+use setup_command::adding::{run_account, run_domain};
+use setup_command::helping::run_help;
+use setup_command::word_forms::{read_account, read_domain};
 use std::alloc::Global;
 use std::test::Fail;
 
@@ -195,7 +195,8 @@ fn the_text_of_help(rt: HostRuntime) -> Result<(), Fail> {
     let alloc = rt.alloc();
     let mut wire = wire_of(alloc, &[])?;
     assert!(rt; run_help(alloc, &mut wire) == Ok(0));
-    let text = "A mail server over standard input and output\n\
+    let text = "dervlask 0.9.0\n\
+        A mail server over standard input and output\n\
         \n\
         Usage: dervlask COMMAND [WORDS]\n\
         \n\

@@ -1,5 +1,5 @@
 use Rattle.std.specs.List.{IsDistinct}
-use Rattle.mail_store.proofs.change_tests.expunge.Goals as goal
+use Rattle.mail_store_tests.proofs.changes.expunge.Goals as goal
 
 pub expunge-requires-clause-distinct : goal.expunge-requires-clause-distinct
 unfolding IsDistinct

@@ -6,19 +6,19 @@ ghost use Rattle.mail_store.specs.Grammar.{IsDate};
 ghost use Rattle.mail_store.specs.Stored.{IsStored};
 ghost use Rattle.mail_store.specs.declared.limits.TheConstants.{RECIPIENTS_MAX};
 
-use crate::addresses::read_text;
-use crate::changing::StoreFault;
-use crate::delivery::{Addresses, Delivery};
-use crate::grammar::is_date;
-use crate::kept::Numbers;
-use crate::limits::TEXT_MAX;
-use crate::stored::judge;
-use crate::storing::Store;
 use ace_domains::normal;
 use address_lists::{Address, write_address};
+use mail_store::addresses::read_text;
+use mail_store::changing::StoreFault;
+use mail_store::delivery::{Addresses, Delivery};
+use mail_store::grammar::is_date;
+use mail_store::kept::Numbers;
+use mail_store::limits::TEXT_MAX;
+use mail_store::storing::Store;
 use mail_wire::in_memory::Failure;
 use mail_wire::mem_keeper::MemKeeper;
 use mail_wire::values::Octets;
+use mime_tree::reading::read_tree;
 use std::alloc::Global;
 use std::test::Fail;
 
@@ -88,8 +88,8 @@ fn message(alloc: Global) -> Result<Octets, Fail>
     ensures { IfOk result IsStored }
 {
     let octets = Octets::from_slice(alloc, &SUBJECT)?;
-    match judge(alloc, octets.as_slice()) {
-        Ok(()) => Ok(octets),
+    match read_tree(alloc, octets.as_slice()) {
+        Ok(_) => Ok(octets),
         Err(_) => Err(Fail::from("no tree")),
     }
 }

@@ -1,8 +1,8 @@
 //! Journals opened, and what is read from them.
-use crate::opening::OpenFault;
-use crate::records::{Record, Texts};
-use crate::storing::Store;
-use crate::writing::push_record;
+use mail_store::opening::OpenFault;
+use mail_store::records::{Record, Texts};
+use mail_store::storing::Store;
+use mail_store::writing::push_record;
 use mail_wire::in_memory::Failure;
 use mail_wire::mem_keeper::MemKeeper;
 use mail_wire::values::{Memory, Octets};
