@@ -8,7 +8,7 @@ use Rattle.mail_store.specs.StoreState.{StoreState}
 use Rattle.mail_command.specs.declared.roles.Role.{Role}
 use Rattle.mail_command.specs.declared.roles.Session.{Session}
 use Rattle.mail_command.specs.declared.serving.Served.TheVariants.{Ended, Limit}
-use Rattle.mail_command.specs.declared.taking.TheConstants.{PIECE}
+use Rattle.mail_wire.specs.declared.traffic.TheConstants.{PIECE}
 use Rattle.mail_command.specs.Protocols.{WithProtocol}
 use Rattle.mail_command.specs.Roles.{ForRole, OverCall, Begins, Feeds, HasEnded}
 use Rattle.mail_command.specs.Served.{served_of}

@@ -21,7 +21,7 @@ use Rattle.mail_store.proofs.FollowLemmas.{Follows-nil, Follows-more}
 use Rattle.mail_command.specs.declared.roles.Session.{Session}
 use Rattle.mail_command.specs.declared.serving.Served.{Served}
 use Rattle.mail_command.specs.declared.serving.Served.TheVariants.{Ended, Limit}
-use Rattle.mail_command.specs.declared.taking.TheConstants.{PIECE}
+use Rattle.mail_wire.specs.declared.traffic.TheConstants.{PIECE}
 use Rattle.mail_command.specs.Protocols.{Protocol, turns_for, acts_for, replies_to, changes_by, EndsBy}
 use Rattle.mail_command.specs.Roles.{Standing, Begins, Feeds, FeedsBy, HasEnded}
 use Rattle.mail_command.specs.Served.{answer_of, served_of}

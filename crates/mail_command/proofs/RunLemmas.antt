@@ -12,7 +12,7 @@ use Rattle.mail_wire.proofs.Moving.{Moves-trans, taken_of-append, given_of-appen
 use Rattle.mail_wire.proofs.LawfulLemmas.{IsLawful-give}
 use Rattle.mail_command.specs.Taking.{AreTaken, Takes, TakesUpTo}
 use Rattle.mail_command.specs.Outcome.{message_max, DowngradeOutcome}
-use Rattle.mail_command.specs.declared.taking.TheConstants.{PIECE}
+use Rattle.mail_wire.specs.declared.traffic.TheConstants.{PIECE}
 use Rattle.mail_command.specs.Serving.{IsPrefixOf}
 use Rattle.setup_command.specs.Running.{IsBrokenOff}
 use Rattle.mail_command.specs.Running.{Answers, BreaksOff, IsExact, RunsDowngrade}

@@ -7,7 +7,7 @@ use Rattle.mail_wire.specs.Transcript.{given_of}
 use Rattle.mail_wire.specs.Moves.{TakesPiece, TakesNothing}
 use Rattle.mail_wire.proofs.Moving.{Moves-nil, Moves-trans, Moves-take, Moves-none, taken_of-append}
 use Rattle.mail_command.specs.Taking.{AreTaken, Takes, TakesUpTo}
-use Rattle.mail_command.specs.declared.taking.TheConstants.{PIECE}
+use Rattle.mail_wire.specs.declared.traffic.TheConstants.{PIECE}
 
 AreTaken-append : (xs ys : List Entry) → AreTaken xs → AreTaken ys → AreTaken (xs ++ ys)
 AreTaken-append [] ys first second = second

@@ -11,7 +11,7 @@ use Rattle.setup_command.specs.Running.{IsBrokenOff, OpensStore, HoldsStore, IsU
 use Rattle.mail_command.specs.Outcome.{DowngradeOutcome, message_max}
 use Rattle.mail_command.specs.declared.serving.Limits.{Limits}
 use Rattle.mail_command.specs.declared.serving.Served.{Served}
-use Rattle.mail_command.specs.declared.taking.TheConstants.{PIECE}
+use Rattle.mail_wire.specs.declared.traffic.TheConstants.{PIECE}
 use Rattle.mail_command.specs.Served.{status_of_served}
 use Rattle.mail_command.specs.Protocols.{Protocol, changes_by}
 use Rattle.mail_command.specs.Serving.{IsPrefixOf, ServesLawfully, ServesAll, ServesUpTo}

@@ -18,7 +18,7 @@ use Rattle.mail_command.specs.declared.serving.Limits.{Limits}
 use Rattle.mail_command.specs.declared.serving.Desk.{Desk}
 use Rattle.mail_command.specs.declared.serving.Served.{Served}
 use Rattle.mail_command.specs.declared.serving.Served.TheVariants.{Ended, Limit}
-use Rattle.mail_command.specs.declared.taking.TheConstants.{PIECE}
+use Rattle.mail_wire.specs.declared.traffic.TheConstants.{PIECE}
 use Rattle.mail_command.specs.Protocols.{Protocol, acts_for, replies_to, changes_by, store_after, EndsBy}
 use Rattle.mail_command.specs.Served.{answer_of}
 

@@ -6,7 +6,7 @@ use Rattle.mail_wire.specs.declared.outside.Entry.TheVariants.{Taken, Given}
 use Rattle.mail_wire.specs.Telling.{Telling}
 use Rattle.mail_wire.specs.Transcript.{taken_of}
 use Rattle.mail_wire.specs.Moves.{Moves}
-use Rattle.mail_command.specs.declared.taking.TheConstants.{PIECE}
+use Rattle.mail_wire.specs.declared.traffic.TheConstants.{PIECE}
 
 -- nothing was given
 abbrev pub AreTaken : List Entry → Type 0

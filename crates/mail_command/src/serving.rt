@@ -9,14 +9,13 @@ ghost use Rattle.mail_command.specs.Serving.{AreLimits, IsOpen, Serves};
 ghost use Rattle.mail_command.specs.Served.{HasServedCause, served_of};
 
 use crate::roles::{Role, Session};
-use crate::taking::PIECE;
 use mail_store::limits::MESSAGE_MAX;
 use mail_store::opening::OpenFault;
 use mail_store::storing::Store;
 use mail_wire::clock::Clock;
 use mail_wire::keeping::Keeper;
 use mail_wire::outside::{Fault, Wire};
-use mail_wire::traffic::take_piece;
+use mail_wire::traffic::{PIECE, take_piece};
 use std::alloc::Global;
 use surrogate_cache::cache::Cache;
 

@@ -4,12 +4,9 @@ ghost use Rattle.mail_wire.specs.Moves.{HasWireCause};
 ghost use Rattle.mail_command.specs.Taking.{TakesUpTo, TakesSome};
 
 use mail_wire::outside::{Fault, Wire};
-use mail_wire::traffic::take_piece;
+use mail_wire::traffic::{PIECE, take_piece};
 use mail_wire::values::Octets;
 use std::alloc::Global;
-
-/// The greatest piece that is taken at a time.
-pub const PIECE: usize = 4096;
 
 /// Takes what is left, or the first octets of it, once they are more than `max`: up to a piece more.
 pub fn take_up_to<W: Wire>(alloc: Global, wire: &mut W, max: usize) -> Result<Octets, Fault>

@@ -9,7 +9,8 @@ use Rattle.surrogate_cache.specs.Served.{Mode, Meanings}
 use Rattle.pop_session.specs.declared.command.Keyword.{Keyword}
 use Rattle.pop_session.specs.declared.command.Keyword.TheVariants as keyword
 use Rattle.pop_session.specs.declared.states.MaildropMessage.{MaildropMessage}
-use Rattle.pop_session.specs.Commands.{Command, number_of}
+use Rattle.pop_session.specs.Commands.{Command}
+use Rattle.mail_wire.specs.Numbers.{number_of}
 use Rattle.pop_session.specs.History.{after_command, after_commands, is_among, with_marks, marks_found, marks_by_number, marks_by, marks_after, IsMarked, IsQuit}
 use Rattle.pop_session.specs.Machine.{State, authorization, transaction, ended, marked, message_at, unmarked, inbox_messages, step, authorization_step, transaction_step, pass_step, dele_message, dele_step, quit_step, done, no_such_message}
 use Rattle.pop_session.specs.Session.{Machine}

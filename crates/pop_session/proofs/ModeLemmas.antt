@@ -15,7 +15,8 @@ use Rattle.surrogate_cache.specs.Served.{Mode, legacy, enabled, Meanings}
 use Rattle.pop_session.specs.declared.command.Keyword.{Keyword}
 use Rattle.pop_session.specs.declared.command.Keyword.TheVariants as keyword
 use Rattle.pop_session.specs.declared.states.MaildropMessage.{MaildropMessage}
-use Rattle.pop_session.specs.Commands.{Command, command_of, number_of}
+use Rattle.pop_session.specs.Commands.{Command, command_of}
+use Rattle.mail_wire.specs.Numbers.{number_of}
 use Rattle.pop_session.specs.History.{after_command, after_commands, commands_by, commands_up_to, commands_in, IsOfMode, is_utf8, enables, some_enables, mode_behind, IsQuit}
 use Rattle.pop_session.specs.Machine.{Part, line, shown, State, authorization, transaction, ended, done, out_of_order, syntax_error, message_at, step, authorization_step, transaction_step, dele_message, dele_step, pass_step}
 use Rattle.pop_session.specs.Session.{Machine, next_turn, turn_by, turn_in, turns_of, start_of}

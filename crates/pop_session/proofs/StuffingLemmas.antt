@@ -7,7 +7,8 @@ use Rattle.mail_wire.proofs.FirstLine.{lines_of-crlf, lines_of-other}
 use Rattle.mail_wire.proofs.LineLemmas.{is_crlf_parts}
 use Rattle.pop_session.specs.declared.stuffing.Place.{Place}
 use Rattle.pop_session.specs.declared.stuffing.Place.TheVariants.{LineStart, AfterCr, Within}
-use Rattle.pop_session.specs.Replies.{stuffed, stuffed_line, are_complete}
+use Rattle.pop_session.specs.Replies.{are_complete}
+use Rattle.mail_wire.specs.Dots.{stuffed, stuffed_line}
 use Rattle.pop_session.specs.Stuffing.{is_start, is_after_cr, next_place, place_after, stuffed_octet, stuffed_from}
 
 -- the first line as it is, and the others stuffed

@@ -1,9 +1,10 @@
 -- The words of a command line (RFC 1939, 3).
 use Rattle.std.specs.Prelude.{ℕ, ◌+◌, ◌-◌, ◌*◌, ◌==◌, ◌&&◌, List, [], ◌∷◌, Bool, Option, None, Some, length, take, drop, map, fold, codes, if◌then◌else◌, nat_le, option_and_then, position, min, ◌^◌}
-use Rattle.std.specs.List.{before_first, list_all}
+use Rattle.std.specs.List.{before_first}
 use Rattle.std.specs.Option.{option_map}
 use Rattle.std.specs.Str.{bytes_eq}
 use Rattle.std.specs.Char.{to_ascii_lowercase}
+use Rattle.mail_wire.specs.Numbers.{number_of}
 use Rattle.pop_session.specs.declared.command.Keyword.{Keyword}
 use Rattle.pop_session.specs.declared.command.TopNumbers.{TopNumbers}
 use Rattle.pop_session.specs.declared.command.Keyword.TheVariants as keyword
@@ -47,18 +48,6 @@ argument_of text = option_map (λ at. drop (at + 1) text) (position is_space tex
 -- the command of a line
 abbrev pub command_of : List ℕ → Command
 command_of line = record { keyword = keyword_of (before_first is_space (text_of line)); argument = argument_of (text_of line) }
-
-abbrev pub is_digit : ℕ → Bool
-is_digit x = nat_le 48 x && nat_le x 57
-
--- the number that digits write
-abbrev pub value_of : List ℕ → ℕ
-value_of digits = fold (λ n digit. n * 10 + (digit - 48)) 0 digits
-
--- one or more digits
-unfoldable pub number_of : List ℕ → Option ℕ
-number_of [] = None
-number_of (x ∷ digits) = if list_all is_digit (x ∷ digits) then Some (value_of (x ∷ digits)) else None
 
 abbrev pub with_lines : ℕ → Option ℕ → Option TopNumbers
 with_lines number None = None

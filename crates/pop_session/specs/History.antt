@@ -6,7 +6,8 @@ use Rattle.surrogate_cache.specs.Served.{Mode, enabled, Meanings}
 use Rattle.pop_session.specs.declared.command.Keyword.{Keyword}
 use Rattle.pop_session.specs.declared.command.Keyword.TheVariants as keyword
 use Rattle.pop_session.specs.declared.states.MaildropMessage.{MaildropMessage}
-use Rattle.pop_session.specs.Commands.{Command, command_of, number_of}
+use Rattle.pop_session.specs.Commands.{Command, command_of}
+use Rattle.mail_wire.specs.Numbers.{number_of}
 use Rattle.pop_session.specs.Machine.{State, authorization, transaction, ended, message_at, step}
 use Rattle.pop_session.specs.Session.{Machine, after_step}
 

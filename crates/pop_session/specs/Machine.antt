@@ -14,7 +14,8 @@ use Rattle.mail_store.specs.declared.records.Record.{Record}
 use Rattle.surrogate_cache.specs.Served.{Mode, enabled, served_by, Meanings}
 use Rattle.pop_session.specs.declared.command.Keyword.{Keyword}
 use Rattle.pop_session.specs.declared.command.Keyword.TheVariants as keyword
-use Rattle.pop_session.specs.Commands.{Command, number_of, top_numbers_of}
+use Rattle.pop_session.specs.Commands.{Command, top_numbers_of}
+use Rattle.mail_wire.specs.Numbers.{number_of}
 use Rattle.pop_session.specs.declared.command.TopNumbers.{TopNumbers}
 use Rattle.pop_session.specs.declared.states.MaildropMessage.{MaildropMessage}
 

@@ -1,26 +1,13 @@
 -- The octets of a reply (RFC 1939, 3), and what may be sent in it (RFC 6856, 2; RFC 6857).
 use Rattle.std.specs.Prelude.{◌≡◌, ℕ, ◌++◌, ◌==◌, List, [], ◌∷◌, Bool, true, false, take, drop, if◌then◌else◌}
-use Rattle.std.specs.List.{flat_map, list_all, AllByRecursion}
-use Rattle.mail_wire.specs.Lines.{crlf, lines_of, is_crlf}
+use Rattle.std.specs.List.{list_all, AllByRecursion}
+use Rattle.mail_wire.specs.Dots.{stuffed}
+use Rattle.mail_wire.specs.Lines.{crlf, is_crlf}
 use Rattle.mail_wire.specs.Octets.{is_ascii}
 use Rattle.mail_store.specs.Acts.{Act, IsFitAct}
 use Rattle.surrogate_rope.specs.Layout.{HasSurrogate, HasAsciiBlocks}
 use Rattle.surrogate_cache.specs.Served.{legacy, enabled, served_by, Meanings}
 use Rattle.pop_session.specs.Machine.{Part, line, shown}
-
--- a dot before a line that begins with one
-abbrev pub stuffed_line : List ℕ → List ℕ
-stuffed_line [] = []
-stuffed_line (x ∷ rest) = if x == 46 then 46 ∷ 46 ∷ rest else x ∷ rest
-
--- a line without the dot that it begins with, where it begins with one
-abbrev pub unstuffed_line : List ℕ → List ℕ
-unstuffed_line [] = []
-unstuffed_line (x ∷ rest) = if x == 46 then rest else x ∷ rest
-
--- each line stuffed
-unfoldable pub stuffed : List ℕ → List ℕ
-stuffed octets = flat_map stuffed_line (lines_of octets)
 
 -- there are none, or they end in CRLF
 unfoldable pub are_complete : List ℕ → Bool

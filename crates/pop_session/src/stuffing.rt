@@ -7,7 +7,7 @@ ghost use Rattle.pop_session.specs.Replies.{multi_line};
 ghost use Rattle.pop_session.specs.Stuffing.{is_start, needs_dot, next_place as place_behind, place_after, stuffed_from, PassesOn};
 
 use mail_wire::outside::{Fault, Wire};
-use mail_wire::traffic::give_all;
+use mail_wire::traffic::{PIECE, give_all};
 use mail_wire::values::{Memory, Octets};
 use std::alloc::Global;
 use surrogate_rope::shown::Shown;
@@ -52,9 +52,6 @@ fn push_stuffed(pending: &mut Octets, place: Place, piece: &[u8]) -> Result<Plac
     }
     Ok(at)
 }
-
-// How many octets are read at a time, and from how many on they are given.
-const PIECE: usize = 4096;
 
 // Gives what is pending, once it is a piece.
 fn give_piece<W: Wire>(pending: &mut Octets, wire: &mut W) -> Result<(), Fault>

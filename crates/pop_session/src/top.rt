@@ -5,6 +5,7 @@ ghost use Rattle.pop_session.specs.Machine.{top_length as top_length_of};
 ghost use Rattle.pop_session.specs.Top.{begin, is_ended, behind, all_behind, count_from};
 
 use crate::stuffing::{Place, next_place};
+use mail_wire::traffic::PIECE;
 use surrogate_rope::shown::Shown;
 
 /// What is known of a message behind the octets that were read.
@@ -72,9 +73,6 @@ impl Scan {
         count
     }
 }
-
-// How many octets are read at a time.
-const PIECE: usize = 4096;
 
 /// How many octets the header, its empty line and so many lines behind it have, of what is shown of a message.
 pub fn top_length(shown: &Shown, msg: &[u8], lines: u64) -> usize

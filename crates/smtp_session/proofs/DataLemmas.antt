@@ -13,7 +13,8 @@ use Rattle.mail_wire.specs.Message.{IsEnded}
 use Rattle.mail_wire.proofs.FirstLine.{is_crlf_true, lines_of-crlf, lines_of-other}
 use Rattle.mail_wire.proofs.FirstLineLemmas.{put}
 use Rattle.mail_wire.proofs.LineLemmas.{is_crlf_parts, first_line, concat_lines_of}
-use Rattle.smtp_session.specs.Data.{data_end, end_cut, behind_command, data_cut, unstuffed, unstuffed_line}
+use Rattle.smtp_session.specs.Data.{data_end, end_cut, behind_command, data_cut}
+use Rattle.mail_wire.specs.Dots.{unstuffed, unstuffed_line}
 
 -- ---- the end, octet by octet
 

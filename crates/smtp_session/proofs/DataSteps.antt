@@ -24,7 +24,8 @@ use Rattle.smtp_session.specs.declared.states.Envelope.{Envelope}
 use Rattle.smtp_session.specs.declared.states.Greeted.{Greeted}
 use Rattle.smtp_session.specs.declared.states.Smtp.{Smtp}
 use Rattle.smtp_session.specs.declared.states.SmtpState.TheVariants as smtp
-use Rattle.smtp_session.specs.Data.{Moment, behind_command, data_cut, end_cut, unstuffed}
+use Rattle.smtp_session.specs.Data.{Moment, behind_command, data_cut, end_cut}
+use Rattle.mail_wire.specs.Dots.{unstuffed}
 use Rattle.smtp_session.specs.Machine.{Readings, State, Step, acts_in, collecting, delivery_of, end_data, greeted, says, too_large}
 use Rattle.smtp_session.specs.Session.{AreDropped, HasRestIn, IsFit, IsTold, WithReadings, after_step, data_turn, line_octets, next_turn, turns_of}
 use Rattle.smtp_session.specs.Steps.{IsSaid, Steps}

@@ -4,7 +4,8 @@ use Rattle.std.proofs.lemmas.List.{take-append-drop}
 use Rattle.std.specs.Option.{option_map}
 use Rattle.mail_wire.specs.Lines.{Cut, crlf}
 use Rattle.mail_wire.proofs.FirstLineLemmas.{put}
-use Rattle.smtp_session.specs.Data.{data_cut, end_cut, unstuffed}
+use Rattle.smtp_session.specs.Data.{data_cut, end_cut}
+use Rattle.mail_wire.specs.Dots.{unstuffed}
 use Rattle.smtp_session.specs.Session.{AreDropped}
 use Rattle.smtp_session.proofs.DataLemmas.{ends_here, end_cut-apart, none_parts}
 

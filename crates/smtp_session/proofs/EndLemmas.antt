@@ -25,7 +25,8 @@ use Rattle.mail_store.proofs.DoingLemmas.{Does-made, Does-more, Does-reply, chan
 use Rattle.mail_store.proofs.FollowLemmas.{Breaks-one, Follows-nil}
 use Rattle.smtp_session.specs.declared.states.Client.{Client}
 use Rattle.smtp_session.specs.declared.states.Envelope.{Envelope}
-use Rattle.smtp_session.specs.Data.{IsMoment, Moment, TellsTrees, return_path, unstuffed}
+use Rattle.smtp_session.specs.Data.{IsMoment, Moment, TellsTrees, return_path}
+use Rattle.mail_wire.specs.Dots.{unstuffed}
 use Rattle.smtp_session.specs.Machine.{Readings, Step, acts_in, collecting, delivery_of, end_by, end_data, greeted, recipient_count, too_large, trace}
 use Rattle.smtp_session.specs.Session.{IsName, KnowsState, line_octets, reply_octets}
 use Rattle.smtp_session.specs.Steps.{IsSaid, Makes}

@@ -7,7 +7,8 @@ use Rattle.mail_wire.specs.Lines.{begun_with, crlf, is_crlf, lines_of, put_befor
 use Rattle.mail_wire.specs.Message.{IsEnded}
 use Rattle.mail_wire.proofs.FirstLine.{lines_of-crlf, lines_of-other}
 use Rattle.mail_wire.proofs.LineLemmas.{concat_lines_of, is_crlf_parts}
-use Rattle.smtp_session.specs.Data.{behind_command, data_cut, end_cut, unstuffed, unstuffed_line}
+use Rattle.smtp_session.specs.Data.{behind_command, data_cut, end_cut}
+use Rattle.mail_wire.specs.Dots.{unstuffed, unstuffed_line}
 use Rattle.smtp_session.specs.Sending.{sent, stuffed, stuffed_line}
 use Rattle.smtp_session.proofs.DataLemmas.{end_cut-here, end_cut-other, ended_behind-crlf, ended_behind-other, ends_here}
 

@@ -21,7 +21,8 @@ use Rattle.smtp_session.specs.declared.command.Verb.{Verb}
 use Rattle.smtp_session.specs.declared.states.Client.{Client}
 use Rattle.smtp_session.specs.declared.states.Envelope.{Envelope}
 use Rattle.smtp_session.specs.Commands.{command_of}
-use Rattle.smtp_session.specs.Data.{Moment, data_cut, unstuffed}
+use Rattle.smtp_session.specs.Data.{Moment, data_cut}
+use Rattle.mail_wire.specs.Dots.{unstuffed}
 use Rattle.smtp_session.specs.Intake.{AreRecipients, IsKeptOnce, KeepsAccepted, KnowsRecipients, Keeps, NoMore, Says, acceptance, stored_line}
 use Rattle.smtp_session.specs.Machine.{Readings, State, fresh, greeted, mail, collecting, ended, Step, acts_in, delivery_of, end_by, end_data, step}
 use Rattle.smtp_session.specs.Session.{IsName, Machine, after_step, data_turn, later, line_too_long, line_turn, next_moment, next_turn, start_of, turn_in, turns_of}

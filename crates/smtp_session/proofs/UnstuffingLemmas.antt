@@ -6,7 +6,7 @@ use Rattle.std.proofs.lemmas.List.Concat.{flat_map-cons}
 use Rattle.mail_wire.specs.declared.values.Span.{Span}
 use Rattle.mail_wire.specs.Lines.{lines_of, spans_from}
 use Rattle.mail_wire.proofs.LineLemmas.{HasFirstLine, first_line, first_span}
-use Rattle.smtp_session.specs.Data.{unstuffed, unstuffed_line}
+use Rattle.mail_wire.specs.Dots.{unstuffed, unstuffed_line}
 
 -- The lines up to some place were put last without their dots, and these are left.
 pub record Unstuffs (octets old made : List ℕ) (left : List Span) : Type 0 where

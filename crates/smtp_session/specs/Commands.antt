@@ -4,6 +4,7 @@ use Rattle.std.specs.Option.{option_map, option_and_then}
 use Rattle.std.specs.List.{before_first, list_all, list_any, slice_split, position_or_len, suffix_len}
 use Rattle.std.specs.Str.{bytes_eq}
 use Rattle.std.specs.Char.{to_ascii_lowercase, is_ascii_alphanumeric}
+use Rattle.mail_wire.specs.Numbers.{number_of}
 use Rattle.mail_wire.specs.Octets.{is_white, is_black, same_name}
 use Rattle.smtp_session.specs.declared.command.Verb.{Verb}
 use Rattle.smtp_session.specs.declared.command.Verb.TheVariants as verb
@@ -143,20 +144,15 @@ keyword_of word = map to_ascii_lowercase (before_first is_sign word)
 abbrev pub value_of : List ℕ → Option (List ℕ)
 value_of word = option_map (λ at. drop (at + 1) word) (position is_sign word)
 
-abbrev pub is_digit : ℕ → Bool
-is_digit x = nat_le 48 x && nat_le x 57
-
-abbrev pub number_of : List ℕ → ℕ
-number_of digits = fold (λ n digit. n * 10 + (digit - 48)) 0 digits
-
--- one or more digits
-abbrev pub is_number : List ℕ → Bool
-is_number value = nat_lt 0 (length value) && list_all is_digit value
+-- SIZE with this number, or with none
+abbrev pub size_said : Option ℕ → Parameter
+size_said None = parameter.Malformed
+size_said (Some number) = parameter.Size number
 
 -- SIZE, with its number, or the greatest of its type
 abbrev pub size_parameter : Option (List ℕ) → Parameter
 size_parameter None = parameter.Malformed
-size_parameter (Some value) = if is_number value then parameter.Size (min (number_of value) (2 ^ 64 - 1)) else parameter.Malformed
+size_parameter (Some value) = size_said (option_map (λ number. min number (2 ^ 64 - 1)) (number_of value))
 
 abbrev pub body_parameter : Option (List ℕ) → Parameter
 body_parameter None = parameter.Malformed

@@ -1,11 +1,10 @@
 -- The data of a message (RFC 5321, 4.1.1.4 and 4.5.2), and what is kept of it (RFC 5321, 4.4; RFC 6531, 4.3).
 use Rattle.std.specs.Prelude.{ℕ, ◌<◌, ◌++◌, ◌==◌, List, [], ◌∷◌, Bool, take, drop, codes, Option, Some, None, option_map, if◌then◌else◌, IsTrue, ◌↔◌}
-use Rattle.std.specs.List.{flat_map}
 use Rattle.std.specs.Str.{bytes_eq}
 use Rattle.address_lists.specs.declared.Address.{Address}
 use Rattle.mail_wire.specs.Dates.{IsDateText, IsInternalDate}
 use Rattle.mail_wire.specs.declared.clock.TheConstants.{CLOCK_END}
-use Rattle.mail_wire.specs.Lines.{Cut, begun_with, crlf, lines_of}
+use Rattle.mail_wire.specs.Lines.{Cut, begun_with, crlf}
 use Rattle.mail_store.specs.Changing.{path_text}
 use Rattle.mail_store.specs.Stored.{IsStored}
 
@@ -30,14 +29,6 @@ abbrev pub data_cut : List ℕ → Option Cut
 data_cut octets = option_map behind_command (end_cut (crlf ++ octets))
 
 -- ---- what the data say
-
--- a line without the dot that it begins with, where it does
-abbrev pub unstuffed_line : List ℕ → List ℕ
-unstuffed_line [] = []
-unstuffed_line (x ∷ rest) = if x == 46 then rest else x ∷ rest
-
-unfoldable pub unstuffed : List ℕ → List ℕ
-unstuffed octets = flat_map unstuffed_line (lines_of octets)
 
 -- a moment, by its texts
 pub record Moment : Type 0 where

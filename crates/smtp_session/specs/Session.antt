@@ -17,7 +17,8 @@ use Rattle.mail_store.specs.Following.{records_of}
 use Rattle.mail_store.specs.StoreState.{StoreState, with_records}
 use Rattle.mail_store.specs.declared.limits.TheConstants.{RECIPIENTS_MAX}
 use Rattle.smtp_session.specs.Commands.{command_of, is_client}
-use Rattle.smtp_session.specs.Data.{Moment, IsMoment, TellsTrees, data_cut, end_cut, unstuffed}
+use Rattle.smtp_session.specs.Data.{Moment, IsMoment, TellsTrees, data_cut, end_cut}
+use Rattle.mail_wire.specs.Dots.{unstuffed}
 use Rattle.smtp_session.specs.Machine.{Readings, State, fresh, greeted, mail, collecting, ended, Step, acts_in, step, end_data, recipient_count}
 use Rattle.smtp_session.specs.declared.states.Client.{Client}
 use Rattle.smtp_session.specs.declared.states.Envelope.{Envelope}

@@ -6,8 +6,9 @@ ghost use Rattle.std.specs.Str.{bytes_eq};
 ghost use Rattle.std.specs.Char.{to_ascii_lowercase};
 ghost use Rattle.smtp_session.specs.declared.command.Place.TheVariants.{Plain};
 ghost use Rattle.mail_wire.specs.Octets.{is_white, is_black};
-ghost use Rattle.smtp_session.specs.Commands.{command_of, verb_of, before_white, after_white, is_client as is_client_of, is_client_octet, place_after, stands_plain, path_len, behind_word, behind_space, begins_path, stands_apart, path_behind as path_behind_of, words_of, are_malformed, is_malformed, is_unknown, is_smtputf8, is_sign, is_digit, is_number, number_of, value_of, size_parameter, body_parameter, parameter_of, announced};
+ghost use Rattle.smtp_session.specs.Commands.{command_of, verb_of, before_white, after_white, is_client as is_client_of, is_client_octet, place_after, stands_plain, path_len, behind_word, behind_space, begins_path, stands_apart, path_behind as path_behind_of, words_of, are_malformed, is_malformed, is_unknown, is_smtputf8, is_sign, value_of, size_said as size_said_of, size_parameter, body_parameter, parameter_of, announced};
 
+use mail_wire::numbers::read_number;
 use mail_wire::text::{is_same_name, is_white};
 use mail_wire::values::Memory;
 use std::alloc::Global;
@@ -272,36 +273,21 @@ enum Parameter {
     Unknown,
 }
 
-fn are_digits(octets: &[u8]) -> bool
-    ensures { result ≡ list_all is_digit octets.now }
+fn size_said(number: Option<u64>) -> Parameter
+    ensures { result ≡ size_said_of number }
 {
-    octets.iter().all(|octet| b'0' <= *octet && *octet <= b'9')
-}
-
-fn is_number(value: &[u8]) -> bool
-    ensures { result ≡ is_number value.now }
-{
-    !value.is_empty() && are_digits(value)
-}
-
-fn read_number(digits: &[u8]) -> u64
-    ensures { result ≡ min (number_of digits.now) (2 ^ 64 - 1) }
-{
-    let mut number: u64 = 0;
-    for octet in digits {
-        number = number
-            .saturating_mul(10)
-            .saturating_add(u64::from(octet.saturating_sub(b'0')));
+    match number {
+        Some(number) => Parameter::Size(number),
+        None => Parameter::Malformed,
     }
-    number
 }
 
 fn read_size(value: Option<&[u8]>) -> Parameter
     ensures { result ≡ size_parameter (option_copied value.entry) }
 {
     match value {
-        Some(value) if is_number(value) => Parameter::Size(read_number(value)),
-        _ => Parameter::Malformed,
+        Some(value) => size_said(read_number(value)),
+        None => Parameter::Malformed,
     }
 }
 

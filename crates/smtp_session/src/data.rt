@@ -1,6 +1,7 @@
 //! The data of a message (RFC 5321, 4.1.1.4 and 4.5.2), and the fields that are put before them (RFC 5321, 4.4).
 ghost use Rattle.std.specs.Prelude.{◌≡◌, ◌+◌, ◌<◌, ◌≤◌, ◌++◌, None, Some, MatchOption, IfOk, IfSome, OnOk, length, take, drop};
-ghost use Rattle.smtp_session.specs.Data.{end_cut, unstuffed, unstuffed_line, received, return_path as return_path_of};
+ghost use Rattle.smtp_session.specs.Data.{end_cut, received, return_path as return_path_of};
+ghost use Rattle.mail_wire.specs.Dots.{unstuffed, unstuffed_line};
 ghost use Rattle.address_lists.specs.Paths.{ComesInPath};
 
 use address_lists::Address;

@@ -10,7 +10,8 @@ ghost use Rattle.mail_store.specs.Doing.{Does};
 ghost use Rattle.mail_store.specs.Stored.{IsStored};
 ghost use Rattle.address_lists.specs.Paths.{ComesInPath};
 ghost use Rattle.smtp_session.specs.Commands.{command_of};
-ghost use Rattle.smtp_session.specs.Data.{IsMoment, Moment, TellsTrees, end_cut, protocol as protocol_of, unstuffed};
+ghost use Rattle.smtp_session.specs.Data.{IsMoment, Moment, TellsTrees, end_cut, protocol as protocol_of};
+ghost use Rattle.mail_wire.specs.Dots.{unstuffed};
 ghost use Rattle.smtp_session.specs.Machine.{acts_in, ended, delivery_of, end_by, end_data as end_of, step};
 ghost use Rattle.smtp_session.specs.Session.{FeedsBy, HasRest, HasRestIn, IsName, IsReady, IsTold, KnowsState, ReadsLines, WithReadings, greeting, line_octets, machine_of, reply_octets, session_state, start_of, state_of, state_or_ended, turns_of};
 ghost use Rattle.smtp_session.specs.Steps.{HasRestAfter, IsReadyAfter, IsSaid, Makes, Steps, content_of, moment_of};
@@ -26,7 +27,7 @@ use mail_wire::dates::{date_text, internal_date};
 use mail_wire::framing::{FoundLine, find_line};
 use mail_wire::keeping::Keeper;
 use mail_wire::outside::{Fault, Wire};
-use mail_wire::traffic::give_all;
+use mail_wire::traffic::{PIECE, give_all};
 use mail_wire::values::{Memory, Octets};
 use mime_tree::entity::TreeFault;
 use mime_tree::reading::read_tree;
@@ -231,9 +232,6 @@ fn end_data<W: Wire, J: Keeper>(
     give_all(wire, reply)?;
     Ok(Smtp::greeted(client))
 }
-
-// How many octets of data are looked at a time.
-const PIECE: usize = 4096;
 
 // The most octets of data of which it isn't known yet that they are too large: each line has two octets at least, and loses
 // one dot at most.

@@ -1,7 +1,7 @@
 use Rattle.std.proofs.Common.{◌+◌, ◌-◌, ◌≤◌, length}
 use Rattle.mail_wire.specs.Moves.{GoesOn}
 use Rattle.mail_command.specs.Taking.{Takes}
-use Rattle.mail_command.specs.declared.taking.TheConstants.{PIECE}
+use Rattle.mail_wire.specs.declared.traffic.TheConstants.{PIECE}
 use Rattle.mail_command.proofs.taking.take_up_to.Given as goal
 
 abbrev pub invariant-loop-piece : goal.invariant-loop-piece

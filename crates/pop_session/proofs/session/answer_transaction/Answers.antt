@@ -3,7 +3,7 @@ use Rattle.std.specs.Prelude.{map}
 use Rattle.std.specs.Option.{option_copied}
 use Rattle.std.proofs.lemmas.Result.{err_from_is_err_and}
 use Rattle.mail_store.proofs.DoingLemmas.{Does-err, Does-ok}
-use Rattle.pop_session.specs.Commands.{number_of}
+use Rattle.mail_wire.specs.Numbers.{number_of}
 use Rattle.pop_session.specs.Machine.{answers, done, transaction, marked, transaction_reply, dele_step, quit_step, acts_in}
 use Rattle.pop_session.specs.Replies.{part_octets}
 use Rattle.pop_session.specs.declared.states.PopState.{PopState}

@@ -4,7 +4,7 @@ use Rattle.mail_wire.specs.declared.outside.Fault.TheVariants as fault
 use Rattle.mail_store.proofs.DoingLemmas.{Does-none}
 use Rattle.smtp_session.specs.declared.states.Greeted.{Greeted}
 use Rattle.smtp_session.specs.declared.states.Smtp.{Smtp}
-use Rattle.smtp_session.specs.Data.{unstuffed}
+use Rattle.mail_wire.specs.Dots.{unstuffed}
 use Rattle.smtp_session.specs.Machine.{acts_in, end_by, end_data}
 use Rattle.smtp_session.specs.Session.{line_octets}
 use Rattle.smtp_session.specs.Steps.{content_of, moment_of}
