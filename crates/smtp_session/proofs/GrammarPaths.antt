@@ -13,7 +13,7 @@ use Rattle.field_tokens.specs.Groups.{Inside, End, Plain, Pair, Nested, IsInside
 use Rattle.field_tokens.specs.Tokens.{AreTokens, IsToken, TokenValue, quoted_marks}
 use Rattle.address_lists.specs.declared.Address.{Address}
 use Rattle.address_lists.specs.Addresses.{is_domain, is_one_literal}
-use Rattle.address_lists.specs.AddressLists.{is_comment_kind}
+use Rattle.field_tokens.specs.Squeezed.{is_comment}
 use Rattle.address_lists.specs.Lexemes.{are_blank, are_dotted, is_blank_token, is_literal_kind, is_mark, is_part, is_special_kind, words_of}
 use Rattle.address_lists.specs.Paths.{IsPathOf, in_angles}
 use Rattle.address_lists.proofs.WritingLemmas.{mark_is}
@@ -26,7 +26,7 @@ use Rattle.smtp_session.proofs.WrittenPaths.{Passes, atoms_go, found_at, follows
 
 -- a token that may stand in a path: no comment, and of the specials a dot or `@`
 abbrev may_stand : TokenValue → Bool
-may_stand t = not (is_comment_kind t.kind) && (not (is_special_kind t.kind) || (is_mark 46 t || is_mark 64 t))
+may_stand t = not (is_comment t.kind) && (not (is_special_kind t.kind) || (is_mark 46 t || is_mark 64 t))
 
 -- white goes on
 white_goes : (octets : List ℕ) → list_all is_white octets ≡ true → list_all goes_on octets ≡ true
@@ -181,12 +181,12 @@ inner_fits tokens (Some address) is =
     ∙ and_from (list_all fits is.local) (fits is.at && list_all fits is.domain) local (and_from (fits is.at) (list_all fits is.domain) (mark_fits 64 is.at refl is.is_at) domain)
 
 -- and where none is a comment they may stand in a path
-all_stand : (tokens : List TokenValue) → list_all fits tokens ≡ true → list_all (λ t. not (is_comment_kind t.kind)) tokens ≡ true → list_all may_stand tokens ≡ true
+all_stand : (tokens : List TokenValue) → list_all fits tokens ≡ true → list_all (λ t. not (is_comment t.kind)) tokens ≡ true → list_all may_stand tokens ≡ true
 all_stand [] h plain = refl
 all_stand (t ∷ tokens) h plain =
     let first = and_parts (fits t) (list_all fits tokens) h in
-    let second = and_parts (not (is_comment_kind t.kind)) (list_all (λ t. not (is_comment_kind t.kind)) tokens) plain in
-    and_from (may_stand t) (list_all may_stand tokens) (and_from (not (is_comment_kind t.kind)) (fits t) second.0 first.0) (all_stand tokens first.1 second.1)
+    let second = and_parts (not (is_comment t.kind)) (list_all (λ t. not (is_comment t.kind)) tokens) plain in
+    and_from (may_stand t) (list_all may_stand tokens) (and_from (not (is_comment t.kind)) (fits t) second.0 first.0) (all_stand tokens first.1 second.1)
 
 -- ---- the whole path
 
@@ -222,11 +222,11 @@ path_angles text answer is =
     let tokens : is.path.tokens ≡ angled.open_mark ∷ (path.inner ++ angled.close_mark ∷ []) =
     angled.whole ∙ ap (λ before. before ++ angled.open_mark ∷ (path.inner ++ angled.close_mark ∷ angled.after)) is.before
     ∙ ap (λ after. angled.open_mark ∷ (path.inner ++ angled.close_mark ∷ after)) is.behind in
-    let all : list_all (λ t. not (is_comment_kind t.kind)) (angled.open_mark ∷ (path.inner ++ angled.close_mark ∷ [])) ≡ true = rw tokens at is.plain in
-    let behind = (and_parts (not (is_comment_kind angled.open_mark.kind)) (list_all (λ t. not (is_comment_kind t.kind)) (path.inner ++ angled.close_mark ∷ [])) all).1 in
+    let all : list_all (λ t. not (is_comment t.kind)) (angled.open_mark ∷ (path.inner ++ angled.close_mark ∷ [])) ≡ true = rw tokens at is.plain in
+    let behind = (and_parts (not (is_comment angled.open_mark.kind)) (list_all (λ t. not (is_comment t.kind)) (path.inner ++ angled.close_mark ∷ [])) all).1 in
     let plain =
-    (and_parts (list_all (λ t. not (is_comment_kind t.kind)) path.inner) (list_all (λ t. not (is_comment_kind t.kind)) (angled.close_mark ∷ []))
-    (sym (list_all-append (λ t. not (is_comment_kind t.kind)) path.inner (angled.close_mark ∷ [])) ∙ behind)).0 in
+    (and_parts (list_all (λ t. not (is_comment t.kind)) path.inner) (list_all (λ t. not (is_comment t.kind)) (angled.close_mark ∷ []))
+    (sym (list_all-append (λ t. not (is_comment t.kind)) path.inner (angled.close_mark ∷ [])) ∙ behind)).0 in
     between_angles text angled.open_mark angled.close_mark path.inner (subst (λ (ts : List TokenValue). AreTokens Mail ts text) tokens is.path.has_tokens.are_tokens) angled.opens angled.closes
     (all_stand path.inner (inner_fits path.inner answer path.holds) plain)
 

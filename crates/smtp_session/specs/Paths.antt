@@ -2,7 +2,7 @@
 use Rattle.std.specs.Prelude.{◌≡◌, ℕ, List, [], true, not, Option}
 use Rattle.std.specs.List.{list_all}
 use Rattle.address_lists.specs.declared.Address.{Address}
-use Rattle.address_lists.specs.AddressLists.{is_comment_kind}
+use Rattle.field_tokens.specs.Squeezed.{is_comment}
 use Rattle.address_lists.specs.Paths.{HasPath}
 
 -- The text is a path, or the null path, from its `<` to its `>`, and has no comments.
@@ -10,4 +10,4 @@ pub record IsPathText (text : List ℕ) (answer : Option Address) : Type 0 where
   pub path : HasPath text answer
   pub before : path.is_path.before ≡ []
   pub behind : path.is_path.angled.after ≡ []
-  pub plain : list_all (λ t. not (is_comment_kind t.kind)) path.tokens ≡ true
+  pub plain : list_all (λ t. not (is_comment t.kind)) path.tokens ≡ true
