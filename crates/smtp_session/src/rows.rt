@@ -1,5 +1,5 @@
 //! The rows of commands: a reply, and the state behind it.
-ghost use Rattle.std.specs.Prelude.{◌≡◌, ◌==◌, ◌≤◌, ◌<◌, ◌++◌, ◌∷◌, [], true, IfOk, IfSome, MatchOption, None, length, Some, option_and_then, not, nat_le, nat_lt, codes};
+ghost use Rattle.std.specs.Prelude.{◌≡◌, ◌==◌, ◌≤◌, ◌<◌, ◌++◌, ◌∷◌, [], true, false, IfOk, IfSome, MatchOption, None, length, Some, option_and_then, not, nat_le, nat_lt, codes};
 ghost use Rattle.std.specs.List.{All, list_any, list_all};
 ghost use Rattle.address_lists.specs.Addresses.{address_text};
 ghost use Rattle.address_lists.specs.Paths.{ComesInPath};
@@ -74,51 +74,73 @@ fn name_line(alloc: Global, store: &Store) -> Result<Octets, Memory>
     Octets::from_slice(alloc, text.as_bytes())
 }
 
-// A client has greeted by this name.
-fn greeted(alloc: Global, name: &[u8], extended: bool) -> Result<SmtpState, Memory>
+// The reply to a client that has greeted by this name.
+fn welcome(alloc: Global, octets: Octets, name: &[u8], extended: bool) -> Result<Reply, Memory>
     requires { is_client_of name.now ≡ true }
-    ensures next { IfOk result (λ next. state_of next ≡ greeted_of (client_of name.now extended)) }
-    ensures known { IfOk result (λ next. (store : StoreState) → KnowsState store (state_of next)) }
+    ensures reply { IfOk result (λ reply. reply.octets ≡ octets) }
+    ensures next { IfOk result (λ reply. state_or_ended reply.next ≡ greeted_of (client_of name.now extended)) }
+    ensures known { IfOk result (λ reply. (store : StoreState) → KnowsState store (state_or_ended reply.next)) }
 {
     let client = Client {
         name: Octets::from_slice(alloc, name)?,
         extended,
     };
-    Ok(SmtpState::Greeted(Smtp::greeted(client)))
+    Ok(Reply {
+        octets,
+        next: Some(SmtpState::Greeted(Smtp::greeted(client))),
+    })
 }
 
+// The reply to EHLO by this name.
+fn offer(alloc: Global, name: &[u8], store: &Store) -> Result<Reply, Memory>
+    requires { is_client_of name.now ≡ true }
+    ensures reply { IfOk result (λ reply. reply.octets ≡ reply_octets (offers_of store.now)) }
+    ensures next { IfOk result (λ reply. state_or_ended reply.next ≡ greeted_of (client_of name.now true)) }
+    ensures known { IfOk result (λ reply. KnowsState store.now (state_or_ended reply.next)) }
+{
+    let octets = offers(alloc, store)?;
+    welcome(alloc, octets, name, true)
+}
+
+// EHLO; what was said before is forgotten.
 fn ehlo(alloc: Global, state: SmtpState, name: &[u8], store: &Store) -> Result<Reply, Memory>
     requires { KnowsState store.now (state_of state) }
     ensures reply { IfOk result (λ reply. reply.octets ≡ reply_octets (ehlo_step (state_of state) store.now name.now).reply) }
     ensures next { IfOk result (λ reply. state_or_ended reply.next ≡ (ehlo_step (state_of state) store.now name.now).state) }
     ensures known { IfOk result (λ reply. KnowsState store.now (state_or_ended reply.next)) }
 {
-    if !is_client(name) {
-        return says(alloc, BAD_ARGUMENT, state);
+    if is_client(name) {
+        drop(state);
+        offer(alloc, name, store)
+    } else {
+        says(alloc, BAD_ARGUMENT, state)
     }
-    let octets = offers(alloc, store)?;
-    let next = greeted(alloc, name, true)?;
-    Ok(Reply {
-        octets,
-        next: Some(next),
-    })
 }
 
+// The reply to HELO by this name.
+fn name_itself(alloc: Global, name: &[u8], store: &Store) -> Result<Reply, Memory>
+    requires { is_client_of name.now ≡ true }
+    ensures reply { IfOk result (λ reply. reply.octets ≡ reply_octets ((codes "250 " ++ name_of store.now.kept) ∷ [])) }
+    ensures next { IfOk result (λ reply. state_or_ended reply.next ≡ greeted_of (client_of name.now false)) }
+    ensures known { IfOk result (λ reply. KnowsState store.now (state_or_ended reply.next)) }
+{
+    let octets = name_line(alloc, store)?;
+    welcome(alloc, octets, name, false)
+}
+
+// HELO; what was said before is forgotten.
 fn helo(alloc: Global, state: SmtpState, name: &[u8], store: &Store) -> Result<Reply, Memory>
     requires { KnowsState store.now (state_of state) }
     ensures reply { IfOk result (λ reply. reply.octets ≡ reply_octets (helo_step (state_of state) store.now name.now).reply) }
     ensures next { IfOk result (λ reply. state_or_ended reply.next ≡ (helo_step (state_of state) store.now name.now).state) }
     ensures known { IfOk result (λ reply. KnowsState store.now (state_or_ended reply.next)) }
 {
-    if !is_client(name) {
-        return says(alloc, BAD_ARGUMENT, state);
+    if is_client(name) {
+        drop(state);
+        name_itself(alloc, name, store)
+    } else {
+        says(alloc, BAD_ARGUMENT, state)
     }
-    let octets = name_line(alloc, store)?;
-    let next = greeted(alloc, name, false)?;
-    Ok(Reply {
-        octets,
-        next: Some(next),
-    })
 }
 
 // Whether the text of an address is longer than one may be.

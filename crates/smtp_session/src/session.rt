@@ -193,6 +193,47 @@ fn deliver<J: Keeper>(
     }
 }
 
+// The reply to data; the client may send other mail.
+fn reply_to_data<W: Wire>(
+    client: Client,
+    reply: &'static [u8],
+    wire: &mut W,
+) -> Result<Smtp<Greeted>, Fault>
+    ensures gives { GivesOrFails (W.tells wire.old) (W.tells wire.new) result reply.now }
+    ensures client { IfOk result (λ next. next.state.client ≡ client) }
+    ensures cause { HasWireCause (W.tells wire.old) (W.tells wire.new) result Fault.Wire }
+    ensures keeper { ¬ (result ≡ Err Fault.Keeper) }
+{
+    give_all(wire, reply)?;
+    Ok(Smtp::greeted(client))
+}
+
+// Keeps a message, or tells why not, and then gives the reply.
+fn finish_data<W: Wire, J: Keeper>(
+    alloc: Global,
+    client: Client,
+    accepted: Accepted,
+    store: &mut Store,
+    wire: &mut W,
+    keeper: &mut J,
+) -> Result<Smtp<Greeted>, Fault>
+    requires works { store.old.failed ≡ false }
+    requires within { accepted.trace_len ≤ length accepted.delivery.remote_octets }
+    requires deliverable { IsStored (content_of accepted) → IsDeliverable store.old accepted.delivery }
+    ensures does { (has_tree : List ℕ → Bool) → TellsTrees has_tree
+        → Does line_octets (W.tells wire.old) (W.tells wire.new) store.old store.new (J.tells keeper.old).octets (J.tells keeper.new).octets result
+        (acts_in (end_by (has_tree (content_of accepted)) store.old client accepted.delivery)) }
+    ensures client { IfOk result (λ next. next.state.client ≡ client) }
+    ensures works { ¬ (result ≡ Err Fault.Keeper) → store.new.failed ≡ false }
+    ensures limit { store.new.message_max ≡ store.old.message_max }
+    ensures name { name_of store.new.kept ≡ name_of store.old.kept }
+    ensures cause { HasWireCause (W.tells wire.old) (W.tells wire.new) result Fault.Wire }
+    ensures keeper { HasKeeperCause (J.tells keeper.old) (J.tells keeper.new) result Fault.Keeper }
+{
+    let reply = deliver(alloc, &accepted, store, keeper)?;
+    reply_to_data(client, reply, wire)
+}
+
 // The end of data, which came at this moment.
 fn end_data<W: Wire, J: Keeper>(
     alloc: Global,
@@ -223,14 +264,11 @@ fn end_data<W: Wire, J: Keeper>(
         dropped,
     } = session.state;
     if dropped {
-        give_all(wire, TOO_LARGE)?;
-        return Ok(Smtp::greeted(client));
+        return reply_to_data(client, TOO_LARGE, wire);
     }
     let name = store.name().as_bytes();
     let accepted = accept_data(alloc, &client, envelope, name, lines, stamp)?;
-    let reply = deliver(alloc, &accepted, store, keeper)?;
-    give_all(wire, reply)?;
-    Ok(Smtp::greeted(client))
+    finish_data(alloc, client, accepted, store, wire, keeper)
 }
 
 // The most octets of data of which it isn't known yet that they are too large: each line has two octets at least, and loses
