@@ -1,6 +1,6 @@
 -- The octets of a reply (RFC 1939, 3), and what may be sent in it (RFC 6856, 2; RFC 6857).
 use Rattle.std.specs.Prelude.{◌≡◌, ℕ, ◌++◌, ◌==◌, List, [], ◌∷◌, Bool, true, false, take, drop, if◌then◌else◌}
-use Rattle.std.specs.List.{list_all, AllByRecursion}
+use Rattle.std.specs.List.{flat_map, list_all, AllByRecursion}
 use Rattle.mail_wire.specs.Dots.{stuffed}
 use Rattle.mail_wire.specs.Lines.{crlf, is_crlf}
 use Rattle.mail_wire.specs.Octets.{is_ascii}
