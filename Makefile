@@ -19,7 +19,7 @@ help:
 	@echo 'make test       proves everything and runs all tests; the first time takes about an hour'
 	@echo 'make bench      measures the program (needs python3, valgrind and GNU time)'
 	@echo 'make figures    does the same, and writes the figures into docs/PERFORMANCE.md'
-	@echo 'The times are those of four processors.'
+	@echo 'The times are rough, for four processors.'
 
 # rt try proves nothing, and takes the program away when it has run
 run:
