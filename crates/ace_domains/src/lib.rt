@@ -7,7 +7,7 @@ ghost use Rattle.ace_domains.specs.Domains.{IsDomain, IsDnsName, SameDomain, com
 pub mod laws;
 
 use idna::Errors;
-use mail_wire::values::{Memory, Octets};
+use mail_wire::{Memory, Octets};
 use std::alloc::Global;
 
 /// The form of a domain in A-labels, by which domains are compared and by which they are known where UTF-8 isn't.

@@ -1,6 +1,6 @@
 //! Domains with and without a form; the forms are those of Python's `idna` package (RFC 5891, UTS #46).
 use ace_domains::{normal, same};
-use mail_wire::values::{Memory, Octets};
+use mail_wire::{Memory, Octets};
 use std::alloc::Global;
 use std::test::Fail;
 

@@ -9,7 +9,7 @@ use Rattle.field_tokens.specs.Tokens.{TokenValue}
 use Rattle.field_tokens.specs.Squeezed.{comments_of}
 use Rattle.field_tokens.specs.Comments.{CommentsPieces, AddsPieces}
 use Rattle.address_lists.specs.ListPieces.{no_members, with_comma}
-use Rattle.address_lists.specs.ListWriting.{EmptiedPieces}
+use Rattle.address_lists.specs.private.ListWriting.{EmptiedPieces}
 use Rattle.address_lists.proofs.PhraseListLemmas.{all_rest}
 
 pub weaker_pieces : (P Q : List (List ℕ) → Type 0) (old new : List (List ℕ)) → ((p : List (List ℕ)) → P p → Q p) → AddsPieces P old new → AddsPieces Q old new

@@ -12,12 +12,12 @@ use Rattle.encoded_words.proofs.PhraseSources.{HasPhraseUnits-around, HasPhraseU
 use Rattle.field_tokens.specs.declared.TokenKind.{TokenKind}
 use Rattle.field_tokens.specs.declared.TokenKind.TheVariants.{Atom, Quoted, Literal, Special, Gap, Comment}
 use Rattle.field_tokens.specs.Tokens.{TokenValue}
-use Rattle.address_lists.specs.declared.Address.{Address}
-use Rattle.address_lists.specs.Lexemes.{is_blank_token, are_blank, words_of, is_special_kind, is_mark, contents}
-use Rattle.address_lists.specs.Addresses.{IsAddress}
-use Rattle.address_lists.specs.Phrases.{may_stand_in_phrase, IsPhrase, phrase_items, SaysPhrase}
-use Rattle.address_lists.specs.AddressLists.{Divided, MailboxValue, IsBare, IsNamed, IsMailbox, SayParts, AreDivided, IsOneMailbox, ElementValue, One, Group, IsGroup, IsElement, SaysPlace}
-use Rattle.address_lists.proofs.SoundLemmas.{contents-words}
+use Rattle.address_grammar.specs.declared.Address.{Address}
+use Rattle.address_grammar.specs.private.Lexemes.{is_blank_token, are_blank, words_of, is_special_kind, is_mark, contents}
+use Rattle.address_grammar.specs.Addresses.{IsAddress}
+use Rattle.address_grammar.specs.Phrases.{may_stand_in_phrase, IsPhrase, phrase_items, SaysPhrase}
+use Rattle.address_grammar.specs.AddressLists.{Divided, MailboxValue, IsBare, IsNamed, IsMailbox, SayParts, AreDivided, IsOneMailbox, ElementValue, One, Group, IsGroup, IsElement, SaysPlace}
+use Rattle.address_grammar.proofs.SoundLemmas.{contents-words}
 use Rattle.address_lists.proofs.PhrasesAgain.{blank_separators}
 
 -- What may be said of tokens with gaps and comments at their ends as well as without.

@@ -13,13 +13,13 @@ use Rattle.field_tokens.specs.Tokens.{TokenValue, AreTokens}
 use Rattle.field_tokens.specs.Squeezed.{octets_of, comments_of}
 use Rattle.field_tokens.specs.Comments.{CommentValue, CommentsSay}
 use Rattle.field_tokens.proofs.Parts.{EndsNoGap-append, tokens_some, comments_of-append}
-use Rattle.address_lists.specs.declared.Address.{Address}
-use Rattle.address_lists.specs.Lexemes.{HasTokenValues, inner_octets, content_of, content, contents}
-use Rattle.address_lists.specs.Addresses.{IsAddress}
-use Rattle.address_lists.specs.AddressLists.{Divided, MailboxValue, IsRoutedOrNot, IsMailbox, SayParts, IsOneMailbox, AreMembers, ElementValue, One, Group, IsElement}
+use Rattle.address_grammar.specs.declared.Address.{Address}
+use Rattle.address_grammar.specs.private.Lexemes.{HasTokenValues, inner_octets, content_of, content, contents}
+use Rattle.address_grammar.specs.Addresses.{IsAddress}
+use Rattle.address_grammar.specs.AddressLists.{Divided, MailboxValue, IsRoutedOrNot, IsMailbox, SayParts, IsOneMailbox, AreMembers, ElementValue, One, Group, IsElement}
 use Rattle.address_lists.specs.ListPieces.{served_address, is_plain, HasText}
 use Rattle.address_lists.specs.ListReadBack.{IsServedMailbox, StandsForElement}
-use Rattle.address_lists.proofs.SoundLemmas.{unquoted_all}
+use Rattle.address_grammar.proofs.SoundLemmas.{unquoted_all}
 use Rattle.address_lists.proofs.PlaceTokens.{octets-append, HasTokenValues-part}
 use Rattle.address_lists.proofs.PhraseWriting.{gaps_blank, gaps_no_comments}
 use Rattle.address_lists.proofs.ServedLemmas.{served_ascii}

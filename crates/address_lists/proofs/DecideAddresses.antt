@@ -10,21 +10,21 @@ use Rattle.field_tokens.specs.Squeezed.{comments_of}
 use Rattle.field_tokens.specs.Comments.{CommentValue}
 use Rattle.field_tokens.proofs.CommentValues.{CommentsSay-some}
 use Rattle.field_tokens.proofs.DecideTokens.{decide_tokens}
-use Rattle.address_lists.specs.declared.Address.{Address}
-use Rattle.address_lists.specs.Lexemes.{is_part, is_mark, lacks, words_of, contents, are_blank, are_dotted, SplitsAt}
-use Rattle.address_lists.specs.Addresses.{is_domain, IsAddress}
-use Rattle.address_lists.specs.Phrases.{IsPhrase, phrase_items, SaysPhrase}
-use Rattle.address_lists.specs.AddressLists.{IsHop, IsRoute, MailboxValue, IsRoutedOrNot, IsNamed, IsMailbox, SayParts, IsOneMailbox, AreMembers, ElementValue, One, Group, IsGroupBy, IsElement, SaysPlace}
+use Rattle.address_grammar.specs.declared.Address.{Address}
+use Rattle.address_grammar.specs.private.Lexemes.{is_part, is_mark, lacks, words_of, contents, are_blank, are_dotted, SplitsAt}
+use Rattle.address_grammar.specs.Addresses.{is_domain, IsAddress}
+use Rattle.address_grammar.specs.Phrases.{IsPhrase, phrase_items, SaysPhrase}
+use Rattle.address_grammar.specs.AddressLists.{IsHop, IsRoute, MailboxValue, IsRoutedOrNot, IsNamed, IsMailbox, SayParts, IsOneMailbox, AreMembers, ElementValue, One, Group, IsGroupBy, IsElement, SaysPlace}
 use Rattle.address_lists.specs.ListPieces.{SaysAddresses}
-use Rattle.address_lists.specs.ListSteps.{SplitsName, SaysGroup}
-use Rattle.address_lists.proofs.LexemeLemmas.{not_lacking}
-use Rattle.address_lists.proofs.AddressLemmas.{address_parts, address_missing, address_made}
-use Rattle.address_lists.proofs.PathLemmas.{angled_made, no_close, something_behind}
-use Rattle.address_lists.proofs.MailboxLemmas.{no_says, hop_lacks, hop_parts, hop_made, no_hop, routed_parts, routed_made, unrouted, named_angles, named_parts, bare_lacks, only_bare, named_made}
-use Rattle.address_lists.proofs.DividedLemmas.{Walked}
+use Rattle.address_grammar.specs.private.ListSteps.{SplitsName, SaysGroup}
+use Rattle.address_grammar.proofs.LexemeLemmas.{not_lacking}
+use Rattle.address_grammar.proofs.AddressLemmas.{address_parts, address_missing, address_made}
+use Rattle.address_grammar.proofs.PathLemmas.{angled_made, no_close, something_behind}
+use Rattle.address_grammar.proofs.MailboxLemmas.{no_says, hop_lacks, hop_parts, hop_made, no_hop, routed_parts, routed_made, unrouted, named_angles, named_parts, bare_lacks, only_bare, named_made}
+use Rattle.address_grammar.proofs.DividedLemmas.{Walked}
 use Rattle.address_lists.proofs.DecideDivided.{Known, decide_divided}
-use Rattle.address_lists.proofs.ListLemmas.{walk_plain, one_walked, place_walked, element_group, group_element, no_name, name_open}
-use Rattle.address_lists.proofs.WholeLists.{members_malformed, group_unclosed, group_followed, group_members, single_malformed}
+use Rattle.address_grammar.proofs.ListLemmas.{walk_plain, one_walked, place_walked, element_group, group_element, no_name, name_open}
+use Rattle.address_grammar.proofs.WholeLists.{members_malformed, group_unclosed, group_followed, group_members, single_malformed}
 use Rattle.address_lists.proofs.PhraseListTexts.{decide_phrase}
 use Rattle.address_lists.proofs.SoundPhrases.{text_comments}
 use Rattle.address_lists.proofs.AddressListTexts.{addresses_of}

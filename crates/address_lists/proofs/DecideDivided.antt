@@ -2,10 +2,10 @@
 use Rattle.std.proofs.Common.{◌≡◌, ℕ, ◌⊎◌, inl, inr, List, [], ◌∷◌, ◌++◌, Option, Some, None, refl, sym, ap, ◌∙◌, subst}
 use Rattle.std.proofs.lemmas.List.{append_assoc, append-nil}
 use Rattle.field_tokens.specs.Tokens.{TokenValue}
-use Rattle.address_lists.specs.AddressLists.{AreDivided}
-use Rattle.address_lists.specs.Walks.{awaited_behind, walk, SplitsPlace}
-use Rattle.address_lists.proofs.WalkLemmas.{walk-append, ends_here}
-use Rattle.address_lists.proofs.DividedLemmas.{Walked, divided_first, divided_more, divided_one, divided_last}
+use Rattle.address_grammar.specs.AddressLists.{AreDivided}
+use Rattle.address_grammar.specs.private.Walks.{awaited_behind, walk, SplitsPlace}
+use Rattle.address_grammar.proofs.WalkLemmas.{walk-append, ends_here}
+use Rattle.address_grammar.proofs.DividedLemmas.{Walked, divided_first, divided_more, divided_one, divided_last}
 
 -- the tokens say something, or nothing
 abbrev pub Known : {E : Type 0} → (List TokenValue → List E → Type 0) → List TokenValue → Type 0

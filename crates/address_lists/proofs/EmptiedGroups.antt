@@ -17,15 +17,15 @@ use Rattle.field_tokens.specs.Squeezed.{comments_of, space}
 use Rattle.field_tokens.specs.Comments.{CommentValue, CommentsSay, CommentsPieces}
 use Rattle.field_tokens.proofs.Parts.{comments_of-append}
 use Rattle.field_tokens.proofs.TokenLines.{ascii_line}
-use Rattle.address_lists.specs.declared.Address.{Address}
-use Rattle.address_lists.specs.Addresses.{IsAddress, local_text, address_text}
-use Rattle.address_lists.specs.Phrases.{phrase_items, SaysPhrase}
+use Rattle.address_grammar.specs.declared.Address.{Address}
+use Rattle.address_grammar.specs.Addresses.{IsAddress, local_text, address_text}
+use Rattle.address_grammar.specs.Phrases.{phrase_items, SaysPhrase}
 use Rattle.address_lists.specs.PhrasePieces.{UnitsPieces}
-use Rattle.address_lists.specs.AddressLists.{Divided, MailboxValue, IsRoutedOrNot, IsMailbox, SayParts, IsOneMailbox, AreMembers, IsGroup}
+use Rattle.address_grammar.specs.AddressLists.{Divided, MailboxValue, IsRoutedOrNot, IsMailbox, SayParts, IsOneMailbox, AreMembers, IsGroup}
 use Rattle.address_lists.specs.ListPieces.{mailbox_units, member_units, members_units, group_units, no_members}
-use Rattle.address_lists.proofs.SoundLemmas.{IsSound, sound_front, sound_rest, contents_utf8, contents_line}
+use Rattle.address_grammar.proofs.SoundLemmas.{IsSound, sound_front, sound_rest, contents_utf8, contents_line}
 use Rattle.address_lists.proofs.SoundPhrases.{AreAtomOctets, sound_items, sound_atoms}
-use Rattle.address_lists.proofs.WritingLemmas.{local_line, mark}
+use Rattle.address_grammar.proofs.WritingLemmas.{local_line, mark}
 use Rattle.address_lists.proofs.PhrasesAgain.{phrase_before, units_before, units_head}
 use Rattle.address_lists.proofs.MadeTokens.{AreMade, made_two, made_none, MadePhrase, head_phrase, AreCommentsOfLine, comments_behind}
 

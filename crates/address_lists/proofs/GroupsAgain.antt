@@ -11,16 +11,16 @@ use Rattle.field_tokens.specs.Tokens.{TokenValue}
 use Rattle.field_tokens.specs.Squeezed.{octets_of, comments_of, space}
 use Rattle.field_tokens.specs.Comments.{CommentValue, CommentsSay, CommentsPieces}
 use Rattle.field_tokens.proofs.Parts.{comments_of-append}
-use Rattle.address_lists.specs.Lexemes.{HasTokenValues, is_blank_token, is_mark, are_blank}
+use Rattle.address_grammar.specs.private.Lexemes.{HasTokenValues, is_blank_token, is_mark, are_blank}
 use Rattle.address_lists.specs.PhrasePieces.{PlacePieces}
-use Rattle.address_lists.specs.AddressLists.{Divided, MailboxValue, SayParts, AreDivided, IsOneMailbox, AreMembers, Group, IsGroup}
+use Rattle.address_grammar.specs.AddressLists.{Divided, MailboxValue, SayParts, AreDivided, IsOneMailbox, AreMembers, Group, IsGroup}
 use Rattle.address_lists.specs.ListPieces.{is_plain, group_units, no_members, MemberPieces, with_comma, MembersPieces, InnerPieces, GroupPieces, Kept, Emptied}
 use Rattle.address_lists.specs.ListReadBack.{IsServedMailbox}
-use Rattle.address_lists.proofs.SoundLemmas.{IsSound, sound_front, sound_rest}
+use Rattle.address_grammar.proofs.SoundLemmas.{IsSound, sound_front, sound_rest}
 use Rattle.address_lists.proofs.PlaceTokens.{HasTokenValues-part}
-use Rattle.address_lists.proofs.WritingLemmas.{mark}
-use Rattle.address_lists.proofs.ListLemmas.{one_walked, one_once, members_not_blank, IsElement-once}
-use Rattle.address_lists.proofs.DividedLemmas.{divided_once}
+use Rattle.address_grammar.proofs.WritingLemmas.{mark}
+use Rattle.address_grammar.proofs.ListLemmas.{one_walked, one_once, members_not_blank, IsElement-once}
+use Rattle.address_grammar.proofs.DividedLemmas.{divided_once}
 use Rattle.address_lists.proofs.PhrasesAgain.{CommentsSay-append, say_both, phrase_before, units_before, PlacePieces-read}
 use Rattle.address_lists.proofs.PhraseListsAgain.{comma}
 use Rattle.address_lists.proofs.MadeTokens.{AreMade, made_two, made_divided, made_mark, MadePhrase, again_phrase, text_line_comments, MadeBehind, comments_behind}

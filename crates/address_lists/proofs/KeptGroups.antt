@@ -8,16 +8,16 @@ use Rattle.encoded_words.specs.Words.{UnitValue}
 use Rattle.field_tokens.specs.Tokens.{TokenValue}
 use Rattle.field_tokens.specs.Squeezed.{octets_of, comments_of}
 use Rattle.field_tokens.specs.Comments.{CommentsPieces, AddsPieces}
-use Rattle.address_lists.specs.Lexemes.{lacks, are_blank, SplitsAt}
+use Rattle.address_grammar.specs.private.Lexemes.{lacks, are_blank, SplitsAt}
 use Rattle.address_lists.specs.PhrasePieces.{PlacePieces}
-use Rattle.address_lists.specs.AddressLists.{Divided, SayParts, AreDivided, MailboxValue, IsMailbox, IsOneMailbox, AreMembers, IsGroupBy, IsGroup}
+use Rattle.address_grammar.specs.AddressLists.{Divided, SayParts, AreDivided, MailboxValue, IsMailbox, IsOneMailbox, AreMembers, IsGroupBy, IsGroup}
 use Rattle.address_lists.specs.ListPieces.{is_plain, group_units, MailboxPieces, with_comma, MemberPieces, MembersPieces, InnerPieces, GroupPieces}
-use Rattle.address_lists.specs.ListWriting.{CanBeWritten, EmptiedPieces, AsciiPieces, IsPlainGroup, IsSomeMailbox, AreSomeMailboxes, AreSomeMembers, GivesMember, GivesMembers}
-use Rattle.address_lists.specs.Walks.{SplitsPlace, IsLastPlace}
-use Rattle.address_lists.proofs.LexemeLemmas.{not_lacking, cut_once}
-use Rattle.address_lists.proofs.MailboxLemmas.{phrase_lacks}
-use Rattle.address_lists.proofs.DividedLemmas.{divided_first, divided_last}
-use Rattle.address_lists.proofs.ListLemmas.{one_walked, mailbox_not_blank, group_inner}
+use Rattle.address_lists.specs.private.ListWriting.{CanBeWritten, EmptiedPieces, AsciiPieces, IsPlainGroup, IsSomeMailbox, AreSomeMailboxes, AreSomeMembers, GivesMember, GivesMembers}
+use Rattle.address_grammar.specs.private.Walks.{SplitsPlace, IsLastPlace}
+use Rattle.address_grammar.proofs.LexemeLemmas.{not_lacking, cut_once}
+use Rattle.address_grammar.proofs.MailboxLemmas.{phrase_lacks}
+use Rattle.address_grammar.proofs.DividedLemmas.{divided_first, divided_last}
+use Rattle.address_grammar.proofs.ListLemmas.{one_walked, mailbox_not_blank, group_inner}
 use Rattle.address_lists.proofs.AddedPieces.{comma_behind, some_behind}
 use Rattle.address_lists.proofs.WritableTokens.{before_can, behind_can}
 use Rattle.address_lists.proofs.ServedMailboxes.{mailbox_some}

@@ -10,20 +10,20 @@ use Rattle.field_tokens.specs.Tokens.{TokenValue}
 use Rattle.field_tokens.specs.Squeezed.{is_gap, octets_of, comments_of}
 use Rattle.field_tokens.specs.Comments.{CommentsPieces}
 use Rattle.field_tokens.proofs.CommentValues.{CommentsPieces-once}
-use Rattle.address_lists.specs.declared.Address.{Address}
-use Rattle.address_lists.specs.Lexemes.{lacks, are_blank}
-use Rattle.address_lists.specs.Addresses.{address_text}
-use Rattle.address_lists.specs.Paths.{IsAngled, IsFirstAngled, in_angles}
+use Rattle.address_grammar.specs.declared.Address.{Address}
+use Rattle.address_grammar.specs.private.Lexemes.{lacks, are_blank}
+use Rattle.address_grammar.specs.Addresses.{address_text}
+use Rattle.address_grammar.specs.Paths.{IsAngled, IsFirstAngled, in_angles}
 use Rattle.address_lists.specs.PhrasePieces.{HasCore, PhrasePieces, PlacePieces}
-use Rattle.address_lists.specs.PhraseSteps.{BeginsNoGap}
-use Rattle.address_lists.specs.AddressLists.{Divided, MailboxValue, IsNamedBy, IsNamed, IsMailbox, IsOneMailbox, IsGroup, SaysPlace}
+use Rattle.address_grammar.specs.private.PhraseSteps.{BeginsNoGap}
+use Rattle.address_grammar.specs.AddressLists.{Divided, MailboxValue, IsNamedBy, IsNamed, IsMailbox, IsOneMailbox, IsGroup, SaysPlace}
 use Rattle.address_lists.specs.ListPieces.{served_address, is_plain, mailbox_units, group_units, no_members, MailboxPieces, Bare, Angled, Named, Emptied, HasText, MemberPieces, with_comma, MembersPieces, InnerPieces, GroupPieces, Kept, ElementPieces, PlaceOfListPieces, followed_by, PlacesPieces, AddressesPieces}
-use Rattle.address_lists.proofs.LexemeLemmas.{cut_once}
-use Rattle.address_lists.proofs.PathLemmas.{SameAngles, angles_once, HasTokenValues-once}
-use Rattle.address_lists.proofs.MailboxLemmas.{phrase_lacks, says_lacks, routed_lacks}
-use Rattle.address_lists.proofs.DividedLemmas.{parts_same}
+use Rattle.address_grammar.proofs.LexemeLemmas.{cut_once}
+use Rattle.address_grammar.proofs.PathLemmas.{SameAngles, angles_once, HasTokenValues-once}
+use Rattle.address_grammar.proofs.MailboxLemmas.{phrase_lacks, says_lacks, routed_lacks}
+use Rattle.address_grammar.proofs.DividedLemmas.{parts_same}
 use Rattle.address_lists.proofs.WrittenPhrases.{gaps_once, trail_once, core_once, PhrasePieces-once, PlacePieces-once}
-use Rattle.address_lists.proofs.ListLemmas.{one_walked, not_both, IsMailbox-once, mailbox_no_name, members_lack, SameGroup, group_name, group_parts, group_once, place_walked}
+use Rattle.address_grammar.proofs.ListLemmas.{one_walked, not_both, IsMailbox-once, mailbox_no_name, members_lack, SameGroup, group_name, group_parts, group_once, place_walked}
 
 -- ---- texts
 

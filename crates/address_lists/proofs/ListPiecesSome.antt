@@ -16,21 +16,21 @@ use Rattle.field_tokens.specs.Squeezed.{is_gap, octets_of, comments_of}
 use Rattle.field_tokens.specs.Comments.{CommentValue, CommentsPieces, AreWritableComments}
 use Rattle.field_tokens.proofs.CommentValues.{CommentsPieces-some}
 use Rattle.field_tokens.proofs.TokenLines.{one_ascii}
-use Rattle.address_lists.specs.declared.Address.{Address}
-use Rattle.address_lists.specs.Lexemes.{are_blank}
-use Rattle.address_lists.specs.Addresses.{IsAddress, is_dot_atom, quoted_octet, local_text, address_text}
-use Rattle.address_lists.specs.Paths.{IsAngled, in_angles}
-use Rattle.address_lists.specs.Phrases.{IsPhrase, phrase_items, SaysPhrase}
+use Rattle.address_grammar.specs.declared.Address.{Address}
+use Rattle.address_grammar.specs.private.Lexemes.{are_blank}
+use Rattle.address_grammar.specs.Addresses.{IsAddress, is_dot_atom, quoted_octet, local_text, address_text}
+use Rattle.address_grammar.specs.Paths.{IsAngled, in_angles}
+use Rattle.address_grammar.specs.Phrases.{IsPhrase, phrase_items, SaysPhrase}
 use Rattle.address_lists.specs.PhrasePieces.{HasCore}
-use Rattle.address_lists.specs.PhraseSteps.{BeginsNoGap}
-use Rattle.address_lists.specs.AddressLists.{Divided, MailboxValue, IsRoutedOrNot, IsNamedBy, IsMailbox, SayParts, IsOneMailbox, AreMembers, ElementValue, One, Group, IsGroup, IsElement, SaysPlace}
+use Rattle.address_grammar.specs.private.PhraseSteps.{BeginsNoGap}
+use Rattle.address_grammar.specs.AddressLists.{Divided, MailboxValue, IsRoutedOrNot, IsNamedBy, IsMailbox, SayParts, IsOneMailbox, AreMembers, ElementValue, One, Group, IsGroup, IsElement, SaysPlace}
 use Rattle.address_lists.specs.ListPieces.{served_address, is_plain, mailbox_units, member_units, members_units, group_units, no_members, MailboxPieces, Bare, Angled, Named, Emptied, HasText, MemberPieces, with_comma, MembersPieces, InnerPieces, GroupPieces, Kept, ElementPieces, PlaceOfListPieces, followed_by, PlacesPieces, SaysAddresses, AddressesPieces}
-use Rattle.address_lists.proofs.Utf8Lemmas.{quoted_utf8}
-use Rattle.address_lists.proofs.SoundLemmas.{IsSound, tokens_sound, sound_front, sound_rest, contents_utf8}
+use Rattle.address_grammar.proofs.Utf8Lemmas.{quoted_utf8}
+use Rattle.address_grammar.proofs.SoundLemmas.{IsSound, tokens_sound, sound_front, sound_rest, contents_utf8}
 use Rattle.address_lists.proofs.SoundPhrases.{sound_items, text_comments}
 use Rattle.address_lists.proofs.PhraseWriting.{gaps_blank, blank-append, core_utf8, core_writable, trail_writable, comments_of-append, CommentsPieces-append, writable_front, writable_rest}
 use Rattle.address_lists.proofs.WrittenPhrases.{skips_some, HasCore-some, PhrasePieces-some, PlacePieces-some}
-use Rattle.address_lists.proofs.ListLemmas.{one_not_blank, members_not_blank, element_not_blank}
+use Rattle.address_grammar.proofs.ListLemmas.{one_not_blank, members_not_blank, element_not_blank}
 
 -- ---- what can be written
 

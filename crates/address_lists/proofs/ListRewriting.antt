@@ -10,15 +10,15 @@ use Rattle.field_tokens.specs.declared.TokenKind.TheVariants.{Atom, Quoted, Lite
 use Rattle.field_tokens.specs.Tokens.{TokenValue}
 use Rattle.field_tokens.specs.Squeezed.{octets_of, comments_of}
 use Rattle.field_tokens.specs.Comments.{CommentValue, CommentsPieces, AddsPieces}
-use Rattle.address_lists.specs.Lexemes.{HasTokenValues, is_special_kind, is_mark, is_blank_token, are_blank}
-use Rattle.address_lists.specs.AddressLists.{Divided, SayParts, AreDivided, ElementValue, IsElement, SaysPlace}
-use Rattle.address_lists.specs.Walks.{awaited_behind, and_then, walk, SplitsPlace, IsLastPlace}
+use Rattle.address_grammar.specs.private.Lexemes.{HasTokenValues, is_special_kind, is_mark, is_blank_token, are_blank}
+use Rattle.address_grammar.specs.AddressLists.{Divided, SayParts, AreDivided, ElementValue, IsElement, SaysPlace}
+use Rattle.address_grammar.specs.private.Walks.{awaited_behind, and_then, walk, SplitsPlace, IsLastPlace}
 use Rattle.address_lists.specs.ListPieces.{MailboxPieces, GroupPieces, with_comma, ElementPieces, PlaceOfListPieces, followed_by, PlacesPieces, SaysAddresses, AddressesPieces}
-use Rattle.address_lists.specs.ListWriting.{CanBeWritten, AsciiPieces, is_element_token, GivesPlace, GivesFollowed, GivesPlaces}
-use Rattle.address_lists.proofs.LexemeLemmas.{no_mark}
-use Rattle.address_lists.proofs.PathLemmas.{HasTokenValues-once}
-use Rattle.address_lists.proofs.DividedLemmas.{ReadsParts, parts_start, parts_turn, parts_stuck, parts_stuck_last}
-use Rattle.address_lists.proofs.ListLemmas.{place_walked, element_not_blank}
+use Rattle.address_lists.specs.private.ListWriting.{CanBeWritten, AsciiPieces, is_element_token, GivesPlace, GivesFollowed, GivesPlaces}
+use Rattle.address_grammar.proofs.LexemeLemmas.{no_mark}
+use Rattle.address_grammar.proofs.PathLemmas.{HasTokenValues-once}
+use Rattle.address_grammar.proofs.DividedLemmas.{ReadsParts, parts_start, parts_turn, parts_stuck, parts_stuck_last}
+use Rattle.address_grammar.proofs.ListLemmas.{place_walked, element_not_blank}
 use Rattle.address_lists.proofs.AddedPieces.{comma_behind, some_behind}
 use Rattle.address_lists.proofs.WritableTokens.{before_can, behind_can}
 use Rattle.address_lists.proofs.ServedMailboxes.{mailbox_some}

@@ -20,16 +20,16 @@ use Rattle.field_tokens.proofs.Parts.{BeginsNoGap, EndsNoGap, EndsNoGap-append, 
 use Rattle.field_tokens.proofs.TokenLines.{comments_are_comments, comments_are_lines}
 use Rattle.field_tokens.proofs.LinePieces.{CommentsPieces-line, CommentsPieces-there}
 use Rattle.field_tokens.proofs.WrittenComments.{CommentsPieces-written}
-use Rattle.address_lists.specs.Lexemes.{HasTokenValues, is_blank_token, are_blank}
-use Rattle.address_lists.specs.Phrases.{IsPhrase, phrase_items}
-use Rattle.address_lists.specs.PhraseReadBack.{IsPhraseAgain}
+use Rattle.address_grammar.specs.private.Lexemes.{HasTokenValues, is_blank_token, are_blank}
+use Rattle.address_grammar.specs.Phrases.{IsPhrase, phrase_items}
+use Rattle.address_lists.specs.private.PhraseReadBack.{IsPhraseAgain}
 use Rattle.address_lists.specs.ListPieces.{with_comma}
-use Rattle.address_lists.specs.declared.Address.{Address}
-use Rattle.address_lists.specs.Addresses.{local_text, address_text}
+use Rattle.address_grammar.specs.declared.Address.{Address}
+use Rattle.address_grammar.specs.Addresses.{local_text, address_text}
 use Rattle.address_lists.proofs.PhrasesAgain.{IsHead, groups, join_two}
 use Rattle.address_lists.proofs.PhraseListsAgain.{comma, again_some}
 use Rattle.address_lists.proofs.ServedLemmas.{HasNoBlank, WritesAddress}
-use Rattle.address_lists.proofs.WritingLemmas.{mark}
+use Rattle.address_grammar.proofs.WritingLemmas.{mark}
 
 -- The text of the tokens is the pieces with a space between any two, and they may stand beside a space.
 pub record AreMade (tokens : List TokenValue) (pieces : List (List ℕ)) : Type 0 where

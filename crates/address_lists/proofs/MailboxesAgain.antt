@@ -16,22 +16,22 @@ use Rattle.field_tokens.specs.Tokens.{TokenValue}
 use Rattle.field_tokens.specs.Squeezed.{octets_of, is_comment, comments_of, space}
 use Rattle.field_tokens.specs.Comments.{CommentValue, CommentsSay, CommentsPieces}
 use Rattle.field_tokens.proofs.Parts.{EndsNoGap-append, comments_of-append}
-use Rattle.address_lists.specs.declared.Address.{Address}
-use Rattle.address_lists.specs.Lexemes.{HasTokenValues, is_special_kind, is_mark, are_blank}
-use Rattle.address_lists.specs.Addresses.{address_text}
-use Rattle.address_lists.specs.Paths.{IsAngled, in_angles}
-use Rattle.address_lists.specs.Phrases.{IsPhrase, phrase_items, SaysPhrase}
+use Rattle.address_grammar.specs.declared.Address.{Address}
+use Rattle.address_grammar.specs.private.Lexemes.{HasTokenValues, is_special_kind, is_mark, are_blank}
+use Rattle.address_grammar.specs.Addresses.{address_text}
+use Rattle.address_grammar.specs.Paths.{IsAngled, in_angles}
+use Rattle.address_grammar.specs.Phrases.{IsPhrase, phrase_items, SaysPhrase}
 use Rattle.address_lists.specs.PhrasePieces.{PhrasePieces, HasCore}
-use Rattle.address_lists.specs.PhraseReadBack.{IsPhraseAgain}
-use Rattle.address_lists.specs.AddressLists.{MailboxValue, IsBare, IsRoutedOrNot, IsNamedBy, IsMailbox, ElementValue, One, Group, IsElement}
+use Rattle.address_lists.specs.private.PhraseReadBack.{IsPhraseAgain}
+use Rattle.address_grammar.specs.AddressLists.{MailboxValue, IsBare, IsRoutedOrNot, IsNamedBy, IsMailbox, ElementValue, One, Group, IsElement}
 use Rattle.address_lists.specs.ListPieces.{served_address, is_plain, mailbox_units, no_members, MailboxPieces, Bare, Angled, Named, Emptied}
 use Rattle.address_lists.specs.ListReadBack.{IsServedMailbox, StandsForElement}
-use Rattle.address_lists.proofs.SoundLemmas.{IsSound, tokens_sound, sound_front, sound_rest}
+use Rattle.address_grammar.proofs.SoundLemmas.{IsSound, tokens_sound, sound_front, sound_rest}
 use Rattle.address_lists.proofs.PlaceTokens.{HasTokenValues-part}
-use Rattle.address_lists.proofs.WritingLemmas.{mark}
+use Rattle.address_grammar.proofs.WritingLemmas.{mark}
 use Rattle.address_lists.proofs.PhraseWriting.{phrase_core, core_comments}
 use Rattle.address_lists.proofs.PhrasesAgain.{CommentsSay-append, say_both, phrase_before, units_before, core_units, PlacePieces-read}
-use Rattle.address_lists.proofs.ListLemmas.{IsMailbox-once}
+use Rattle.address_grammar.proofs.ListLemmas.{IsMailbox-once}
 use Rattle.address_lists.proofs.ServedLemmas.{WritesAddress, address_served}
 use Rattle.address_lists.proofs.MadeTokens.{AreMade, made_two, made_address, no_blank_comments, again_phrase, AreCommentsOfLine, text_line_comments, comments_behind}
 use Rattle.address_lists.proofs.AmongBlanks.{before_blanks, mailbox_among}

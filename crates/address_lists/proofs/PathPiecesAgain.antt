@@ -8,15 +8,15 @@ use Rattle.field_tokens.specs.Squeezed.{comments_of}
 use Rattle.field_tokens.specs.Comments.{CommentValue, CommentsSay, CommentsPieces}
 use Rattle.field_tokens.proofs.Parts.{AreTokens-begin, AreTokens-end, comments_of-append}
 use Rattle.field_tokens.proofs.TokenLines.{joined_line}
-use Rattle.address_lists.specs.declared.Address.{Address}
-use Rattle.address_lists.specs.Lexemes.{HasTokenValues, are_blank}
-use Rattle.address_lists.specs.Addresses.{address_text}
-use Rattle.address_lists.specs.Paths.{IsPath, in_angles}
+use Rattle.address_grammar.specs.declared.Address.{Address}
+use Rattle.address_grammar.specs.private.Lexemes.{HasTokenValues, are_blank}
+use Rattle.address_grammar.specs.Addresses.{address_text}
+use Rattle.address_grammar.specs.Paths.{IsPath, in_angles}
 use Rattle.address_lists.specs.ListPieces.{served_address}
 use Rattle.address_lists.specs.PathPieces.{SaysPath, PathPieces, IsPathAgain}
-use Rattle.address_lists.proofs.PathLemmas.{HasTokenValues-once, IsPath-once}
-use Rattle.address_lists.proofs.SoundLemmas.{IsSound, tokens_sound, sound_front, sound_rest}
-use Rattle.address_lists.proofs.WritingLemmas.{mark}
+use Rattle.address_grammar.proofs.PathLemmas.{HasTokenValues-once, IsPath-once}
+use Rattle.address_grammar.proofs.SoundLemmas.{IsSound, tokens_sound, sound_front, sound_rest}
+use Rattle.address_grammar.proofs.WritingLemmas.{mark}
 use Rattle.address_lists.proofs.PhraseListsAgain.{lines_of}
 use Rattle.address_lists.proofs.ServedLemmas.{WritesAddress, address_served}
 use Rattle.address_lists.proofs.MadeTokens.{AreMade, text_line_comments, comments_behind}

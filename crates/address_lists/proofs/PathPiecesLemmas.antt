@@ -8,14 +8,14 @@ use Rattle.field_tokens.specs.Squeezed.{comments_of}
 use Rattle.field_tokens.specs.Comments.{CommentValue, CommentsPieces, AddsPieces}
 use Rattle.field_tokens.proofs.CommentValues.{CommentsSay-once, CommentsSay-some, CommentsPieces-once, CommentsPieces-some}
 use Rattle.field_tokens.proofs.DecideTokens.{decide_tokens}
-use Rattle.address_lists.specs.declared.Address.{Address}
-use Rattle.address_lists.specs.Lexemes.{HasTokenValues, are_blank}
-use Rattle.address_lists.specs.Addresses.{address_text}
-use Rattle.address_lists.specs.Paths.{IsFirstAngled, IsPathOf, IsPath, HasPath, ReadsPaths, IsReading, in_angles}
-use Rattle.address_lists.specs.AddressLists.{MailboxValue}
+use Rattle.address_grammar.specs.declared.Address.{Address}
+use Rattle.address_grammar.specs.private.Lexemes.{HasTokenValues, are_blank}
+use Rattle.address_grammar.specs.Addresses.{address_text}
+use Rattle.address_grammar.specs.Paths.{IsFirstAngled, IsPathOf, IsPath, HasPath, ReadsPaths, IsReading, in_angles}
+use Rattle.address_grammar.specs.AddressLists.{MailboxValue}
 use Rattle.address_lists.specs.ListPieces.{served_address}
 use Rattle.address_lists.specs.PathPieces.{SaysPath, PathPieces, ServesPath}
-use Rattle.address_lists.proofs.PathLemmas.{HasTokenValues-once, HasPath-once, IsPath-once, angled_made, angles_once, no_open, no_close, something_behind, path_angles, path_of_tokens, KnownPath, no_address_path}
+use Rattle.address_grammar.proofs.PathLemmas.{HasTokenValues-once, HasPath-once, IsPath-once, angled_made, angles_once, no_open, no_close, something_behind, path_angles, path_of_tokens, KnownPath, no_address_path}
 use Rattle.address_lists.proofs.SoundPhrases.{text_comments}
 use Rattle.address_lists.proofs.WritableTokens.{text_can, front_can, behind_can, address_parts, mailbox_writable}
 use Rattle.address_lists.proofs.DecideAddresses.{Found, splits_or_lacks, decide_address}

@@ -10,16 +10,16 @@ use Rattle.field_tokens.specs.Tokens.{TokenValue}
 use Rattle.field_tokens.specs.Squeezed.{comments_of}
 use Rattle.field_tokens.specs.Comments.{CommentValue, AreWritableComments}
 use Rattle.field_tokens.proofs.CommentValues.{CommentsSay-once}
-use Rattle.address_lists.specs.Lexemes.{HasTokenValues}
-use Rattle.address_lists.specs.Phrases.{IsPhrase, phrase_items}
+use Rattle.address_grammar.specs.private.Lexemes.{HasTokenValues}
+use Rattle.address_grammar.specs.Phrases.{IsPhrase, phrase_items}
 use Rattle.address_lists.specs.PhraseLists.{IsOnePhrase, SaysPhrases, GivesOnePhrase, with_commas, PhrasesPieces}
-use Rattle.address_lists.specs.PhraseListSteps.{AddsPhrase, GivesPhrases}
-use Rattle.address_lists.specs.AddressLists.{AreDivided}
-use Rattle.address_lists.specs.Walks.{walk, SplitsPlace, IsLastPlace}
-use Rattle.address_lists.proofs.PathLemmas.{HasTokenValues-once}
-use Rattle.address_lists.proofs.MailboxLemmas.{phrase_lacks}
-use Rattle.address_lists.proofs.DividedLemmas.{Walked, SaysOnce, ReadsParts, parts_start, parts_turn, parts_end, parts_stuck, parts_stuck_last, divided_once}
-use Rattle.address_lists.proofs.ListLemmas.{walk_plain}
+use Rattle.address_lists.specs.private.PhraseListSteps.{AddsPhrase, GivesPhrases}
+use Rattle.address_grammar.specs.AddressLists.{AreDivided}
+use Rattle.address_grammar.specs.private.Walks.{walk, SplitsPlace, IsLastPlace}
+use Rattle.address_grammar.proofs.PathLemmas.{HasTokenValues-once}
+use Rattle.address_grammar.proofs.MailboxLemmas.{phrase_lacks}
+use Rattle.address_grammar.proofs.DividedLemmas.{Walked, SaysOnce, ReadsParts, parts_start, parts_turn, parts_end, parts_stuck, parts_stuck_last, divided_once}
+use Rattle.address_grammar.proofs.ListLemmas.{walk_plain}
 use Rattle.address_lists.proofs.WrittenPhrases.{PlacePieces-once}
 use Rattle.address_lists.proofs.PhraseWriting.{phrase_items-append, comments_of-append, writable_front, writable_rest}
 

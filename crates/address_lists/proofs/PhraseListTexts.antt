@@ -10,10 +10,10 @@ use Rattle.field_tokens.specs.Squeezed.{comments_of}
 use Rattle.field_tokens.specs.Comments.{CommentValue}
 use Rattle.field_tokens.proofs.CommentValues.{CommentsSay-some}
 use Rattle.field_tokens.proofs.DecideTokens.{decide_tokens}
-use Rattle.address_lists.specs.Lexemes.{are_blank}
-use Rattle.address_lists.specs.Phrases.{may_stand_in_phrase, IsPhrase, phrase_items}
+use Rattle.address_grammar.specs.private.Lexemes.{are_blank}
+use Rattle.address_grammar.specs.Phrases.{may_stand_in_phrase, IsPhrase, phrase_items}
 use Rattle.address_lists.specs.PhraseLists.{IsOnePhrase, SaysPhrases, GivesOnePhrase, with_commas, PhrasesPieces}
-use Rattle.address_lists.specs.AddressLists.{Divided, SayParts}
+use Rattle.address_grammar.specs.AddressLists.{Divided, SayParts}
 use Rattle.address_lists.proofs.DecideDivided.{Known, decide_divided}
 use Rattle.address_lists.proofs.SoundPhrases.{text_items, text_comments}
 use Rattle.address_lists.proofs.WrittenPhrases.{PlacePieces-some}

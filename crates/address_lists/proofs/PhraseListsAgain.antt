@@ -16,16 +16,16 @@ use Rattle.field_tokens.specs.Squeezed.{octets_of, is_comment, comments_of, spac
 use Rattle.field_tokens.specs.Comments.{CommentValue, CommentsSay, IsLinePiece}
 use Rattle.field_tokens.proofs.Parts.{tokens_some, AreTokens-begin, AreTokens-end, apart_begins, apart_some, apart_ends, AreTokens-apart, octets_of-tokens, comments_of-append}
 use Rattle.field_tokens.proofs.TokenLines.{ascii_line, joined_line}
-use Rattle.address_lists.specs.Lexemes.{HasTokenValues, is_special_kind, is_mark}
-use Rattle.address_lists.specs.Phrases.{IsPhrase, phrase_items}
+use Rattle.address_grammar.specs.private.Lexemes.{HasTokenValues, is_special_kind, is_mark}
+use Rattle.address_grammar.specs.Phrases.{IsPhrase, phrase_items}
 use Rattle.address_lists.specs.PhrasePieces.{PlacePieces}
-use Rattle.address_lists.specs.PhraseReadBack.{IsPhraseAgain}
+use Rattle.address_lists.specs.private.PhraseReadBack.{IsPhraseAgain}
 use Rattle.address_lists.specs.PhraseLists.{IsOnePhrase, SaysPhrases, GivesOnePhrase, with_commas, PhrasesPieces}
-use Rattle.address_lists.specs.PhraseListSteps.{ArePhrasesAgain}
-use Rattle.address_lists.specs.AddressLists.{Divided, SayParts, AreDivided}
-use Rattle.address_lists.specs.Walks.{SplitsPlace}
-use Rattle.address_lists.proofs.DividedLemmas.{divided_more, divided_one, divided_once}
-use Rattle.address_lists.proofs.PathLemmas.{HasTokenValues-once}
+use Rattle.address_lists.specs.private.PhraseListSteps.{ArePhrasesAgain}
+use Rattle.address_grammar.specs.AddressLists.{Divided, SayParts, AreDivided}
+use Rattle.address_grammar.specs.private.Walks.{SplitsPlace}
+use Rattle.address_grammar.proofs.DividedLemmas.{divided_more, divided_one, divided_once}
+use Rattle.address_grammar.proofs.PathLemmas.{HasTokenValues-once}
 use Rattle.address_lists.proofs.PlaceTokens.{HasTokenValues-part}
 use Rattle.address_lists.proofs.PhrasesAgain.{CommentsSay-append, say_both, join_same, phrase_before, units_before, PlacePieces-read}
 use Rattle.address_lists.proofs.PhraseListLemmas.{phrase_walked, says_phrase_walked, says_phrase_once, phrases_of}

@@ -14,13 +14,13 @@ use Rattle.field_tokens.specs.declared.TokenKind.TheVariants.{Atom, Quoted, Lite
 use Rattle.field_tokens.specs.Tokens.{TokenValue}
 use Rattle.field_tokens.specs.Squeezed.{is_gap, is_comment, octets_of, comments_of}
 use Rattle.field_tokens.specs.Comments.{AreWritableComments, CommentPieces, CommentsPieces, AddsPieces}
-use Rattle.address_lists.specs.declared.lexemes.Lexeme.{Lexeme}
-use Rattle.address_lists.specs.Lexemes.{is_blank_token, are_blank}
-use Rattle.address_lists.specs.Phrases.{may_stand_in_phrase, IsPhrase, phrase_items}
+use Rattle.address_grammar.specs.declared.lexemes.Lexeme.{Lexeme}
+use Rattle.address_grammar.specs.private.Lexemes.{is_blank_token, are_blank}
+use Rattle.address_grammar.specs.Phrases.{may_stand_in_phrase, IsPhrase, phrase_items}
 use Rattle.address_lists.specs.PhrasePieces.{UnitsPieces, PhrasePieces, HasCore, PlacePieces}
-use Rattle.address_lists.specs.PhraseSteps.{BeginsNoGap, EndsNoBlank, SkipsGaps, SplitsTrail}
-use Rattle.address_lists.specs.Views.{value_of, values_of}
-use Rattle.address_lists.proofs.Positions.{position_found, position_missing}
+use Rattle.address_grammar.specs.private.PhraseSteps.{BeginsNoGap, EndsNoBlank, SkipsGaps, SplitsTrail}
+use Rattle.address_grammar.specs.private.Views.{value_of, values_of}
+use Rattle.address_grammar.proofs.Positions.{position_found, position_missing}
 
 -- ---- gaps in front
 

@@ -32,12 +32,12 @@ use Rattle.field_tokens.proofs.Parts.{tokens_some, comments_of-append, comments_
 use Rattle.field_tokens.proofs.TokenLines.{comments_are_plain}
 use Rattle.field_tokens.proofs.LinePieces.{CommentsPieces-line, CommentsPieces-there}
 use Rattle.field_tokens.proofs.WrittenComments.{CommentsPieces-written}
-use Rattle.address_lists.specs.Lexemes.{HasTokenValues, is_blank_token, are_blank}
-use Rattle.address_lists.specs.Phrases.{may_stand_in_phrase, IsPhrase, phrase_items}
+use Rattle.address_grammar.specs.private.Lexemes.{HasTokenValues, is_blank_token, are_blank}
+use Rattle.address_grammar.specs.Phrases.{may_stand_in_phrase, IsPhrase, phrase_items}
 use Rattle.address_lists.specs.PhrasePieces.{UnitsPieces, PhrasePieces, HasCore, PlacePieces}
-use Rattle.address_lists.specs.PhraseReadBack.{IsPhraseAgain}
-use Rattle.address_lists.proofs.MailboxLemmas.{phrase_lacks}
-use Rattle.address_lists.proofs.PhraseReading.{blank_item}
+use Rattle.address_lists.specs.private.PhraseReadBack.{IsPhraseAgain}
+use Rattle.address_grammar.proofs.MailboxLemmas.{phrase_lacks}
+use Rattle.address_grammar.proofs.PhraseReading.{blank_item}
 use Rattle.address_lists.proofs.PhraseWriting.{phrase_core, phrase_items-append, core_comments, gaps_blank, writable_rest, CommentsPieces-append}
 use Rattle.address_lists.proofs.PlaceTokens.{HasTokenValues-part}
 use Rattle.address_lists.proofs.SoundPhrases.{text_items, text_comments, AreAtomOctets, text_atoms}

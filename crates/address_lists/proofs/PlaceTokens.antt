@@ -7,7 +7,7 @@ use Rattle.field_tokens.specs.Tokens.{TokenValue, AreTokens, IsToken, IsLine}
 use Rattle.field_tokens.specs.Squeezed.{octets_of}
 use Rattle.field_tokens.proofs.Parts.{IsToken-alike, stops_front, octets_of-tokens}
 use Rattle.field_tokens.proofs.TokenLines.{AreLineTokens, tokens_lines, line_none, line_append}
-use Rattle.address_lists.specs.Lexemes.{HasTokenValues}
+use Rattle.address_grammar.specs.private.Lexemes.{HasTokenValues}
 
 pub octets-append : (a b : List TokenValue) → octets_of (a ++ b) ≡ octets_of a ++ octets_of b
 octets-append a b = flat_map-append (λ (t : TokenValue). t.octets) a b

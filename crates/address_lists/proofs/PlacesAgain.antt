@@ -16,14 +16,14 @@ use Rattle.field_tokens.specs.Comments.{CommentValue, CommentsSay, CommentsPiece
 use Rattle.field_tokens.proofs.Parts.{AreTokens-begin, AreTokens-end, octets_of-tokens, comments_of-append}
 use Rattle.field_tokens.proofs.TokenLines.{joined_line}
 use Rattle.field_tokens.proofs.LinePieces.{list_weaker}
-use Rattle.address_lists.specs.Lexemes.{HasTokenValues, is_blank_token, is_mark, are_blank}
-use Rattle.address_lists.specs.AddressLists.{Divided, MailboxValue, IsMailbox, SayParts, AreDivided, ElementValue, One, Group, IsGroup, IsElement, SaysPlace}
+use Rattle.address_grammar.specs.private.Lexemes.{HasTokenValues, is_blank_token, is_mark, are_blank}
+use Rattle.address_grammar.specs.AddressLists.{Divided, MailboxValue, IsMailbox, SayParts, AreDivided, ElementValue, One, Group, IsGroup, IsElement, SaysPlace}
 use Rattle.address_lists.specs.ListPieces.{MailboxPieces, Bare, Angled, Named, Emptied as EmptiedMailbox, GroupPieces, Kept, Emptied as EmptiedGroup, ElementPieces, PlaceOfListPieces, with_comma, followed_by, PlacesPieces, SaysAddresses, AddressesPieces}
 use Rattle.address_lists.specs.ListReadBack.{StandsForElement, AreAddressesAgain}
-use Rattle.address_lists.proofs.ListLemmas.{place_walked, IsElement-once, element_not_blank, place_once}
-use Rattle.address_lists.proofs.DividedLemmas.{divided_once}
-use Rattle.address_lists.proofs.PathLemmas.{HasTokenValues-once}
-use Rattle.address_lists.proofs.WritingLemmas.{mark_is}
+use Rattle.address_grammar.proofs.ListLemmas.{place_walked, IsElement-once, element_not_blank, place_once}
+use Rattle.address_grammar.proofs.DividedLemmas.{divided_once}
+use Rattle.address_grammar.proofs.PathLemmas.{HasTokenValues-once}
+use Rattle.address_grammar.proofs.WritingLemmas.{mark_is}
 use Rattle.address_lists.proofs.PhraseWriting.{CommentsPieces-append}
 use Rattle.address_lists.proofs.PhrasesAgain.{CommentsSay-append, say_both}
 use Rattle.address_lists.proofs.PhraseListsAgain.{comma, lines_of}

@@ -14,12 +14,12 @@ use Rattle.field_tokens.specs.Tokens.{TokenValue}
 use Rattle.field_tokens.proofs.LinePieces.{list_weaker}
 use Rattle.ace_domains.specs.Domains.{is_atom_octet as is_name_atom_octet, IsAtom, is_name_octet, normal_form, SameDomain}
 use Rattle.ace_domains.proofs.FormLemmas.{form_own, form_name, form_domain}
-use Rattle.address_lists.specs.declared.Address.{Address}
-use Rattle.address_lists.specs.Lexemes.{is_blank_token, words_of, is_part, contents, are_dotted}
-use Rattle.address_lists.specs.Addresses.{is_domain, IsAddress, is_some_atom, is_dot_atom, quoted_octet, local_text, address_text}
+use Rattle.address_grammar.specs.declared.Address.{Address}
+use Rattle.address_grammar.specs.private.Lexemes.{is_blank_token, words_of, is_part, contents, are_dotted}
+use Rattle.address_grammar.specs.Addresses.{is_domain, IsAddress, is_some_atom, is_dot_atom, quoted_octet, local_text, address_text}
 use Rattle.address_lists.specs.ListPieces.{served_domain, with_domain, served_address}
-use Rattle.address_lists.proofs.SoundLemmas.{IsSound, sound_front, sound_rest, contents_line, contents-words}
-use Rattle.address_lists.proofs.WritingLemmas.{Writes, dotted_writes, domain_writes, words_again, dotted_tokens, dotted_shapes, dotted_again, dotted_words, dotted_contents, local_written, mark}
+use Rattle.address_grammar.proofs.SoundLemmas.{IsSound, sound_front, sound_rest, contents_line, contents-words}
+use Rattle.address_grammar.proofs.WritingLemmas.{Writes, dotted_writes, domain_writes, words_again, dotted_tokens, dotted_shapes, dotted_again, dotted_words, dotted_contents, local_written, mark}
 
 -- a served domain is the same domain
 pub served_same : (domain served : List ℕ) → served_domain domain ≡ Some served → SameDomain served domain

@@ -11,17 +11,17 @@ use Rattle.field_tokens.specs.declared.TokenKind.TheVariants.{Atom, Quoted, Lite
 use Rattle.field_tokens.specs.Tokens.{TokenValue}
 use Rattle.field_tokens.specs.Squeezed.{is_comment, octets_of, comments_of}
 use Rattle.field_tokens.specs.Comments.{CommentsPieces, AddsPieces}
-use Rattle.address_lists.specs.declared.Address.{Address}
-use Rattle.address_lists.specs.Lexemes.{is_mark, lacks, SplitsAt}
-use Rattle.address_lists.specs.Addresses.{address_text}
-use Rattle.address_lists.specs.Paths.{in_angles}
+use Rattle.address_grammar.specs.declared.Address.{Address}
+use Rattle.address_grammar.specs.private.Lexemes.{is_mark, lacks, SplitsAt}
+use Rattle.address_grammar.specs.Addresses.{address_text}
+use Rattle.address_grammar.specs.Paths.{in_angles}
 use Rattle.address_lists.specs.PhrasePieces.{HasCore, PhrasePieces}
-use Rattle.address_lists.specs.Phrases.{IsPhrase, SaysPhrase}
-use Rattle.address_lists.specs.AddressLists.{MailboxValue, IsBare, IsNamed, IsMailbox}
+use Rattle.address_grammar.specs.Phrases.{IsPhrase, SaysPhrase}
+use Rattle.address_grammar.specs.AddressLists.{MailboxValue, IsBare, IsNamed, IsMailbox}
 use Rattle.address_lists.specs.ListPieces.{served_address, mailbox_units, MailboxPieces}
-use Rattle.address_lists.specs.ListWriting.{EmptiedPieces, NamedPieces}
-use Rattle.address_lists.proofs.LexemeLemmas.{not_lacking, cut_once}
-use Rattle.address_lists.proofs.MailboxLemmas.{named_angles}
+use Rattle.address_lists.specs.private.ListWriting.{EmptiedPieces, NamedPieces}
+use Rattle.address_grammar.proofs.LexemeLemmas.{not_lacking, cut_once}
+use Rattle.address_grammar.proofs.MailboxLemmas.{named_angles}
 use Rattle.address_lists.proofs.PhraseWriting.{comments_of-append, no_comment, CommentsPieces-append}
 use Rattle.address_lists.proofs.AddedPieces.{some_behind, items_more}
 

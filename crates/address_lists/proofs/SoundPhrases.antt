@@ -12,9 +12,9 @@ use Rattle.field_tokens.specs.Tokens.{TokenValue}
 use Rattle.field_tokens.specs.Squeezed.{comments_of}
 use Rattle.field_tokens.specs.Comments.{AreWritableComments}
 use Rattle.field_tokens.proofs.TokenLines.{comments_are_writable}
-use Rattle.address_lists.specs.Lexemes.{HasTokenValues, content_of}
-use Rattle.address_lists.specs.Phrases.{item_of, phrase_items}
-use Rattle.address_lists.proofs.SoundLemmas.{Shape, IsSound, tokens_sound}
+use Rattle.address_grammar.specs.private.Lexemes.{HasTokenValues, content_of}
+use Rattle.address_grammar.specs.Phrases.{item_of, phrase_items}
+use Rattle.address_grammar.proofs.SoundLemmas.{Shape, IsSound, tokens_sound}
 
 item_utf8 : (kind : TokenKind) (octets : List ℕ) → IsUtf8 (content_of kind octets) → IsUtf8Item (item_of kind octets)
 item_utf8 Atom octets u = u

@@ -7,12 +7,12 @@ use Rattle.std.specs.List.{list_all}
 use Rattle.mail_wire.specs.Octets.{is_ascii}
 use Rattle.field_tokens.specs.Tokens.{TokenValue}
 use Rattle.field_tokens.specs.Squeezed.{is_gap, octets_of}
-use Rattle.address_lists.specs.declared.lexemes.Lexeme.{Lexeme}
-use Rattle.address_lists.specs.Lexemes.{are_blank}
-use Rattle.address_lists.specs.PhraseSteps.{SkipsGaps}
+use Rattle.address_grammar.specs.declared.lexemes.Lexeme.{Lexeme}
+use Rattle.address_grammar.specs.private.Lexemes.{are_blank}
+use Rattle.address_grammar.specs.private.PhraseSteps.{SkipsGaps}
 use Rattle.address_lists.specs.ListPieces.{HasText}
-use Rattle.address_lists.specs.ListWriting.{EndsNoGap, SplitsGaps}
-use Rattle.address_lists.specs.Views.{value_of, values_of}
+use Rattle.address_lists.specs.private.ListWriting.{EndsNoGap, SplitsGaps}
+use Rattle.address_grammar.specs.private.Views.{value_of, values_of}
 use Rattle.address_lists.proofs.PhraseWriting.{gaps_blank, blank-append}
 
 pub all_ascii_octets : (ls : List Lexeme) → list_all (λ l. list_all is_ascii l.octets.now) ls ≡ list_all is_ascii (octets_of (values_of ls))

@@ -7,15 +7,15 @@ use Rattle.std.specs.Str.{IsUtf8}
 use Rattle.encoded_words.specs.declared.units.Merging.{Merging}
 use Rattle.encoded_words.specs.Words.{UnitValue, Text, Opaque, IsEncodedWord}
 use Rattle.encoded_words.specs.Units.{with_text, merged}
-use Rattle.encoded_words.specs.Merging.{IsMerging, TakesWord, units_then, onto}
+use Rattle.encoded_words.specs.private.Merging.{IsMerging, TakesWord, units_then, onto}
 use Rattle.encoded_words.specs.Written.{AreWritable}
 use Rattle.encoded_words.proofs.BWords.{ascii_literal}
 use Rattle.encoded_words.proofs.Once.{says_once}
 use Rattle.encoded_words.proofs.Reading.{merged-onto}
-use Rattle.address_lists.specs.Addresses.{address_text}
-use Rattle.address_lists.specs.AddressLists.{MailboxValue}
+use Rattle.address_grammar.specs.Addresses.{address_text}
+use Rattle.address_grammar.specs.AddressLists.{MailboxValue}
 use Rattle.address_lists.specs.ListPieces.{mailbox_units, member_units, members_units, group_units}
-use Rattle.address_lists.specs.ListWriting.{IsWritableMailbox, AreWritableMailboxes, all_onto, TakesUnits, display_units, other_units}
+use Rattle.address_lists.specs.private.ListWriting.{IsWritableMailbox, AreWritableMailboxes, all_onto, TakesUnits, display_units, other_units}
 
 pub takes_opaque : (old new : Merging) (charset octets source : List ℕ) (encoded : Bool) → IsEncodedWord source (Opaque charset octets source) → TakesWord old new [] false source encoded → TakesUnits old new (Opaque charset octets source ∷ [])
 takes_opaque old new charset octets source encoded is t = record { units = λ us. rw (says_once source t.says (Some (Opaque charset octets source)) t.says_is is) at (t.units us) }

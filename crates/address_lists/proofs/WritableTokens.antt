@@ -12,15 +12,15 @@ use Rattle.field_tokens.specs.Tokens.{TokenValue}
 use Rattle.field_tokens.specs.Squeezed.{comments_of}
 use Rattle.field_tokens.specs.Comments.{AreWritableComments}
 use Rattle.field_tokens.proofs.TokenLines.{one_ascii}
-use Rattle.address_lists.specs.declared.Address.{Address}
-use Rattle.address_lists.specs.Lexemes.{HasTokenValues, content, contents}
-use Rattle.address_lists.specs.Addresses.{IsAddress, is_dot_atom, quoted_octet, local_text, address_text}
-use Rattle.address_lists.specs.Phrases.{phrase_items, SaysPhrase}
-use Rattle.address_lists.specs.AddressLists.{Divided, MailboxValue, IsRoutedOrNot, IsMailbox, SayParts, IsOneMailbox, AreMembers, IsGroup}
-use Rattle.address_lists.specs.ListWriting.{SaysUtf8, CanBeWritten, IsWritableMailbox, AreWritableMailboxes}
-use Rattle.address_lists.proofs.SoundLemmas.{IsSound, tokens_sound}
+use Rattle.address_grammar.specs.declared.Address.{Address}
+use Rattle.address_grammar.specs.private.Lexemes.{HasTokenValues, content, contents}
+use Rattle.address_grammar.specs.Addresses.{IsAddress, is_dot_atom, quoted_octet, local_text, address_text}
+use Rattle.address_grammar.specs.Phrases.{phrase_items, SaysPhrase}
+use Rattle.address_grammar.specs.AddressLists.{Divided, MailboxValue, IsRoutedOrNot, IsMailbox, SayParts, IsOneMailbox, AreMembers, IsGroup}
+use Rattle.address_lists.specs.private.ListWriting.{SaysUtf8, CanBeWritten, IsWritableMailbox, AreWritableMailboxes}
+use Rattle.address_grammar.proofs.SoundLemmas.{IsSound, tokens_sound}
 use Rattle.address_lists.proofs.SoundPhrases.{text_items, text_comments}
-use Rattle.address_lists.proofs.Utf8Lemmas.{quoted_utf8}
+use Rattle.address_grammar.proofs.Utf8Lemmas.{quoted_utf8}
 use Rattle.address_lists.proofs.PhraseWriting.{phrase_items-append, comments_of-append, writable_front, writable_rest}
 use Rattle.address_lists.proofs.PhraseListLemmas.{all_front, all_rest}
 

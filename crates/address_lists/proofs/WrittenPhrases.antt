@@ -14,10 +14,10 @@ use Rattle.field_tokens.specs.Tokens.{TokenValue}
 use Rattle.field_tokens.specs.Squeezed.{is_gap, octets_of, comments_of}
 use Rattle.field_tokens.specs.Comments.{CommentsPieces, AreWritableComments}
 use Rattle.field_tokens.proofs.CommentValues.{CommentsPieces-once, CommentsPieces-some}
-use Rattle.address_lists.specs.Lexemes.{is_blank_token, are_blank}
-use Rattle.address_lists.specs.Phrases.{IsPhrase, phrase_items}
+use Rattle.address_grammar.specs.private.Lexemes.{is_blank_token, are_blank}
+use Rattle.address_grammar.specs.Phrases.{IsPhrase, phrase_items}
 use Rattle.address_lists.specs.PhrasePieces.{UnitsPieces, PhrasePieces, HasCore, PlacePieces}
-use Rattle.address_lists.specs.PhraseSteps.{BeginsNoGap, SkipsGaps, SplitsTrail}
+use Rattle.address_grammar.specs.private.PhraseSteps.{BeginsNoGap, SkipsGaps, SplitsTrail}
 use Rattle.address_lists.proofs.PhraseWriting.{core_from, core_utf8, core_writable, trail_writable}
 
 -- ---- the core is one

@@ -9,12 +9,12 @@ use Rattle.ace_domains.specs.Domains.{normal_form}
 use Rattle.field_tokens.specs.Tokens.{TokenValue}
 use Rattle.field_tokens.specs.Squeezed.{is_gap, octets_of, comments_of}
 use Rattle.field_tokens.specs.Comments.{CommentValue, CommentsSay, CommentsPieces}
-use Rattle.address_lists.specs.declared.Address.{Address}
-use Rattle.address_lists.specs.Lexemes.{HasTokenValues, are_blank}
-use Rattle.address_lists.specs.Addresses.{address_text}
-use Rattle.address_lists.specs.Paths.{IsAngled, in_angles}
+use Rattle.address_grammar.specs.declared.Address.{Address}
+use Rattle.address_grammar.specs.private.Lexemes.{HasTokenValues, are_blank}
+use Rattle.address_grammar.specs.Addresses.{address_text}
+use Rattle.address_grammar.specs.Paths.{IsAngled, in_angles}
 use Rattle.address_lists.specs.PhrasePieces.{HasCore, PhrasePieces, PlacePieces}
-use Rattle.address_lists.specs.AddressLists.{AreDivided, IsOneMailbox, MailboxValue, IsBare, IsNamedBy, IsMailbox, IsGroup, ElementValue, SaysPlace}
+use Rattle.address_grammar.specs.AddressLists.{AreDivided, IsOneMailbox, MailboxValue, IsBare, IsNamedBy, IsMailbox, IsGroup, ElementValue, SaysPlace}
 
 -- ---- addresses
 

@@ -5,7 +5,7 @@ use Rattle.mail_wire.specs.Octets.{is_white}
 use Rattle.mail_wire.specs.Spans.{Stops, StopsBehind}
 use Rattle.encoded_words.specs.Words.{UnitValue}
 use Rattle.field_tokens.specs.Comments.{CommentValue, IsLinePiece}
-use Rattle.address_lists.specs.AddressLists.{MailboxValue, ElementValue, One, Group}
+use Rattle.address_grammar.specs.AddressLists.{MailboxValue, ElementValue, One, Group}
 use Rattle.address_lists.specs.ListPieces.{served_address, is_plain, mailbox_units, group_units, SaysAddresses}
 
 -- the same mailbox, with its address as it is served

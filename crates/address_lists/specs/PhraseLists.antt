@@ -5,9 +5,9 @@ use Rattle.encoded_words.specs.PhraseUnits.{HasPhraseUnits}
 use Rattle.field_tokens.specs.Tokens.{TokenValue}
 use Rattle.field_tokens.specs.Squeezed.{comments_of}
 use Rattle.field_tokens.specs.Comments.{CommentValue, CommentsSay}
-use Rattle.address_lists.specs.Lexemes.{HasTokenValues}
-use Rattle.address_lists.specs.AddressLists.{AreDivided}
-use Rattle.address_lists.specs.Phrases.{IsPhrase, phrase_items}
+use Rattle.address_grammar.specs.private.Lexemes.{HasTokenValues}
+use Rattle.address_grammar.specs.AddressLists.{AreDivided}
+use Rattle.address_grammar.specs.Phrases.{IsPhrase, phrase_items}
 use Rattle.address_lists.specs.PhrasePieces.{PlacePieces}
 
 -- the tokens are one phrase, with these units

@@ -8,8 +8,8 @@ use Rattle.encoded_words.specs.Written.{WriteAll}
 use Rattle.field_tokens.specs.Tokens.{TokenValue}
 use Rattle.field_tokens.specs.Squeezed.{is_gap, octets_of, comments_of}
 use Rattle.field_tokens.specs.Comments.{CommentsPieces}
-use Rattle.address_lists.specs.Lexemes.{is_blank_token, are_blank}
-use Rattle.address_lists.specs.Phrases.{phrase_items}
+use Rattle.address_grammar.specs.private.Lexemes.{is_blank_token, are_blank}
+use Rattle.address_grammar.specs.Phrases.{phrase_items}
 
 -- A phrase is never empty, so no units are written as an empty quoted string.
 abbrev pub UnitsPieces : List UnitValue → List (List ℕ) → Type 0

@@ -4,15 +4,14 @@ ghost use Rattle.std.specs.List.{list_all};
 ghost use Rattle.mail_wire.specs.Octets.{is_ascii as is_ascii_octet};
 ghost use Rattle.field_tokens.specs.Comments.{AddsPieces};
 ghost use Rattle.field_tokens.specs.Squeezed.{octets_of};
-ghost use Rattle.address_lists.specs.Lexemes.{are_blank};
+ghost use Rattle.address_grammar.specs.private.Lexemes.{are_blank};
 ghost use Rattle.address_lists.specs.ListPieces.{HasText, with_comma};
-ghost use Rattle.address_lists.specs.ListWriting.{SplitsGaps, AsciiPieces};
-ghost use Rattle.address_lists.specs.Views.{values_of};
+ghost use Rattle.address_lists.specs.private.ListWriting.{SplitsGaps, AsciiPieces};
+ghost use Rattle.address_grammar.specs.private.Views.{values_of};
 
-use crate::lexemes::Lexeme;
 use crate::writing::{behind_gaps, is_gap, joined};
-use mail_wire::text::is_ascii;
-use mail_wire::values::{Memory, Octets};
+use address_grammar::Lexeme;
+use mail_wire::{Memory, Octets, is_ascii};
 use std::alloc::Global;
 
 fn all_ascii(lexemes: &[Lexeme<'_>]) -> bool

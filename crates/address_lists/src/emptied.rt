@@ -1,24 +1,20 @@
 //! What stands in place of addresses that can't be served.
 ghost use Rattle.std.specs.Prelude.{◌≡◌, ◌∷◌, [], IfOk, OnOk};
 ghost use Rattle.encoded_words.specs.Words.{Text};
-ghost use Rattle.encoded_words.specs.Values.{value_of};
+ghost use Rattle.encoded_words.specs.private.Values.{value_of};
 ghost use Rattle.encoded_words.specs.Written.{IsWritable, AreWritable};
 ghost use Rattle.field_tokens.specs.Comments.{AreWritableComments, AddsPieces};
 ghost use Rattle.field_tokens.specs.Squeezed.{comments_of};
-ghost use Rattle.address_lists.specs.Addresses.{address_text};
+ghost use Rattle.address_grammar.specs.Addresses.{address_text};
 ghost use Rattle.address_lists.specs.ListPieces.{mailbox_units as mailbox_units_of, member_units, members_units, group_units as group_units_of};
-ghost use Rattle.address_lists.specs.ListWriting.{TakesUnits, display_units, other_units, AreWritableMailboxes, EmptiedPieces};
-ghost use Rattle.address_lists.specs.Views.{values_of};
-ghost use Rattle.address_lists.specs.ListViews.{unit_values, mailbox_value, mailbox_values};
+ghost use Rattle.address_lists.specs.private.ListWriting.{TakesUnits, display_units, other_units, AreWritableMailboxes, EmptiedPieces};
+ghost use Rattle.address_grammar.specs.private.Views.{values_of};
+ghost use Rattle.address_grammar.specs.private.ListViews.{unit_values, mailbox_value, mailbox_values};
 
-use crate::lexemes::Lexeme;
-use crate::paths::push_address;
 use crate::writing::write_comments;
-use crate::{Address, Mailbox};
-use encoded_words::Unit;
-use encoded_words::units::Merging;
-use encoded_words::writing::write_units;
-use mail_wire::values::{Memory, Octets};
+use address_grammar::{Address, Lexeme, Mailbox, push_address};
+use encoded_words::{Merging, Unit, write_units};
+use mail_wire::{Memory, Octets};
 use std::alloc::Global;
 
 fn push_text(units: &mut Merging, text: &[u8]) -> Result<(), Memory>

@@ -2,17 +2,17 @@
 ghost use Rattle.std.specs.Prelude.{◌≡◌, ℕ, ◌⊎◌, false, List, Option, Some, IsUtf8};
 ghost use Rattle.std.specs.List.{list_all};
 ghost use Rattle.mail_wire.specs.Octets.{is_ascii};
-ghost use Rattle.address_lists.specs.Paths.{HasPath, ReadsPaths};
+ghost use Rattle.address_grammar.specs.Paths.{HasPath, ReadsPaths};
 ghost use Rattle.encoded_words.specs.Words.{UnitValue};
 ghost use Rattle.field_tokens.specs.Comments.{CommentValue};
 ghost use Rattle.field_tokens.specs.Trees.{Tree};
 ghost use Rattle.address_lists.specs.PhraseLists.{SaysPhrases, PhrasesPieces};
-ghost use Rattle.address_lists.specs.PhraseListSteps.{ArePhrasesAgain};
-ghost use Rattle.address_lists.specs.AddressLists.{ElementValue, HasAddresses};
+ghost use Rattle.address_lists.specs.private.PhraseListSteps.{ArePhrasesAgain};
+ghost use Rattle.address_grammar.specs.AddressLists.{ElementValue, HasAddresses};
 ghost use Rattle.address_lists.specs.ListPieces.{served_address, SaysAddresses, AddressesPieces};
 ghost use Rattle.address_lists.specs.ListReadBack.{AreAddressesAgain};
 ghost use Rattle.address_lists.specs.PathPieces.{SaysPath, PathPieces, IsPathAgain};
-ghost use Rattle.address_lists.specs.declared.Address.{Address};
+ghost use Rattle.address_grammar.specs.declared.Address.{Address};
 
 /// A text is the path of one address at most, or of none.
 pub fn paths_are_one()

@@ -5,18 +5,15 @@ ghost use Rattle.encoded_words.specs.Words.{UnitValue};
 ghost use Rattle.encoded_words.specs.PhraseUnits.{IsUtf8Item};
 ghost use Rattle.field_tokens.specs.Comments.{CommentValue, AreWritableComments};
 ghost use Rattle.field_tokens.specs.Squeezed.{comments_of};
-ghost use Rattle.address_lists.specs.AddressLists.{AreDivided};
-ghost use Rattle.address_lists.specs.Phrases.{IsPhrase, phrase_items};
+ghost use Rattle.address_grammar.specs.AddressLists.{AreDivided};
+ghost use Rattle.address_grammar.specs.Phrases.{IsPhrase, phrase_items};
 ghost use Rattle.address_lists.specs.PhraseLists.{IsOnePhrase, SaysPhrases, PhrasesPieces};
-ghost use Rattle.address_lists.specs.PhraseListSteps.{AddsPhrase, GivesPhrases};
-ghost use Rattle.address_lists.specs.Views.{values_of};
+ghost use Rattle.address_lists.specs.private.PhraseListSteps.{AddsPhrase, GivesPhrases};
+ghost use Rattle.address_grammar.specs.private.Views.{values_of};
 
-use crate::AddressFault;
-use crate::lexemes::{Lexeme, read_lexemes};
-use crate::phrases::is_phrase;
-use crate::places::find_comma;
 use crate::writing::write_phrase;
-use mail_wire::values::{Memory, Octets};
+use address_grammar::{AddressFault, Lexeme, find_comma, is_phrase, read_lexemes};
+use mail_wire::{Memory, Octets};
 use std::alloc::Global;
 
 // Puts the pieces of the phrase in a place last.

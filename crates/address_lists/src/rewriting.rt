@@ -4,22 +4,22 @@ ghost use Rattle.std.specs.List.{list_all, list_any};
 ghost use Rattle.mail_wire.specs.Octets.{is_ascii};
 ghost use Rattle.field_tokens.specs.Comments.{CommentValue, AddsPieces};
 ghost use Rattle.field_tokens.specs.Squeezed.{octets_of};
-ghost use Rattle.address_lists.specs.Lexemes.{are_blank as are_blank_of};
-ghost use Rattle.address_lists.specs.AddressLists.{ElementValue, AreDivided, IsElement, SaysPlace};
+ghost use Rattle.address_grammar.specs.private.Lexemes.{are_blank as are_blank_of};
+ghost use Rattle.address_grammar.specs.AddressLists.{ElementValue, AreDivided, IsElement, SaysPlace};
 ghost use Rattle.address_lists.specs.ListPieces.{ElementPieces, SaysAddresses, AddressesPieces};
-ghost use Rattle.address_lists.specs.ListWriting.{CanBeWritten, is_element_token, GivesPlace, GivesFollowed, GivesPlaces};
-ghost use Rattle.address_lists.specs.Views.{value_of, values_of};
-ghost use Rattle.address_lists.specs.ListViews.{element_value};
+ghost use Rattle.address_lists.specs.private.ListWriting.{CanBeWritten, is_element_token, GivesPlace, GivesFollowed, GivesPlaces};
+ghost use Rattle.address_grammar.specs.private.Views.{value_of, values_of};
+ghost use Rattle.address_grammar.specs.private.ListViews.{element_value};
 
 use crate::ascii_texts::{are_ascii, push_comma, write_text};
-use crate::lexemes::{Lexeme, are_blank, is_blank, is_mark, read_lexemes};
-use crate::lists::read_element;
-use crate::places::find_comma;
 use crate::writing::write_comments;
 use crate::written_groups::write_group;
 use crate::written_mailboxes::write_mailbox;
-use crate::{AddressFault, Element};
-use mail_wire::values::{Memory, Octets};
+use address_grammar::{
+    AddressFault, Element, Lexeme, are_blank, find_comma, is_blank, is_mark, read_element,
+    read_lexemes,
+};
+use mail_wire::{Memory, Octets};
 use std::alloc::Global;
 
 // Puts the pieces of an element last.

@@ -2,12 +2,11 @@
 ghost use Rattle.std.specs.Prelude.{◌≡◌, IfOk, OnOk, IsUtf8};
 ghost use Rattle.std.specs.List.{list_all};
 ghost use Rattle.address_lists.specs.ListPieces.{served_domain as served_domain_of, served_address, is_plain};
-ghost use Rattle.address_lists.specs.ListWriting.{AreWritableMailboxes};
-ghost use Rattle.address_lists.specs.ListViews.{mailbox_values};
+ghost use Rattle.address_lists.specs.private.ListWriting.{AreWritableMailboxes};
+ghost use Rattle.address_grammar.specs.private.ListViews.{mailbox_values};
 
-use crate::{Address, Mailbox};
-use mail_wire::text::is_ascii;
-use mail_wire::values::{Memory, Octets};
+use address_grammar::{Address, Mailbox};
+use mail_wire::{Memory, Octets, is_ascii};
 use std::alloc::Global;
 
 fn served_domain(alloc: Global, domain: &[u8]) -> Result<Option<Octets>, Memory>

@@ -1,17 +1,15 @@
 //! The rewriting of paths.
 ghost use Rattle.std.specs.Prelude.{ℕ, List, IfOk, IfSome, IfNone};
-ghost use Rattle.address_lists.specs.Lexemes.{HasTokenValues};
+ghost use Rattle.address_grammar.specs.private.Lexemes.{HasTokenValues};
 ghost use Rattle.address_lists.specs.PathPieces.{PathPieces, ServesPath, HasSomeTokens};
-ghost use Rattle.address_lists.specs.Views.{values_of};
-ghost use Rattle.address_lists.specs.declared.Address.{Address};
+ghost use Rattle.address_grammar.specs.private.Views.{values_of};
+ghost use Rattle.address_grammar.specs.declared.Address.{Address};
 
-use crate::lexemes::{Lexeme, read_lexemes};
-use crate::paths::read_path;
 use crate::served::served;
 use crate::writing::write_comments;
 use crate::written_mailboxes::push_angled;
-use crate::{Address, AddressFault};
-use mail_wire::values::{Memory, Octets};
+use address_grammar::{Address, AddressFault, Lexeme, read_lexemes, read_path};
+use mail_wire::{Memory, Octets};
 use std::alloc::Global;
 
 // The address of a path, as it is served.

@@ -6,20 +6,16 @@ ghost use Rattle.encoded_words.specs.PhraseUnits.{IsUtf8Item};
 ghost use Rattle.encoded_words.specs.Written.{AreWritable};
 ghost use Rattle.field_tokens.specs.Comments.{AreWritableComments, CommentsPieces, AddsPieces};
 ghost use Rattle.field_tokens.specs.Squeezed.{is_gap as is_gap_kind, octets_of, comments_of};
-ghost use Rattle.address_lists.specs.Phrases.{IsPhrase, phrase_items};
+ghost use Rattle.address_grammar.specs.Phrases.{IsPhrase, phrase_items};
 ghost use Rattle.address_lists.specs.PhrasePieces.{UnitsPieces, PhrasePieces, HasCore, PlacePieces};
-ghost use Rattle.address_lists.specs.PhraseSteps.{SkipsGaps, SplitsTrail};
-ghost use Rattle.address_lists.specs.Views.{value_of, values_of};
-ghost use Rattle.address_lists.specs.ListViews.{unit_values};
+ghost use Rattle.address_grammar.specs.private.PhraseSteps.{SkipsGaps, SplitsTrail};
+ghost use Rattle.address_grammar.specs.private.Views.{value_of, values_of};
+ghost use Rattle.address_grammar.specs.private.ListViews.{unit_values};
 
-use crate::lexemes::{Lexeme, is_blank};
-use crate::phrases::read_phrase;
-use encoded_words::Unit;
-use encoded_words::writing::write_units;
-use field_tokens::comments::write_comment;
-use field_tokens::{TokenKind, is_comment};
-use mail_wire::text::is_ascii;
-use mail_wire::values::{Memory, Octets};
+use address_grammar::{Lexeme, is_blank, read_phrase};
+use encoded_words::{Unit, write_units};
+use field_tokens::{TokenKind, is_comment, write_comment};
+use mail_wire::{Memory, Octets, is_ascii};
 use std::alloc::Global;
 
 pub(crate) fn is_gap(lexeme: Lexeme<'_>) -> bool

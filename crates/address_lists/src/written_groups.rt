@@ -1,23 +1,22 @@
 //! The writer of groups.
 ghost use Rattle.std.specs.Prelude.{◌≡◌, ◌∷◌, ◌++◌, [], IfOk, OnOk};
 ghost use Rattle.field_tokens.specs.Comments.{AddsPieces};
-ghost use Rattle.address_lists.specs.AddressLists.{IsMailbox, IsGroup};
+ghost use Rattle.address_grammar.specs.AddressLists.{IsMailbox, IsGroup};
 ghost use Rattle.address_lists.specs.ListPieces.{InnerPieces, GroupPieces};
-ghost use Rattle.address_lists.specs.ListWriting.{CanBeWritten, IsPlainGroup, IsSomeMailbox, AreSomeMailboxes, AreSomeMembers, GivesMember, GivesMembers};
-ghost use Rattle.address_lists.specs.Views.{values_of};
-ghost use Rattle.address_lists.specs.ListViews.{unit_values, mailbox_value, mailbox_values};
+ghost use Rattle.address_lists.specs.private.ListWriting.{CanBeWritten, IsPlainGroup, IsSomeMailbox, AreSomeMailboxes, AreSomeMembers, GivesMember, GivesMembers};
+ghost use Rattle.address_grammar.specs.private.Views.{values_of};
+ghost use Rattle.address_grammar.specs.private.ListViews.{unit_values, mailbox_value, mailbox_values};
 
 use crate::ascii_texts::{are_ascii, push_comma, write_text};
 use crate::emptied::{group_units, write_emptied};
-use crate::lexemes::{Lexeme, are_blank, split_at_mark};
-use crate::mailboxes::read_mailbox;
-use crate::places::find_comma;
 use crate::served::are_plain;
 use crate::writing::{write_comments, write_phrase};
 use crate::written_mailboxes::write_mailbox;
-use crate::{AddressFault, Mailbox};
+use address_grammar::{
+    AddressFault, Lexeme, Mailbox, are_blank, find_comma, read_mailbox, split_at_mark,
+};
 use encoded_words::Unit;
-use mail_wire::values::{Memory, Octets};
+use mail_wire::{Memory, Octets};
 use std::alloc::Global;
 
 // The mailbox that tokens are, which are known to be one.

@@ -1,22 +1,20 @@
 //! The writer of mailboxes.
 ghost use Rattle.std.specs.Prelude.{◌≡◌, ◌∷◌, ◌++◌, [], Some, OnOk};
 ghost use Rattle.field_tokens.specs.Comments.{AddsPieces};
-ghost use Rattle.address_lists.specs.Addresses.{address_text};
-ghost use Rattle.address_lists.specs.Paths.{in_angles};
-ghost use Rattle.address_lists.specs.Phrases.{IsPhrase};
-ghost use Rattle.address_lists.specs.AddressLists.{IsNamed, IsMailbox};
+ghost use Rattle.address_grammar.specs.Addresses.{address_text};
+ghost use Rattle.address_grammar.specs.Paths.{in_angles};
+ghost use Rattle.address_grammar.specs.Phrases.{IsPhrase};
+ghost use Rattle.address_grammar.specs.AddressLists.{IsNamed, IsMailbox};
 ghost use Rattle.address_lists.specs.ListPieces.{served_address, MailboxPieces};
-ghost use Rattle.address_lists.specs.ListWriting.{CanBeWritten, NamedPieces};
-ghost use Rattle.address_lists.specs.Views.{values_of};
-ghost use Rattle.address_lists.specs.ListViews.{mailbox_value};
+ghost use Rattle.address_lists.specs.private.ListWriting.{CanBeWritten, NamedPieces};
+ghost use Rattle.address_grammar.specs.private.Views.{values_of};
+ghost use Rattle.address_grammar.specs.private.ListViews.{mailbox_value};
 
 use crate::emptied::{mailbox_units, write_emptied};
-use crate::lexemes::{Lexeme, split_at_mark};
-use crate::paths::push_address;
 use crate::served::served;
 use crate::writing::{push_core, split_core, write_comments};
-use crate::{Address, Mailbox};
-use mail_wire::values::{Memory, Octets};
+use address_grammar::{Address, Lexeme, Mailbox, push_address, split_at_mark};
+use mail_wire::{Memory, Octets};
 use std::alloc::Global;
 
 fn push_bare(alloc: Global, address: &Address, pieces: &mut Vec<Octets>) -> Result<(), Memory>

@@ -1,7 +1,7 @@
 //! Texts and the pieces that they are written in.
-use address_lists::phrase_lists::rewrite_phrases;
-use address_lists::{AddressFault, rewrite_list, rewrite_path};
-use mail_wire::values::Octets;
+use address_grammar::AddressFault;
+use address_lists::{rewrite_list, rewrite_path, rewrite_phrases};
+use mail_wire::Octets;
 use std::test::Fail;
 
 fn are(pieces: &[Octets], wanted: &[&str]) -> bool {

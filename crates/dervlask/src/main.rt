@@ -1,24 +1,13 @@
 //! The program: the words of the command line over standard input, standard output and the journal `mail.journal`.
 #![tactic(auto)]
 
-use mail_command::command::run;
-use mail_wire::clock::SystemClock;
-use mail_wire::edge::{StdWire, WireFailure};
-use mail_wire::file_keeper::FileKeeper;
-use mail_wire::values::Memory;
-use mail_wire::words::Words;
+use mail_command::{KEEPER_FAULT, WANT_OF_MEMORY, WIRE_FAULT, run};
+use mail_wire::{FileKeeper, Memory, StdWire, SystemClock, WireFailure, Words};
 use std::alloc::{Alloc, Global};
 use std::env::{self, Env};
 use std::fs::{File, Files, OpenOptions};
 use std::io::{self, Eprint, Read, Write};
 use std::process::ExitCode;
-
-/// The statuses of a program that something outside of it failed.
-const WIRE_FAULT: u8 = 1;
-
-const KEEPER_FAULT: u8 = 2;
-
-const WANT_OF_MEMORY: u8 = 3;
 
 /// The journal, in the current folder.
 const JOURNAL: &str = "mail.journal";

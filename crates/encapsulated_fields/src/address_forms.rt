@@ -7,10 +7,10 @@ ghost use Rattle.mail_wire.specs.Octets.{is_ascii};
 ghost use Rattle.encapsulated_fields.specs.AddressForms.{upper_digit, digit_at, leading_digit, hexadecimal, escape_of, is_plain as is_plain_char, xtext_char, unitext_char, xtext_form, unitext_form};
 ghost use Rattle.encapsulated_fields.specs.Xtext.{ReadsAs};
 
-use mail_wire::values::{Memory, Octets};
+use mail_wire::{Memory, Octets};
 use std::alloc::Global;
 
-/// An upper-case hexadecimal digit.
+// An upper-case hexadecimal digit.
 fn upper_digit(digit: u8) -> u8
     requires { digit < 16 }
     ensures { result ≡ upper_digit digit }
@@ -21,7 +21,7 @@ fn upper_digit(digit: u8) -> u8
     }
 }
 
-/// Puts the digit at the place of this weight last.
+// Puts the digit at the place of this weight last.
 fn push_digit(made: &mut Octets, weight: u32, number: u32) -> Result<(), Memory>
     requires { 0 < weight }
     ensures { OnOk result (made.new ≡ made.old ++ digit_at weight number ∷ []) }
@@ -29,7 +29,7 @@ fn push_digit(made: &mut Octets, weight: u32, number: u32) -> Result<(), Memory>
     made.push(upper_digit((number / weight % 16) as u8))
 }
 
-/// Puts that digit last where it is no leading zero.
+// Puts that digit last where it is no leading zero.
 fn push_leading(made: &mut Octets, weight: u32, number: u32) -> Result<(), Memory>
     requires { 0 < weight }
     ensures { OnOk result (made.new ≡ made.old ++ leading_digit weight number) }
@@ -40,7 +40,7 @@ fn push_leading(made: &mut Octets, weight: u32, number: u32) -> Result<(), Memor
     push_digit(made, weight, number)
 }
 
-/// Puts the number of a character last.
+// Puts the number of a character last.
 fn push_hexadecimal(made: &mut Octets, number: u32) -> Result<(), Memory>
     ensures { OnOk result (made.new ≡ made.old ++ hexadecimal number) }
 {
@@ -52,7 +52,7 @@ fn push_hexadecimal(made: &mut Octets, number: u32) -> Result<(), Memory>
     push_digit(made, 1, number)
 }
 
-/// Puts a character last by its number.
+// Puts a character last by its number.
 fn push_escape(made: &mut Octets, character: char) -> Result<(), Memory>
     ensures { OnOk result (made.new ≡ made.old ++ escape_of character) }
 {
@@ -68,7 +68,7 @@ pub(crate) fn push_char(made: &mut Octets, character: char) -> Result<(), Memory
     made.push_slice(character.encode_utf8(&mut [0; 4]).as_bytes())
 }
 
-/// Whether a character stands for itself in both forms.
+// Whether a character stands for itself in both forms.
 fn is_plain(character: char) -> bool
     ensures { result ≡ is_plain_char character }
 {
@@ -76,7 +76,7 @@ fn is_plain(character: char) -> bool
     is_visible && !(character == '+' || character == '=' || character == '\\')
 }
 
-/// Puts what a character gives in the ASCII form last.
+// Puts what a character gives in the ASCII form last.
 fn push_xtext(made: &mut Octets, character: char) -> Result<(), Memory>
     ensures { OnOk result (made.new ≡ made.old ++ xtext_char character) }
 {
@@ -87,7 +87,7 @@ fn push_xtext(made: &mut Octets, character: char) -> Result<(), Memory>
     }
 }
 
-/// Puts what a character gives in the UTF-8 form last.
+// Puts what a character gives in the UTF-8 form last.
 fn push_unitext(made: &mut Octets, character: char) -> Result<(), Memory>
     ensures { OnOk result (made.new ≡ made.old ++ unitext_char character) }
 {

@@ -7,7 +7,7 @@ ghost use Rattle.encoded_words.specs.Words.{Text};
 ghost use Rattle.encapsulated_fields.specs.Encapsulated.{IsFieldName, downgraded_name, Encapsulates, FieldSays};
 
 use encoded_words::push_words;
-use mail_wire::values::{Memory, Octets};
+use mail_wire::{Memory, Octets};
 use std::alloc::Global;
 
 /// The field that keeps a value where a field of this name can't: `Downgraded-` before its name, and the value as B words,

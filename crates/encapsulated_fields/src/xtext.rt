@@ -7,10 +7,10 @@ ghost use Rattle.mail_wire.specs.Spans.{IsSpan};
 ghost use Rattle.encapsulated_fields.specs.Xtext.{is_hex_digit, hex_value, ReadsAs, BeginsWith, BeginsEscape, AreDigits};
 
 use crate::address_forms::push_char;
-use mail_wire::values::{Memory, Octets};
+use mail_wire::{Memory, Octets};
 use std::alloc::Global;
 
-/// The value of a digit or a letter, and 36 of any other octet.
+// The value of a digit or a letter, and 36 of any other octet.
 fn digit_value(octet: u8) -> u8
     ensures { result ≡ digit_value octet }
 {
@@ -22,14 +22,14 @@ fn digit_value(octet: u8) -> u8
     }
 }
 
-/// The place of the first octet that is no hexadecimal digit.
+// The place of the first octet that is no hexadecimal digit.
 fn find_other(octets: &[u8]) -> Option<usize>
     ensures { result ≡ position (λ x. not (is_hex_digit x)) octets.now }
 {
     octets.iter().position(|octet| digit_value(*octet) >= 16)
 }
 
-/// The longest front of hexadecimal digits, and what follows it.
+// The longest front of hexadecimal digits, and what follows it.
 fn split_digits(octets: &[u8]) -> (&[u8], &[u8])
     ensures { IsSpan is_hex_digit octets.now result.0.now result.1.now }
 {
@@ -39,7 +39,7 @@ fn split_digits(octets: &[u8]) -> (&[u8], &[u8])
     }
 }
 
-/// The number that hexadecimal digits write.
+// The number that hexadecimal digits write.
 fn hex_value(digits: &[u8]) -> u32
     requires hex { list_all is_hex_digit digits.now ≡ true }
     requires most { length digits.now ≤ 6 }
@@ -52,7 +52,7 @@ fn hex_value(digits: &[u8]) -> u32
     number
 }
 
-/// The character that the digits of an escape name.
+// The character that the digits of an escape name.
 fn named(digits: &[u8]) -> Option<char>
     requires { list_all is_hex_digit digits.now ≡ true }
     ensures found { IfSome result (λ c. AreDigits digits.now × (c ≡ hex_value digits.now)) }
@@ -64,7 +64,7 @@ fn named(digits: &[u8]) -> Option<char>
     char::from_u32(hex_value(digits))
 }
 
-/// What follows `x{`.
+// What follows `x{`.
 fn behind_mark(text: &[u8]) -> Option<&[u8]>
     ensures found { IfSome result (λ rest. text.now ≡ 120 ∷ 123 ∷ rest.now) }
     ensures none { IfNone result ((rest : List ℕ) → text.now ≢ 120 ∷ 123 ∷ rest) }
@@ -75,7 +75,7 @@ fn behind_mark(text: &[u8]) -> Option<&[u8]>
     }
 }
 
-/// What follows `}`.
+// What follows `}`.
 fn behind_brace(text: &[u8]) -> Option<&[u8]>
     ensures found { IfSome result (λ rest. text.now ≡ 125 ∷ rest.now) }
     ensures none { IfNone result ((rest : List ℕ) → text.now ≢ 125 ∷ rest) }
@@ -86,7 +86,7 @@ fn behind_brace(text: &[u8]) -> Option<&[u8]>
     }
 }
 
-/// The character of an escape, of which the backslash was read, and what follows it.
+// The character of an escape, of which the backslash was read, and what follows it.
 fn first_escape(text: &[u8]) -> Option<(char, &[u8])>
     ensures found { IfSome result (λ x. BeginsEscape text.now x.0 x.1.now) }
     ensures none { IfNone result ((character : ℕ) (rest : List ℕ) → ¬ BeginsEscape text.now character rest) }
@@ -104,7 +104,7 @@ fn first_escape(text: &[u8]) -> Option<(char, &[u8])>
     }
 }
 
-/// The first character of a text, and what follows it.
+// The first character of a text, and what follows it.
 fn split_char(text: &str) -> Option<(char, &str)>
     ensures first { IfSome result (λ x. IsScalar x.0 × (text.now ≡ encode_utf8 x.0 ++ x.1.now)) }
     ensures none { IfNone result (length text.now ≡ 0) }
@@ -116,7 +116,7 @@ fn split_char(text: &str) -> Option<(char, &str)>
     }
 }
 
-/// The character that a text begins with, and what follows it.
+// The character that a text begins with, and what follows it.
 fn first_item(text: &str) -> Option<(char, &str)>
     ensures found { IfSome result (λ x. BeginsWith text.now x.0 x.1.now) }
     ensures none { IfNone result ((character : ℕ) (rest : List ℕ) → ¬ BeginsWith text.now character rest) }

@@ -2,7 +2,7 @@
 use Rattle.std.proofs.Common.{◌≡◌, ℕ, ◌+◌, ◌<◌, ◌≤◌, List, [], ◌∷◌, ◌++◌, length, get_or, take, drop, map, refl, sym, ap, ◌∙◌, subst}
 use Rattle.std.proofs.lemmas.List.{append_assoc, append-nil, map-append, take_more, take_all, drop_more}
 use Rattle.encoded_words.specs.declared.Unit.{Unit as CodeUnit}
-use Rattle.encoded_words.specs.Values.{value_of}
+use Rattle.encoded_words.specs.private.Values.{value_of}
 use Rattle.encoded_words.specs.Words.{UnitValue, Text, Opaque}
 use Rattle.encoded_words.specs.Pieces.{AddsBWords}
 use Rattle.encoded_words.specs.Written.{Writes, WriteAll, IsWritable, AreWritable, AddsUnits}

@@ -10,8 +10,8 @@ use Rattle.mail_wire.specs.Spans.{Stops, IsSpan}
 use Rattle.encoded_words.specs.Words.{UnitValue, Text, SaysWhere}
 use Rattle.encoded_words.specs.Units.{raw_units, merged, with_text, word_unit, begins_encoded, run_text}
 use Rattle.encoded_words.specs.CommentUnits.{TextItem, Plain, Pair, AreTextItems, item_spelling, item_octet, has_backslash, is_white_item, CommentWord, IsCommentWord, word_items, ItemsDivide, AreCommentWords, comment_place, comment_places, HasCommentUnits}
-use Rattle.encoded_words.specs.Merging.{IsMerging, TakesWord, done_values, units_then, onto}
-use Rattle.encoded_words.specs.CommentReading.{BeginsWith, BeginsItem, BeginsBlack, SplitsWord, GivesOctets, TakesCommentWord}
+use Rattle.encoded_words.specs.private.Merging.{IsMerging, TakesWord, done_values, units_then, onto}
+use Rattle.encoded_words.specs.private.CommentReading.{BeginsWith, BeginsItem, BeginsBlack, SplitsWord, GivesOctets, TakesCommentWord}
 use Rattle.encoded_words.specs.Written.{has_no_backslash}
 use Rattle.encoded_words.proofs.CommentLemmas.{items_once}
 use Rattle.encoded_words.proofs.PlainItems.{plain_octets, plain_spelling, plain_items, plain_before, plain_no_backslash, plain_white, white_no_backslash}

@@ -10,7 +10,7 @@ use Rattle.std.proofs.lemmas.List.Sums.{fails_before_first}
 use Rattle.std.specs.Prelude.{IfSome}
 use Rattle.std.specs.List.{list_all, position_or_len}
 use Rattle.encoded_words.specs.Words.{WordParts, HasParts, word_of, IsName, language_suffix, is_name_octet}
-use Rattle.encoded_words.specs.Parts.{lacks, wrapped, IsNamed}
+use Rattle.encoded_words.specs.private.Parts.{lacks, wrapped, IsNamed}
 use Rattle.encoded_words.proofs.Octets.{all_append}
 
 -- no such octet at any place

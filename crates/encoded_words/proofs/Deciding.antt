@@ -9,7 +9,7 @@ use Rattle.base64.specs.GeneralPurpose.{IsBytes, encode_of, decode_of}
 use Rattle.base64.proofs.EngineFacts.{decode_of-encode_of}
 use Rattle.mail_wire.proofs.SpanLemmas.{all_from_places}
 use Rattle.encoded_words.specs.Words.{WordParts, HasParts, IsName, IsWordText, IsBText, QItem, Space, Escape, Plain, IsQItem, q_spelling, q_octet, IsQText, IsTextOf, UnitValue, Says, SaysWhere, language_suffix, is_name_octet, is_text_octet, unit_of}
-use Rattle.encoded_words.specs.Parts.{lacks, wrapped, IsNamed}
+use Rattle.encoded_words.specs.private.Parts.{lacks, wrapped, IsNamed}
 use Rattle.encoded_words.proofs.Cuts.{position_found, position_missing, not_lacking, name_of, inner_of, wrapped_word, word_of-wrapped, inner_is, name_is, named_from, IsNamed-once, HasParts-once}
 use Rattle.encoded_words.proofs.QText.{item_once, no_items}
 use Rattle.encoded_words.proofs.Octets.{is_byte, IsBytes-from_all}

@@ -8,7 +8,7 @@ use Rattle.encoded_words.specs.Words.{UnitValue, Text, Opaque, Says}
 use Rattle.encoded_words.specs.Units.{Place, IsPlace, ArePlaces, Divides, HasUnits, place_octets, raw_units, merged, with_text, word_unit, begins_encoded, run_text}
 use Rattle.mail_wire.specs.Octets.{is_white, is_black}
 use Rattle.mail_wire.specs.Spans.{Stops, IsSpan}
-use Rattle.encoded_words.specs.Merging.{IsMerging, Adds, TakesWord, done_values, units_then, onto}
+use Rattle.encoded_words.specs.private.Merging.{IsMerging, Adds, TakesWord, done_values, units_then, onto}
 use Rattle.encoded_words.proofs.WithText.{with_text-append}
 
 with_text-opaque : (bs charset octets source : List ℕ) (us : List UnitValue) → with_text bs (Opaque charset octets source ∷ us) ≡ with_text bs [] ++ Opaque charset octets source ∷ us

@@ -1,12 +1,9 @@
 pub mod Words
 pub mod Units
 pub mod CommentUnits
-pub mod CommentReading
 pub mod Contexts
 pub mod PhraseUnits
 pub mod Pieces
 pub mod Folding
 pub mod Written
-pub mod Parts
-pub mod Values
-pub mod Merging
+pub mod private

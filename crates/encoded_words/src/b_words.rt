@@ -5,7 +5,7 @@ ghost use Rattle.encoded_words.specs.Pieces.{b_word, IsChunk, AddsBWords, ReadBa
 ghost use Rattle.encoded_words.specs.Folding.{AddsWordLines};
 
 use base64::engine::general_purpose::STANDARD;
-use mail_wire::values::{Memory, Octets};
+use mail_wire::{Memory, Octets};
 use std::alloc::Global;
 
 /// The most octets that one B word holds.
@@ -14,7 +14,7 @@ const CHUNK: usize = 45;
 /// The most octets of a B word.
 const WORD: usize = 72;
 
-/// The text of the first B word, and the text behind it.
+// The text of the first B word, and the text behind it.
 fn split_chunk(text: &str) -> (&str, &str)
     requires { 0 < length text.now }
     ensures whole { text.now ≡ result.0.now ++ result.1.now }
@@ -24,7 +24,7 @@ fn split_chunk(text: &str) -> (&str, &str)
     text.split_at(text.floor_char_boundary(CHUNK))
 }
 
-/// Puts the B word of a chunk last.
+// Puts the B word of a chunk last.
 #[tactic(auto, unfolding(crate::specs::Pieces::b_word))]
 fn push_b_word(made: &mut Octets, chunk: &str) -> Result<(), Memory>
     requires { length chunk.now ≤ 45 }

@@ -2,18 +2,17 @@
 ghost use Rattle.std.specs.Prelude.{◌≡◌, [], map, IfOk, OnOk, IfSome, IfNone};
 ghost use Rattle.mail_wire.specs.Octets.{is_black};
 ghost use Rattle.mail_wire.specs.Spans.{Stops};
-ghost use Rattle.encoded_words.specs.Values.{value_of};
+ghost use Rattle.encoded_words.specs.private.Values.{value_of};
 ghost use Rattle.encoded_words.specs.CommentUnits.{HasCommentUnits};
-ghost use Rattle.encoded_words.specs.CommentReading.{BeginsItem, BeginsBlack, SplitsWord, GivesOctets, TakesCommentWord};
+ghost use Rattle.encoded_words.specs.private.CommentReading.{BeginsItem, BeginsBlack, SplitsWord, GivesOctets, TakesCommentWord};
 ghost use Rattle.encoded_words.specs.Written.{has_no_backslash as has_no_backslash_of};
 
 use crate::Unit;
 use crate::units::Merging;
-use mail_wire::text::{is_white, split_white};
-use mail_wire::values::Memory;
+use mail_wire::{Memory, is_white, split_white};
 use std::alloc::Global;
 
-/// The octet that the first octet or quoted pair gives, and what follows that.
+// The octet that the first octet or quoted pair gives, and what follows that.
 fn first_item(octets: &[u8]) -> Option<(u8, &[u8])>
     ensures found { IfSome result (λ x. BeginsItem octets.now x.0 x.1.now) }
     ensures none { IfNone result (octets.now ≡ []) }
@@ -30,7 +29,7 @@ fn first_item(octets: &[u8]) -> Option<(u8, &[u8])>
     Some((*octet, after))
 }
 
-/// What follows the first octet or quoted pair, where white doesn't come first.
+// What follows the first octet or quoted pair, where white doesn't come first.
 fn behind_black(octets: &[u8]) -> Option<&[u8]>
     ensures found { IfSome result (λ rest. BeginsBlack octets.now rest.now) }
     ensures none { IfNone result (Stops is_black octets.now) }
@@ -47,7 +46,7 @@ fn behind_black(octets: &[u8]) -> Option<&[u8]>
     Some(rest)
 }
 
-/// The longest front without white of its own, and what follows it. White of a quoted pair belongs to its word.
+// The longest front without white of its own, and what follows it. White of a quoted pair belongs to its word.
 fn split_word(octets: &[u8]) -> (&[u8], &[u8])
     ensures { SplitsWord octets.now result.0.now result.1.now }
 {
@@ -58,14 +57,14 @@ fn split_word(octets: &[u8]) -> (&[u8], &[u8])
     octets.split_at(octets.len() - rest.len())
 }
 
-/// Whether there is no backslash.
+// Whether there is no backslash.
 fn has_no_backslash(octets: &[u8]) -> bool
     ensures { result ≡ has_no_backslash_of octets.now }
 {
     octets.iter().all(|octet| *octet != b'\\')
 }
 
-/// The word without the backslashes of its quoted pairs.
+// The word without the backslashes of its quoted pairs.
 fn unquoted(alloc: Global, word: &[u8]) -> Result<Vec<u8>, Memory>
     ensures { IfOk result (λ octets. GivesOctets word.now octets.items) }
 {
@@ -78,7 +77,7 @@ fn unquoted(alloc: Global, word: &[u8]) -> Result<Vec<u8>, Memory>
     Ok(octets)
 }
 
-/// Takes the next word, and the run of white before it. Answers whether it is an encoded word.
+// Takes the next word, and the run of white before it. Answers whether it is an encoded word.
 fn push_word(
     alloc: Global,
     units: &mut Merging,

@@ -1,12 +1,12 @@
 //! The reader of the units of a text, by where it stands.
 ghost use Rattle.std.specs.Prelude.{map, IfOk};
-ghost use Rattle.encoded_words.specs.Values.{value_of};
+ghost use Rattle.encoded_words.specs.private.Values.{value_of};
 ghost use Rattle.encoded_words.specs.Contexts.{HasUnitsIn};
 
 use crate::comments::read_comment;
 use crate::units::read_unstructured;
 use crate::{Context, Unit};
-use mail_wire::values::Memory;
+use mail_wire::Memory;
 use std::alloc::Global;
 
 /// The units of a text that stands in this context. Any octets are read; of UTF-8 each `Unit::Text` is UTF-8.

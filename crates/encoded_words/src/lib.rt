@@ -1,20 +1,20 @@
 //! Encoded words (RFC 2047), and the units of a text: what the text says once its encoded words are decoded.
 #![tactic(auto)]
 
-pub mod b_words;
-pub mod comments;
-pub mod contexts;
+mod b_words;
+mod comments;
+mod contexts;
 pub mod laws;
-pub mod units;
-pub mod word;
-pub mod writing;
+mod units;
+mod word;
+mod writing;
 
 pub use b_words::{push_words, write_words};
 pub use comments::read_comment;
 pub use contexts::read_units;
-use mail_wire::values::Octets;
-pub use units::read_unstructured;
-pub use word::read_word;
+use mail_wire::Octets;
+pub use units::{Merging, read_unstructured};
+pub use word::{are_name_octets, hex_value, lower_case, names_text, read_word, split_at_byte};
 pub use writing::write_units;
 
 /// A piece of what a text says: text, or octets of a charset that is not read, with the encoded word that they come from.

@@ -1,26 +1,25 @@
 //! The reader of the units of a text.
 ghost use Rattle.std.specs.Prelude.{◌≡◌, [], ◌∷◌, ◌++◌, map, if◌then◌else◌, position, IfOk, OnOk};
-ghost use Rattle.encoded_words.specs.Values.{value_of};
+ghost use Rattle.encoded_words.specs.private.Values.{value_of};
 ghost use Rattle.encoded_words.specs.Units.{with_text, HasUnits};
 ghost use Rattle.mail_wire.specs.Octets.{is_white as is_white_of, is_black};
 ghost use Rattle.mail_wire.specs.Spans.{IsSpan};
-ghost use Rattle.encoded_words.specs.Merging.{IsMerging, done_values, Adds, TakesWord};
+ghost use Rattle.encoded_words.specs.private.Merging.{IsMerging, done_values, Adds, TakesWord};
 
 use crate::Unit;
 use crate::word::read_word;
-use mail_wire::text::{is_white, split_white};
-use mail_wire::values::{Memory, Octets};
+use mail_wire::{Memory, Octets, is_white, split_white};
 use std::alloc::Global;
 use std::mem;
 
-/// The place of the first white octet.
+// The place of the first white octet.
 fn find_white(octets: &[u8]) -> Option<usize>
     ensures { result ≡ position is_white_of octets.now }
 {
     octets.iter().position(|b| is_white(*b))
 }
 
-/// The longest front without white, and what follows it.
+// The longest front without white, and what follows it.
 fn split_word(octets: &[u8]) -> (&[u8], &[u8])
     ensures { IsSpan is_black octets.now result.0.now result.1.now }
 {
@@ -66,7 +65,7 @@ impl Merging {
         Ok(())
     }
 
-    /// Adds what an encoded word says.
+    // Adds what an encoded word says.
     fn push_unit(&mut self, alloc: Global, unit: Unit) -> Result<(), Memory>
         ensures { OnOk result (Adds self.old self.new (value_of unit)) }
     {
@@ -120,7 +119,7 @@ impl Merging {
     }
 }
 
-/// A run of white, or nothing of it.
+// A run of white, or nothing of it.
 fn kept_run(run: &[u8], is_dropped: bool) -> &[u8]
     ensures { result.now ≡ (if is_dropped then [] else run.now) }
 {

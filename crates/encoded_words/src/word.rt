@@ -4,14 +4,14 @@ ghost use Rattle.std.specs.List.{list_all};
 ghost use Rattle.std.specs.Option.{SomeIff, option_copied};
 ghost use Rattle.std.specs.Char.{digit_value};
 ghost use Rattle.std.specs.Str.{str_to_ascii_lowercase};
-ghost use Rattle.encoded_words.specs.Values.{value_of};
+ghost use Rattle.encoded_words.specs.private.Values.{value_of};
 ghost use Rattle.encoded_words.specs.Words.{WordParts, HasParts, IsName, IsWordText, IsBText, IsQText, IsTextOf, BeginsQ, UnitValue, gives_text, IsEncodedWord, unit_of as unit_value, language_suffix, is_name_octet as is_name_octet_of, is_text_octet};
-ghost use Rattle.encoded_words.specs.Parts.{lacks, wrapped, parts_value, IsNamed};
+ghost use Rattle.encoded_words.specs.private.Parts.{lacks, wrapped, parts_value, IsNamed};
 
 use crate::Unit;
 use base64::DecodeAllocError;
 use base64::engine::general_purpose::STANDARD;
-use mail_wire::values::{Memory, Octets};
+use mail_wire::{Memory, Octets};
 use std::alloc::Global;
 
 /// The parts of an encoded word.
@@ -23,7 +23,7 @@ struct Parts<'a> {
     text: &'a [u8],
 }
 
-/// The place of the first such byte.
+// The place of the first such byte.
 fn find_byte(octets: &[u8], byte: u8) -> Option<usize>
     ensures { result ≡ position (λ x. x == byte) octets.now }
 {
@@ -41,7 +41,7 @@ pub fn split_at_byte(octets: &[u8], byte: u8) -> Option<(&[u8], &[u8])>
     Some((&octets[..at], &octets[at + 1..]))
 }
 
-/// What stands between `=?` and `?=`.
+// What stands between `=?` and `?=`.
 fn unwrapped(word: &[u8]) -> Option<&[u8]>
     ensures found { IfSome result (λ inner. word.now ≡ wrapped inner.now) }
     ensures none { IfNone result ((inner : List ℕ) → word.now ≢ wrapped inner) }
@@ -52,7 +52,7 @@ fn unwrapped(word: &[u8]) -> Option<&[u8]>
     }
 }
 
-/// Whether an octet may stand in a charset or a language.
+// Whether an octet may stand in a charset or a language.
 fn is_name_octet(octet: u8) -> bool
     ensures { result ≡ is_name_octet_of octet }
 {
@@ -66,28 +66,28 @@ pub fn are_name_octets(octets: &[u8]) -> bool
     octets.iter().all(|b| is_name_octet(*b))
 }
 
-/// Whether octets are a charset or a language.
+// Whether octets are a charset or a language.
 fn is_name(octets: &[u8]) -> bool
     ensures { IsTrue result ↔ IsName octets.now }
 {
     !octets.is_empty() && are_name_octets(octets)
 }
 
-/// Whether each octet may stand in the text of an encoded word.
+// Whether each octet may stand in the text of an encoded word.
 fn are_text_octets(octets: &[u8]) -> bool
     ensures { result ≡ list_all is_text_octet octets.now }
 {
     octets.iter().all(|b| *b > 32 && *b < 127 && *b != b'?')
 }
 
-/// Whether octets are the text of an encoded word.
+// Whether octets are the text of an encoded word.
 fn is_word_text(octets: &[u8]) -> bool
     ensures { IsTrue result ↔ IsWordText octets.now }
 {
     !octets.is_empty() && are_text_octets(octets)
 }
 
-/// Whether there is no language, or one that may stand in an encoded word.
+// Whether there is no language, or one that may stand in an encoded word.
 fn is_language(language: Option<&[u8]>) -> bool
     ensures { IsTrue result ↔ IfSome (option_copied language.entry) IsName }
 {
@@ -97,7 +97,7 @@ fn is_language(language: Option<&[u8]>) -> bool
     }
 }
 
-/// What stands before the first star, and what stands behind it.
+// What stands before the first star, and what stands behind it.
 fn cut_name(name: &[u8]) -> (&[u8], Option<&[u8]>)
     ensures spelled { name.now ≡ result.0.now ++ language_suffix (option_copied result.1) }
     ensures first { lacks 42 result.0.now ≡ true }
@@ -108,7 +108,7 @@ fn cut_name(name: &[u8]) -> (&[u8], Option<&[u8]>)
     }
 }
 
-/// A charset, and a language where there is one.
+// A charset, and a language where there is one.
 fn named(name: &[u8]) -> Option<(&[u8], Option<&[u8]>)>
     ensures found { IfSome result (λ x. IsNamed name.now x.0.now (option_copied x.1)) }
     ensures none { IfNone result ((charset : List ℕ) (language : Option (List ℕ)) → ¬ IsNamed name.now charset language) }
@@ -123,7 +123,7 @@ fn named(name: &[u8]) -> Option<(&[u8], Option<&[u8]>)>
     Some((charset, language))
 }
 
-/// The letter of a word, and its text.
+// The letter of a word, and its text.
 fn coded_parts(coded: &[u8]) -> Option<(u8, &[u8])>
     ensures found { IfSome result (λ x. (coded.now ≡ x.0 ∷ 63 ∷ x.1.now) × IsWordText x.1.now) }
     ensures none { IfNone result ((letter : ℕ) (text : List ℕ) → coded.now ≡ letter ∷ 63 ∷ text → ¬ IsWordText text) }
@@ -134,7 +134,7 @@ fn coded_parts(coded: &[u8]) -> Option<(u8, &[u8])>
     }
 }
 
-/// The parts of an encoded word.
+// The parts of an encoded word.
 fn parts_of(word: &[u8]) -> Option<Parts<'_>>
     ensures found { IfSome result (λ p. HasParts word.now (parts_value p)) }
     ensures none { IfNone result ((p : WordParts) → ¬ HasParts word.now p) }
@@ -174,7 +174,7 @@ pub fn hex_value(octet: u8) -> Option<u8>
     }
 }
 
-/// The first octet that a Q text spells, and the text behind it.
+// The first octet that a Q text spells, and the text behind it.
 fn first_of_q(text: &[u8]) -> Option<(u8, &[u8])>
     requires { 0 < length text.now }
     ensures found { IfSome result (λ x. BeginsQ text.now x.0 x.1.now) }
@@ -201,7 +201,7 @@ fn first_of_q(text: &[u8]) -> Option<(u8, &[u8])>
     }
 }
 
-/// The octets of a Q text.
+// The octets of a Q text.
 fn decode_q(alloc: Global, text: &[u8]) -> Result<Option<Vec<u8>>, Memory>
     ensures found { IfOk result (λ o. IfSome o (λ v. IsQText text.now v.items)) }
     ensures none { IfOk result (λ o. IfNone o ((octets : List ℕ) → ¬ IsQText text.now octets)) }
@@ -218,7 +218,7 @@ fn decode_q(alloc: Global, text: &[u8]) -> Result<Option<Vec<u8>>, Memory>
     Ok(Some(octets))
 }
 
-/// The octets of a B text.
+// The octets of a B text.
 fn decode_b(alloc: Global, text: &[u8]) -> Result<Option<Vec<u8>>, Memory>
     ensures found { IfOk result (λ o. IfSome o (λ v. IsBText text.now v.items)) }
     ensures none { IfOk result (λ o. IfNone o ((octets : List ℕ) → ¬ IsBText text.now octets)) }
@@ -230,7 +230,7 @@ fn decode_b(alloc: Global, text: &[u8]) -> Result<Option<Vec<u8>>, Memory>
     }
 }
 
-/// The octets of a word's text.
+// The octets of a word's text.
 fn decode(alloc: Global, letter: u8, text: &[u8]) -> Result<Option<Vec<u8>>, Memory>
     ensures found { IfOk result (λ o. IfSome o (λ v. IsTextOf letter text.now v.items)) }
     ensures none { IfOk result (λ o. IfNone o ((octets : List ℕ) → ¬ IsTextOf letter text.now octets)) }
@@ -264,7 +264,7 @@ pub fn lower_case(alloc: Global, octets: &[u8]) -> Result<Octets, Memory>
     Ok(Octets::from_vec(lower))
 }
 
-/// What octets of a charset say.
+// What octets of a charset say.
 #[tactic(auto, unfolding(crate::specs::Words::unit_of))]
 fn unit_of(alloc: Global, charset: &[u8], octets: Vec<u8>, word: &[u8]) -> Result<Unit, Memory>
     ensures { IfOk result (λ u. value_of u ≡ unit_value charset.now octets.items word.now) }

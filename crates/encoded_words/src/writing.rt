@@ -1,11 +1,11 @@
 //! The writer of units.
 ghost use Rattle.std.specs.Prelude.{◌≡◌, ◌++◌, ◌∷◌, [], map, OnOk};
-ghost use Rattle.encoded_words.specs.Values.{value_of};
+ghost use Rattle.encoded_words.specs.private.Values.{value_of};
 ghost use Rattle.encoded_words.specs.Written.{IsWritable, AreWritable, AddsUnits};
 
 use crate::Unit;
 use crate::b_words::write_words;
-use mail_wire::values::{Memory, Octets};
+use mail_wire::{Memory, Octets};
 use std::alloc::Global;
 
 fn push_source(alloc: Global, source: &[u8], pieces: &mut Vec<Octets>) -> Result<(), Memory>

@@ -1,6 +1,6 @@
 //! Encoded words are read and written.
 use encoded_words::{Unit, push_words, read_unstructured, read_word, write_units, write_words};
-use mail_wire::values::Octets;
+use mail_wire::Octets;
 use std::test::Fail;
 
 #[test]

@@ -10,7 +10,7 @@ use Rattle.field_downgrade.specs.declared.kind.Kind.{Kind}
 use Rattle.field_downgrade.specs.declared.kind.Kind.TheVariants.{Unstructured, Addresses, Phrases, Params, Ids, Path, Typed, Trace, Plain}
 use Rattle.field_downgrade.specs.Kinds.{kind_named}
 use Rattle.field_downgrade.specs.Layout.{made_of, spaced}
-use Rattle.field_downgrade.specs.Steps.{HasNoPieces, IsOther, KeepsWords}
+use Rattle.field_downgrade.specs.private.Steps.{HasNoPieces, IsOther, KeepsWords}
 use Rattle.field_downgrade.specs.Stands.{BeginsHyphen, IsHighField, ByHyphen, HasHighLayout, OfPieces, Encapsulated, KeptMalformed, downgraded_of, keeps_name}
 use Rattle.utf8_fields.proofs.TrimLemmas.{trimmed}
 use Rattle.field_downgrade.proofs.KindValues.{decide_pieces, no_form_no_pieces}

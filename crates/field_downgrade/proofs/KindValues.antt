@@ -11,7 +11,7 @@ use Rattle.field_tokens.specs.Squeezed.{squeezed_values, comments_of}
 use Rattle.field_tokens.specs.Comments.{CommentValue, IsLinePiece}
 use Rattle.field_tokens.proofs.CommentValues.{CommentsPieces-some}
 use Rattle.field_tokens.proofs.TokenLines.{comments_are_writable}
-use Rattle.address_lists.specs.declared.Address.{Address}
+use Rattle.address_grammar.specs.declared.Address.{Address}
 use Rattle.address_lists.specs.ListPieces.{served_address}
 use Rattle.address_lists.specs.PathPieces.{SaysPath, PathPieces}
 use Rattle.address_lists.proofs.AddressListTexts.{SaysAddresses-once, AddressesPieces-says}
@@ -27,7 +27,7 @@ use Rattle.field_downgrade.specs.declared.kind.Kind.TheVariants.{Unstructured, A
 use Rattle.field_downgrade.specs.PlainTexts.{style_where, text_piece, SaysPlain, PlainPieces}
 use Rattle.field_downgrade.specs.Typed.{utf8_type, SaysTyped, TypedPieces}
 use Rattle.field_downgrade.specs.Stands.{Meaning, Units, Keywords, AddressList, Parameters, PathTo, TypedAddress, Clauses, PlainText, SaysAs, PiecesAs, StandsForMeaning, is_encoding_name}
-use Rattle.field_downgrade.specs.Steps.{HasNoPieces}
+use Rattle.field_downgrade.specs.private.Steps.{HasNoPieces}
 use Rattle.field_downgrade.proofs.PlainTextLemmas.{SaysPlain-once, PlainPieces-once, PlainPieces-says, PlainPieces-read, decide_plain}
 use Rattle.address_lists.proofs.PathPiecesLemmas.{SaysPath-once, PathPieces-once, PathPieces-says, PathPieces-some, decide_path}
 use Rattle.address_lists.proofs.PathPiecesAgain.{PathPieces-read}

@@ -3,7 +3,7 @@ use Rattle.std.proofs.Common.{◌≡◌, ℕ, ◌<◌, ◌+◌, ◌-◌, ◌≤�
 use Rattle.std.proofs.lemmas.List.{append_assoc, append-nil, map-append, take_more, take_all}
 use Rattle.mail_wire.specs.Lines.{crlf}
 use Rattle.field_downgrade.specs.declared.word.Word.{Word as CodeWord}
-use Rattle.field_downgrade.specs.Views.{word_of, words_of}
+use Rattle.field_downgrade.specs.private.Views.{word_of, words_of}
 use Rattle.field_downgrade.specs.Words.{Word, joined, run_of, last_run}
 use Rattle.field_downgrade.specs.Layout.{last_side, side_of}
 use Rattle.encoded_words.specs.Folding.{Piece, made_body}

@@ -29,7 +29,7 @@ use Rattle.field_downgrade.specs.declared.segments.Side.{Side}
 use Rattle.field_downgrade.specs.declared.kind.Kind.TheVariants.{Unstructured}
 use Rattle.field_downgrade.specs.Kinds.{kind_named}
 use Rattle.field_downgrade.specs.Stands.{IsSameMeaning, Means, SaysAs, Units}
-use Rattle.field_downgrade.specs.Steps.{KeepsWords}
+use Rattle.field_downgrade.specs.private.Steps.{KeepsWords}
 use Rattle.field_downgrade.proofs.Units.{units_from, units_from-front}
 use Rattle.field_downgrade.proofs.Places.{without_ends-white}
 use Rattle.field_downgrade.proofs.Pieces.{behind, shown, AreWords-front, AreWords-back, last_white, chunks_first, AreUtf8-front, AreUtf8-back, white_utf8, plain_utf8, b_word-no_end, word_keeps, Ends-places}

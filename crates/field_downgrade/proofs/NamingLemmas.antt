@@ -7,10 +7,10 @@ use Rattle.std.proofs.lemmas.List.Folds.{list_all-append}
 use Rattle.encoded_words.proofs.Octets.{all_append, all_cons}
 use Rattle.mail_wire.specs.Octets.{is_ascii, is_white}
 use Rattle.mail_wire.specs.Folds.{unfolded, IsFolded}
-use Rattle.param_2231.specs.Joining.{SaysParams}
+use Rattle.param_grammar.specs.Joining.{SaysParams}
 use Rattle.utf8_fields.specs.Parts.{FieldParts, HasParts, HasValue, IsField, field_octets}
 use Rattle.utf8_fields.proofs.OneField.{HasParts-once}
-use Rattle.param_2231.specs.declared.ParamKind.TheVariants.{Content, Disposition}
+use Rattle.param_grammar.specs.declared.ParamKind.TheVariants.{Content, Disposition}
 use Rattle.param_2231.specs.GlobalTypes.{NamesGlobal, with_rfc822}
 use Rattle.field_downgrade.specs.declared.kind.Kind.{Kind}
 use Rattle.field_downgrade.specs.declared.kind.Kind.TheVariants.{Unstructured, Addresses, Phrases, Params, Ids, Path, Typed, Trace, Plain}

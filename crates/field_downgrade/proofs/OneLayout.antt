@@ -20,7 +20,7 @@ use Rattle.encoded_words.proofs.AllUnits.{HasUnits-some}
 use Rattle.field_downgrade.specs.declared.kind.Kind.{Kind}
 use Rattle.field_downgrade.specs.declared.kind.Kind.TheVariants.{Unstructured, Addresses, Phrases, Params, Ids, Path, Typed, Trace, Plain}
 use Rattle.field_downgrade.specs.Kinds.{kind_named}
-use Rattle.address_lists.specs.declared.Address.{Address}
+use Rattle.address_grammar.specs.declared.Address.{Address}
 use Rattle.field_tokens.specs.Comments.{CommentValue}
 use Rattle.utf8_fields.proofs.OneField.{HasParts-once}
 use Rattle.field_downgrade.specs.GlobalBodies.{ChangesGlobal}

@@ -19,7 +19,7 @@ use Rattle.field_tokens.proofs.SqueezedValues.{squeezed_text-values}
 use Rattle.field_tokens.proofs.SqueezedLemmas.{no_token}
 use Rattle.field_tokens.proofs.TokenLines.{BothUtf8, token_utf8}
 use Rattle.field_downgrade.specs.PlainTexts.{style_where, IsAtomWhere, SaysPlain, text_piece, PlainPieces}
-use Rattle.field_downgrade.specs.PlainSteps.{is_atom, IsOneAtom, GiveComments}
+use Rattle.field_downgrade.specs.private.PlainSteps.{is_atom, IsOneAtom, GiveComments}
 
 -- One atom with gaps and comments around it.
 

@@ -18,7 +18,7 @@ use Rattle.field_tokens.proofs.SqueezedValues.{values_at}
 use Rattle.field_tokens.proofs.SqueezedLemmas.{neighbour_stands}
 use Rattle.field_tokens.proofs.TokenLines.{tokens_lines}
 use Rattle.field_downgrade.specs.Received.{starts_clause, is_semicolon, is_inner, ClauseTokens, IsClause, clause_tokens, ClausePieces, ClausesPieces}
-use Rattle.field_downgrade.specs.ReceivedSteps.{token_value, token_values, BeginsSo, CutsTokens, clause_at, WritesClauses}
+use Rattle.field_downgrade.specs.private.ReceivedSteps.{token_value, token_values, BeginsSo, CutsTokens, clause_at, WritesClauses}
 use Rattle.field_downgrade.proofs.ReceivedLemmas.{AreRead, read_whole, read_front, read_rest}
 
 -- ---- tokens by their places

@@ -15,7 +15,7 @@ use Rattle.field_tokens.proofs.TokenLists.{AreTokens-once}
 use Rattle.field_tokens.proofs.TokenLines.{squeezed_line}
 use Rattle.field_tokens.proofs.SqueezedValues.{values_at, squeezed_values-at}
 use Rattle.field_downgrade.specs.Received.{starts_clause, is_semicolon, is_inner, clause_tokens, ReceivedParts, date_tokens, are_blank_tokens, AreReceivedParts, date_text, served_text, served_piece, ClausePieces, DatePieces, ReceivedPieces}
-use Rattle.field_downgrade.specs.ReceivedSteps.{token_values, BeginsSo, CutsTokens, behind_first, clause_at, WritesClauses}
+use Rattle.field_downgrade.specs.private.ReceivedSteps.{token_values, BeginsSo, CutsTokens, behind_first, clause_at, WritesClauses}
 use Rattle.field_downgrade.proofs.ReceivedDivision.{put_token, parts_of, is_semicolon-is, before_parts, parts_inner, parts_start, are_parts_of}
 use Rattle.field_downgrade.proofs.ReceivedReading.{values-append, stand_read, stand_front, stand_rest, inner_all, heads}
 

@@ -11,11 +11,11 @@ use Rattle.utf8_fields.specs.Parts.{FieldParts, HasParts, IsField, field_octets}
 use Rattle.field_downgrade.specs.Words.{Word, AreUtf8, HasWords}
 use Rattle.field_downgrade.specs.Layout.{made_of, spaced}
 use Rattle.encoded_words.specs.Folding.{Piece, made_body, word_pieces}
-use Rattle.field_downgrade.specs.Steps.{WritesWords, Adds, IsOther, KeepsWords, MakesUnstructured, MakesField, OfUnstructured, OfOther}
+use Rattle.field_downgrade.specs.private.Steps.{WritesWords, Adds, IsOther, KeepsWords, MakesUnstructured, MakesField, OfUnstructured, OfOther}
 use Rattle.field_downgrade.specs.Stands.{BeginsHyphen, IsHighField, IsChanged, HasHighLayout, OfWords, OfPieces, Encapsulated, KeptMalformed, Copied, Made, StandsSo, SameMeaning, UnderOtherName, StillMalformed, Stands, Same, Ascii, downgraded_of}
 use Rattle.std.specs.Prelude.{IfOk}
 use Rattle.field_downgrade.specs.declared.field.Rewrite.{Rewrite}
-use Rattle.field_downgrade.specs.Views.{made_from}
+use Rattle.field_downgrade.specs.private.Views.{made_from}
 use Rattle.field_downgrade.specs.Message.{IsServed}
 use Rattle.field_downgrade.proofs.Made.{ArePieces, IsSameMeaning-made, HasParts-made, HasParts-pieces, pieces-ascii, field_ascii, words_are}
 use Rattle.field_downgrade.proofs.NulLemmas.{LackNul, LackNul-spaced, LackNul-words, KeepsNoNul-made, KeepsNoNul-pieces}

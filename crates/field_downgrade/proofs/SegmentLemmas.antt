@@ -6,10 +6,10 @@ use Rattle.std.proofs.lemmas.List.Folds.{list_all-append}
 use Rattle.std.proofs.Math.Seq.{get_or-append_seam}
 use Rattle.std.specs.List.{list_all}
 use Rattle.field_downgrade.specs.declared.word.Word.{Word as CodeWord}
-use Rattle.field_downgrade.specs.Views.{word_of, words_of}
+use Rattle.field_downgrade.specs.private.Views.{word_of, words_of}
 use Rattle.field_downgrade.specs.Words.{Word, is_high}
 use Rattle.field_downgrade.specs.Layout.{IsCopied, begins_high, ends_high}
-use Rattle.field_downgrade.specs.Steps.{SplitsCopied, SplitsCore, BeginsCore, BeginsHigh, BeginsEncoded}
+use Rattle.field_downgrade.specs.private.Steps.{SplitsCopied, SplitsCore, BeginsCore, BeginsHigh, BeginsEncoded}
 
 pub not_true : (b : Bool) → not b ≡ true → b ≡ false
 not_true true h = cc h

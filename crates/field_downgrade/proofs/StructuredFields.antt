@@ -23,15 +23,15 @@ use Rattle.utf8_fields.specs.Parts.{FieldParts, HasParts, HasValue}
 use Rattle.field_downgrade.specs.Layout.{made_of, spaced}
 use Rattle.field_downgrade.specs.Kinds.{kind_named, is_address_name, is_originator_name, is_destination_name, is_resent_originator_name, is_resent_destination_name, is_id_name, is_plain_name}
 use Rattle.field_downgrade.specs.declared.kind.Kind.TheVariants.{Unstructured, Params, Plain}
-use Rattle.param_2231.specs.declared.ParamKind.TheVariants.{Content}
-use Rattle.param_2231.specs.Joining.{ParamValue, SaysParams}
+use Rattle.param_grammar.specs.declared.ParamKind.TheVariants.{Content}
+use Rattle.param_grammar.specs.Joining.{ParamValue, SaysParams}
 use Rattle.field_downgrade.specs.PlainTexts.{SaysPlain, IsAtomWhere}
 use Rattle.field_downgrade.proofs.OneMeaning.{HasValue-once}
 use Rattle.field_tokens.specs.declared.Style.TheVariants.{Mime}
 use Rattle.field_tokens.specs.declared.TokenKind.TheVariants.{Atom, Special}
 use Rattle.field_tokens.specs.declared.Token.{Token}
 use Rattle.field_tokens.specs.Tokens.{TokenValue, AreTokens, IsToken, tokens_from}
-use Rattle.param_2231.specs.Bodies.{is_main, is_mark_at, sections_of, solid}
+use Rattle.param_grammar.specs.Bodies.{is_main, is_mark_at, sections_of, solid}
 use Rattle.field_tokens.specs.Squeezed.{words_of}
 use Rattle.field_tokens.proofs.TokenLemmas.{class, kind_is}
 use Rattle.field_downgrade.specs.Stands.{IsHighField, BeginsHyphen, is_encoding_name, keeps_name, IsSameMeaning, Meaning, SaysAs, PiecesAs, IsMalformed, KeepsValue}

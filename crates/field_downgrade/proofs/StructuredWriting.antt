@@ -8,11 +8,11 @@ use Rattle.encapsulated_fields.specs.Encapsulated.{Encapsulates, downgraded_name
 use Rattle.utf8_fields.specs.Parts.{FieldParts, HasValue, SplitsEnding, field_octets}
 use Rattle.field_downgrade.specs.declared.kind.Kind.TheVariants.{Params, Ids, Path, Typed, Plain}
 use Rattle.field_downgrade.specs.declared.kind.Kind.{Kind}
-use Rattle.param_2231.specs.declared.ParamKind.TheVariants.{Content}
+use Rattle.param_grammar.specs.declared.ParamKind.TheVariants.{Content}
 use Rattle.field_downgrade.specs.Kinds.{kind_named}
 use Rattle.field_downgrade.specs.Layout.{made_of, spaced}
 use Rattle.field_downgrade.specs.Stands.{IsMalformed, SaysAs, PiecesAs, IsKeptAside, ByHyphen, ByIdentifiers, ByNullPath, ByPath, ByType, ByMalformed, OfPieces, Encapsulated, KeptMalformed, downgraded_of, keeps_name}
-use Rattle.field_downgrade.specs.Steps.{Adds, AddsWordField, HasNoPieces, IsOther, MakesField, OfOther}
+use Rattle.field_downgrade.specs.private.Steps.{Adds, AddsWordField, HasNoPieces, IsOther, MakesField, OfOther}
 use Rattle.field_downgrade.proofs.KindValues.{SaysNothing, HasNoForm, Nothing, OfIds, OfNullPath, OfPath, OfType, no_pieces_why}
 use Rattle.field_downgrade.proofs.StructuredFields.{KeptKind, KeptType, KeptEncoding, kept_kind, kept_structured}
 use Rattle.field_downgrade.proofs.OneMeaning.{HasValue-once}

@@ -16,7 +16,7 @@ use Rattle.field_downgrade.specs.declared.segments.Side.TheVariants.{Edge, Encod
 use Rattle.field_downgrade.specs.Words.{Word, AreWords, AreUtf8, TellsEncoded, is_high, last_run, plain_text}
 use Rattle.field_downgrade.specs.Layout.{Segment, segment_words, IsSegment, Parts, AreSegments, IsCopied, begins_high, side_of, first_side, last_side, CutsLeft, CutsRight, copied_pieces, GiveAll, HavePieces}
 use Rattle.encoded_words.specs.Folding.{AddsWordLines, Piece, word_pieces, made_body}
-use Rattle.field_downgrade.specs.Steps.{NeedsRun, SplitsCopied, SplitsCore, BeginsCore, BeginsHigh, BeginsEncoded, CanWrite, WritesSegment, WritesWords}
+use Rattle.field_downgrade.specs.private.Steps.{NeedsRun, SplitsCopied, SplitsCore, BeginsCore, BeginsHigh, BeginsEncoded, CanWrite, WritesSegment, WritesWords}
 use Rattle.field_downgrade.proofs.Pieces.{AreWords-front, AreWords-back, AreUtf8-front, AreUtf8-back, last_some, last_white, white_utf8, plain_utf8}
 use Rattle.field_downgrade.proofs.ReadBack.{left_white, right_white}
 use Rattle.field_downgrade.proofs.LineLemmas.{made_body-append}

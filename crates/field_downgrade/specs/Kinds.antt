@@ -3,7 +3,7 @@ use Rattle.std.specs.Prelude.{ℕ, Bool, ◌||◌, if◌then◌else◌, List, co
 use Rattle.mail_wire.specs.Octets.{same_name}
 use Rattle.field_downgrade.specs.declared.kind.Kind.{Kind}
 use Rattle.field_downgrade.specs.declared.kind.Kind.TheVariants.{Unstructured, Addresses, Phrases, Params, Ids, Path, Typed, Trace, Plain}
-use Rattle.param_2231.specs.declared.ParamKind.TheVariants.{Content, Disposition}
+use Rattle.param_grammar.specs.declared.ParamKind.TheVariants.{Content, Disposition}
 
 -- RFC 5322, 3.6.2
 unfoldable pub is_originator_name : List ℕ → Bool

@@ -2,12 +2,9 @@ pub mod Kinds
 pub mod Words
 pub mod Layout
 pub mod PlainTexts
-pub mod PlainSteps
 pub mod Typed
 pub mod Received
-pub mod ReceivedSteps
 pub mod GlobalBodies
 pub mod Stands
 pub mod Message
-pub mod Views
-pub mod Steps
+pub mod private

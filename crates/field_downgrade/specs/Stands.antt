@@ -9,14 +9,14 @@ use Rattle.encoded_words.specs.Units.{HasUnits}
 use Rattle.encoded_words.specs.Pieces.{AreBWords}
 use Rattle.encoded_words.specs.Folding.{Piece, made_body, word_pieces}
 use Rattle.field_tokens.specs.Comments.{CommentValue}
-use Rattle.address_lists.specs.declared.Address.{Address}
-use Rattle.address_lists.specs.AddressLists.{ElementValue}
+use Rattle.address_grammar.specs.declared.Address.{Address}
+use Rattle.address_grammar.specs.AddressLists.{ElementValue}
 use Rattle.address_lists.specs.PhraseLists.{SaysPhrases, PhrasesPieces}
 use Rattle.address_lists.specs.ListPieces.{SaysAddresses, AddressesPieces, served_address}
 use Rattle.address_lists.specs.ListReadBack.{StandsForElement}
 use Rattle.address_lists.specs.PathPieces.{SaysPath, PathPieces}
-use Rattle.param_2231.specs.declared.ParamKind.TheVariants.{Content}
-use Rattle.param_2231.specs.Joining.{ParamValue, SaysParams}
+use Rattle.param_grammar.specs.declared.ParamKind.TheVariants.{Content}
+use Rattle.param_grammar.specs.Joining.{ParamValue, SaysParams}
 use Rattle.param_2231.specs.Layout.{ParamsPieces}
 use Rattle.param_2231.specs.ParamsReadBack.{served_main}
 use Rattle.encapsulated_fields.specs.Encapsulated.{downgraded_name}

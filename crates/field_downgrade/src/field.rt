@@ -4,9 +4,9 @@ ghost use Rattle.std.specs.List.{list_all};
 ghost use Rattle.mail_wire.specs.Folds.{IsFolded};
 ghost use Rattle.mail_wire.specs.Octets.{is_ascii};
 ghost use Rattle.utf8_fields.specs.Parts.{IsField, field_octets};
-ghost use Rattle.field_downgrade.specs.Views.{made_from, IsKeep};
-ghost use Rattle.utf8_fields.specs.Views.{parts_of};
-ghost use Rattle.field_downgrade.specs.Steps.{Adds, MakesUnstructured};
+ghost use Rattle.field_downgrade.specs.private.Views.{made_from, IsKeep};
+ghost use Rattle.utf8_fields.specs.private.Views.{parts_of};
+ghost use Rattle.field_downgrade.specs.private.Steps.{Adds, MakesUnstructured};
 ghost use Rattle.field_downgrade.specs.Stands.{HasFieldLayout, NamesMessage, Stands, KeepsLines, with_body};
 ghost use Rattle.field_downgrade.specs.Message.{IsServed};
 
@@ -15,11 +15,9 @@ use crate::kind::{is_type, keeps_words};
 use crate::segments::write_pieces;
 use crate::structured::push_structured;
 use crate::words::words;
-use mail_wire::text::is_ascii;
-use mail_wire::values::{Memory, Octets};
+use mail_wire::{Memory, Octets, is_ascii};
 use std::alloc::Global;
-use utf8_fields::parts::{Parts, split_field};
-use utf8_fields::values::value_of;
+use utf8_fields::{Parts, split_field, value_of};
 
 /// A field as it is served: as it was, or made anew.
 #[derive(Drop)]

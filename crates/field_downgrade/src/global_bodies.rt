@@ -7,9 +7,8 @@ ghost use Rattle.utf8_fields.specs.Parts.{HasValue};
 ghost use Rattle.param_2231.specs.GlobalTypes.{NamesGlobal};
 ghost use Rattle.field_downgrade.specs.GlobalBodies.{ChangesGlobal};
 
-use mail_wire::text::is_white;
-use mail_wire::values::{Memory, Octets};
-use param_2231::global_types::find_global;
+use mail_wire::{Memory, Octets, is_white};
+use param_2231::find_global;
 use std::alloc::Global;
 
 fn is_line_end(octet: u8) -> bool

@@ -3,10 +3,10 @@ ghost use Rattle.std.specs.Prelude.{◌≡◌, ◌↔◌, IsTrue};
 ghost use Rattle.mail_wire.specs.Octets.{same_name};
 ghost use Rattle.field_downgrade.specs.Kinds.{is_originator_name, is_destination_name, is_resent_originator_name, is_resent_destination_name, is_address_name, is_id_name, is_plain_name, kind_named};
 ghost use Rattle.field_downgrade.specs.declared.kind.Kind.{Kind};
-ghost use Rattle.field_downgrade.specs.Steps.{KeepsWords};
+ghost use Rattle.field_downgrade.specs.private.Steps.{KeepsWords};
 
-use mail_wire::text::is_same_name;
-use param_2231::ParamKind;
+use mail_wire::is_same_name;
+use param_grammar::ParamKind;
 
 /// What the value of a field is read as.
 #[derive(Clone, Copy, PartialEq, Eq)]

@@ -1,9 +1,9 @@
 //! The rewriting of header fields to ASCII (RFC 6857).
 #![tactic(auto)]
 
-pub mod field;
+mod field;
 mod global_bodies;
-pub mod kind;
+mod kind;
 pub mod laws;
 mod lines;
 mod plain;
@@ -13,3 +13,6 @@ mod structured;
 mod typed;
 mod word;
 mod words;
+
+pub use field::{Rewrite, downgrade_field};
+pub use kind::{Kind, kind_of};

@@ -4,11 +4,10 @@ ghost use Rattle.mail_wire.specs.Lines.{crlf};
 ghost use Rattle.field_downgrade.specs.Layout.{copied_pieces};
 ghost use Rattle.encoded_words.specs.Folding.{made_body, word_pieces};
 ghost use Rattle.field_downgrade.specs.Words.{copied_octets, plain_text, last_run};
-ghost use Rattle.field_downgrade.specs.Views.{words_of};
+ghost use Rattle.field_downgrade.specs.private.Views.{words_of};
 
 use crate::word::Word;
-use mail_wire::text::push_unfolded;
-use mail_wire::values::{Memory, Octets};
+use mail_wire::{Memory, Octets, push_unfolded};
 
 /// Begins a line of a made field: CRLF and a white octet.
 pub fn begin_line(made: &mut Octets, white: u8) -> Result<(), Memory>

@@ -6,12 +6,12 @@ ghost use Rattle.field_tokens.specs.declared.Token.{Token};
 ghost use Rattle.field_tokens.specs.Comments.{CommentValue, AddsPieces};
 ghost use Rattle.field_tokens.specs.Tokens.{HasTokens};
 ghost use Rattle.field_downgrade.specs.PlainTexts.{style_where as style_of, text_piece, SaysPlain, PlainPieces};
-ghost use Rattle.field_downgrade.specs.PlainSteps.{is_atom, IsOneAtom, GiveComments};
+ghost use Rattle.field_downgrade.specs.private.PlainSteps.{is_atom, IsOneAtom, GiveComments};
 
-use field_tokens::comments::write_comment;
-use field_tokens::{Style, Token, TokenKind, is_blank, is_comment, read_tokens, squeezed};
-use mail_wire::text::is_ascii;
-use mail_wire::values::{Memory, Octets};
+use field_tokens::{
+    Style, Token, TokenKind, is_blank, is_comment, read_tokens, squeezed, write_comment,
+};
+use mail_wire::{Memory, Octets, is_ascii};
 use std::alloc::Global;
 
 fn style_where(is_encoding: bool) -> Style

@@ -6,12 +6,12 @@ ghost use Rattle.field_tokens.specs.Squeezed.{comments_of, is_blank as is_blank_
 ghost use Rattle.field_tokens.specs.Tokens.{octets_at};
 ghost use Rattle.field_tokens.specs.declared.Token.{Token};
 ghost use Rattle.field_downgrade.specs.Received.{is_clause_word as is_clause_word_of, starts_clause as starts_clause_of, is_semicolon as is_semicolon_of, is_host_word as is_host_word_of, holds_clause_word as holds_clause_word_of, served_text as served_text_of, date_text as date_text_of, behind_space, served_piece, ClausePieces, DatePieces, PartsPieces, ReceivedParts, ReceivedPieces};
-ghost use Rattle.field_downgrade.specs.ReceivedSteps.{token_value, token_values, BeginsSo, CutsTokens, behind_first, clause_at, WritesClauses};
+ghost use Rattle.field_downgrade.specs.private.ReceivedSteps.{token_value, token_values, BeginsSo, CutsTokens, behind_first, clause_at, WritesClauses};
 
-use field_tokens::comments::write_comment;
-use field_tokens::{Style, Token, TokenKind, is_blank, is_comment, read_tokens, squeezed};
-use mail_wire::text::{is_ascii, is_same_name};
-use mail_wire::values::{Memory, Octets, Span};
+use field_tokens::{
+    Style, Token, TokenKind, is_blank, is_comment, read_tokens, squeezed, write_comment,
+};
+use mail_wire::{Memory, Octets, Span, is_ascii, is_same_name};
 use std::alloc::Global;
 
 // ---- tokens

@@ -3,13 +3,13 @@ ghost use Rattle.std.specs.Prelude.{◌≡◌, ◌++◌, ◌<◌, ℕ, true, not
 ghost use Rattle.encoded_words.specs.Folding.{AddsWordLines};
 ghost use Rattle.field_downgrade.specs.Words.{AreWords, AreUtf8, plain_text};
 ghost use Rattle.field_downgrade.specs.Layout.{side_of, first_side, last_side, CutsLeft, CutsRight};
-ghost use Rattle.field_downgrade.specs.Steps.{NeedsRun, SplitsCopied, SplitsCore, BeginsCore, CanWrite, WritesSegment, WritesWords};
-ghost use Rattle.field_downgrade.specs.Views.{word_of, words_of};
+ghost use Rattle.field_downgrade.specs.private.Steps.{NeedsRun, SplitsCopied, SplitsCore, BeginsCore, CanWrite, WritesSegment, WritesWords};
+ghost use Rattle.field_downgrade.specs.private.Views.{word_of, words_of};
 
 use crate::lines::{push_copied_line, push_last_run, push_plain};
 use crate::word::Word;
 use encoded_words::push_words;
-use mail_wire::values::{Memory, Octets};
+use mail_wire::{Memory, Octets};
 use std::alloc::Global;
 
 /// What stands beside a core: an end of the value, an encoded word, or another word.

@@ -4,7 +4,7 @@ ghost use Rattle.std.specs.List.{list_all};
 ghost use Rattle.mail_wire.specs.Octets.{is_ascii};
 ghost use Rattle.mail_wire.specs.Folds.{IsFolded};
 ghost use Rattle.utf8_fields.specs.Parts.{HasValue, field_octets};
-ghost use Rattle.utf8_fields.specs.Views.{parts_of};
+ghost use Rattle.utf8_fields.specs.private.Views.{parts_of};
 ghost use Rattle.encoded_words.specs.Folding.{made_body};
 ghost use Rattle.address_lists.specs.ListPieces.{AddressesPieces};
 ghost use Rattle.address_lists.specs.PhraseLists.{PhrasesPieces};
@@ -13,23 +13,22 @@ ghost use Rattle.encapsulated_fields.specs.Encapsulated.{IsFieldName};
 ghost use Rattle.field_downgrade.specs.Kinds.{kind_named};
 ghost use Rattle.field_downgrade.specs.Layout.{made_of, spaced};
 ghost use Rattle.field_downgrade.specs.Stands.{PiecesAs, downgraded_of, is_encoding_name as is_encoding_of, keeps_name as keeps_name_of};
-ghost use Rattle.field_downgrade.specs.Steps.{Adds, AddsWordField, HasNoPieces, IsOther, MakesField};
+ghost use Rattle.field_downgrade.specs.private.Steps.{Adds, AddsWordField, HasNoPieces, IsOther, MakesField};
 
 use crate::kind::{Kind, kind_of};
 use crate::lines::begin_line;
 use crate::plain::rewrite_plain;
 use crate::received::rewrite_received;
 use crate::typed::rewrite_typed;
-use address_lists::phrase_lists::rewrite_phrases;
-use address_lists::{AddressFault, rewrite_list, rewrite_path};
+use address_grammar::AddressFault;
+use address_lists::{rewrite_list, rewrite_path, rewrite_phrases};
 use encapsulated_fields::encapsulate;
 use encoded_words::push_words;
-use mail_wire::text::is_same_name;
-use mail_wire::values::{Memory, Octets};
-use param_2231::{ParamFault, ParamKind, rewrite_params};
+use mail_wire::{Memory, Octets, is_same_name};
+use param_2231::rewrite_params;
+use param_grammar::{ParamFault, ParamKind};
 use std::alloc::Global;
-use utf8_fields::parts::{Parts, split_ending};
-use utf8_fields::values::value_of;
+use utf8_fields::{Parts, split_ending, value_of};
 
 #[tactic(auto, unfolding(crate::specs::Stands::is_encoding_name))]
 fn is_encoding_name(name: &[u8]) -> bool

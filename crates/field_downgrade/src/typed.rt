@@ -6,10 +6,9 @@ ghost use Rattle.encapsulated_fields.specs.AddressForms.{xtext_form};
 ghost use Rattle.field_downgrade.specs.Typed.{is_no_semicolon, utf8_type, CutsType, IsTyped, TypedPieces};
 
 use encapsulated_fields::{read_xtext, xtext_of};
-use mail_wire::text::is_same_name;
-use mail_wire::values::{Memory, Octets};
+use mail_wire::{Memory, Octets, is_same_name};
 use std::alloc::Global;
-use utf8_fields::values::trim;
+use utf8_fields::trim;
 
 fn find_semicolon(value: &[u8]) -> Option<usize>
     ensures { result ≡ position (λ x. x == 59) value.now }

@@ -5,12 +5,11 @@ ghost use Rattle.mail_wire.specs.Octets.{is_ascii};
 ghost use Rattle.mail_wire.specs.Folds.{IsFolded};
 ghost use Rattle.mail_wire.specs.Spans.{IsSpan};
 ghost use Rattle.field_downgrade.specs.Words.{is_word_octet, is_gap_octet, TellsEncoded, is_high, HasWords, AreUtf8};
-ghost use Rattle.field_downgrade.specs.Views.{word_of, words_of};
+ghost use Rattle.field_downgrade.specs.private.Views.{word_of, words_of};
 
 use crate::word::Word;
 use encoded_words::read_word;
-use mail_wire::text::is_ascii;
-use mail_wire::values::Memory;
+use mail_wire::{Memory, is_ascii};
 use std::alloc::Global;
 
 // Whether an octet may stand in a word: it is neither white nor CR nor LF.

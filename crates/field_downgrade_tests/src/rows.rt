@@ -2,9 +2,8 @@
 ghost use Rattle.std.specs.Prelude.{◌≡◌, ◌+◌, ◌≤◌, length};
 ghost use Rattle.utf8_fields.specs.Block.{raw_of};
 
-use field_downgrade::field::{Rewrite, downgrade_field};
-use utf8_fields::block::Field;
-use utf8_fields::reading::read_block;
+use field_downgrade::{Rewrite, downgrade_field};
+use utf8_fields::{Field, read_block};
 
 // The raw octets of a field.
 fn raw_of<'m>(msg: &'m [u8], field: &Field) -> &'m [u8]

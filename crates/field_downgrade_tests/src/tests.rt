@@ -1,7 +1,7 @@
 //! The worked rows, by the public calls.
 use crate::rows::first_wrong;
-use field_downgrade::kind::{Kind, kind_of};
-use param_2231::ParamKind;
+use field_downgrade::{Kind, kind_of};
+use param_grammar::ParamKind;
 use std::test::Fail;
 
 #[test]

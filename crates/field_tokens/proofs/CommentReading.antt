@@ -4,7 +4,7 @@ use Rattle.std.proofs.lemmas.List.{length-append}
 use Rattle.mail_wire.specs.declared.values.Span.{Span}
 use Rattle.field_tokens.specs.declared.Item.{Item}
 use Rattle.field_tokens.specs.Trees.{spelling, Body, Last, Before, body_octets, IsBody, Tree, End, NestedThen, run_then, HasItems, all_before, item_of}
-use Rattle.field_tokens.specs.Bodies.{SplitsText, body_depth, HoldsBody, ReadsBody, AddsItem}
+use Rattle.field_tokens.specs.private.Bodies.{SplitsText, body_depth, HoldsBody, ReadsBody, AddsItem}
 use Rattle.field_tokens.proofs.Texts.{text_once, open_stops, close_stops}
 use Rattle.field_tokens.proofs.BodyLemmas.{grouped, body_once}
 

@@ -8,7 +8,7 @@ use Rattle.field_tokens.specs.declared.TokenKind.TheVariants.{Comment}
 use Rattle.field_tokens.specs.Groups.{Inside, End, Plain, Pair, Nested, inside_octets, depth_of, IsInside, IsGroup}
 use Rattle.field_tokens.specs.Tokens.{comment_marks, IsToken, TokenValue, AreTokens, tokens_from, IsTokenOf, octets_at}
 use Rattle.field_tokens.specs.Trees.{StandsInText, spelling, Body, Last, Before, body_octets, IsBody, Tree, HasItems, HasComment}
-use Rattle.field_tokens.specs.Bodies.{body_depth, HoldsBody, ReadsBody}
+use Rattle.field_tokens.specs.private.Bodies.{body_depth, HoldsBody, ReadsBody}
 use Rattle.field_tokens.proofs.TokenLists.{token_at}
 use Rattle.field_tokens.proofs.BodyLemmas.{body_once}
 

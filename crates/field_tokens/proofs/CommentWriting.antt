@@ -10,9 +10,9 @@ use Rattle.encoded_words.specs.CommentUnits.{TextItem, Plain, is_white_item, Has
 use Rattle.encoded_words.specs.Words.{UnitValue}
 use Rattle.encoded_words.specs.Written.{AddsUnits}
 use Rattle.field_tokens.specs.Trees.{spelling, Body, Last, Before, body_octets, IsBody, IsRun}
-use Rattle.field_tokens.specs.Bodies.{SplitsRun, body_depth}
+use Rattle.field_tokens.specs.private.Bodies.{SplitsRun, body_depth}
 use Rattle.field_tokens.specs.Comments.{comment_of, HasRunOf, RunPieces, White, Run, WrappedPieces, BodyPieces, CommentPieces, AddsPieces}
-use Rattle.field_tokens.specs.CommentWriting.{IsCommentWithin, SplitsComment, BeginsComment, WritesText}
+use Rattle.field_tokens.specs.private.CommentWriting.{IsCommentWithin, SplitsComment, BeginsComment, WritesText}
 use Rattle.field_tokens.proofs.Texts.{spelling-append, text_once, open_stops, close_stops, AreText-append, AreText-white, white_items}
 use Rattle.field_tokens.proofs.BodyLemmas.{grouped, body_once}
 use Rattle.field_tokens.proofs.Runs.{lead_whole, run_some}

@@ -14,7 +14,7 @@ use Rattle.field_tokens.specs.declared.TokenKind.{TokenKind}
 use Rattle.field_tokens.specs.declared.TokenKind.TheVariants.{Atom, Quoted, Literal, Special, Gap, Comment}
 use Rattle.field_tokens.specs.TokenOctets.{is_mail, is_special, is_atom_octet, is_line_octet}
 use Rattle.field_tokens.specs.Groups.{may_stand, AreMarks}
-use Rattle.field_tokens.specs.Levels.{Step, NeverCloses, SplitsGroup, BeginsNoGroup}
+use Rattle.field_tokens.specs.private.Levels.{Step, NeverCloses, SplitsGroup, BeginsNoGroup}
 use Rattle.field_tokens.specs.Tokens.{comment_marks, quoted_marks, literal_marks, BeginsWith, TokenValue, AreTokens, IsLine, HasTokenValues}
 use Rattle.field_tokens.proofs.Levels.{Step-none, Step-more, Step-plain, Step-pair, Step-close, Step-open, NeverCloses-deep, NeverCloses-end, NeverCloses-backslash, NeverCloses-plain, NeverCloses-pair}
 use Rattle.field_tokens.proofs.GroupLemmas.{group_found, group_never, no_group}

@@ -3,7 +3,7 @@ use Rattle.std.proofs.Common.{◌≡◌, ◌≢◌, ℕ, suc, ◌+◌, ◌<◌, 
 use Rattle.std.proofs.lemmas.List.{append_assoc, append-nil}
 use Rattle.field_tokens.specs.declared.groups.Marks.{Marks}
 use Rattle.field_tokens.specs.Groups.{Inside, End, Plain, Pair, Nested, inside_octets, depth_of, IsInside, AreMarks}
-use Rattle.field_tokens.specs.Levels.{Levels, Step, NeverCloses, SplitsGroup, BeginsNoGroup}
+use Rattle.field_tokens.specs.private.Levels.{Levels, Step, NeverCloses, SplitsGroup, BeginsNoGroup}
 use Rattle.field_tokens.proofs.Levels.{Step-plain, Step-pair, Step-close, Step-open, Step-more}
 
 pub group_found : (m : Marks) (text body rest : List ℕ) (d : ℕ) → text ≡ m.open_mark ∷ body → d ≡ 0 → Step m 1 body d rest → SplitsGroup m text rest

@@ -5,9 +5,9 @@ use Rattle.encoded_words.specs.CommentUnits.{TextItem, Plain as PlainItem, Pair 
 use Rattle.field_tokens.specs.Groups.{Inside, End, Plain, Pair, Nested, inside_octets, depth_of, IsInside}
 use Rattle.field_tokens.specs.Tokens.{comment_marks}
 use Rattle.field_tokens.specs.Trees.{AreText, spelling, Body, Last, Before, body_octets, IsBody}
-use Rattle.field_tokens.specs.Bodies.{body_depth}
+use Rattle.field_tokens.specs.private.Bodies.{body_depth}
 use Rattle.field_tokens.specs.Comments.{IsComment, comment_of}
-use Rattle.field_tokens.specs.CommentWriting.{IsCommentWithin}
+use Rattle.field_tokens.specs.private.CommentWriting.{IsCommentWithin}
 use Rattle.field_tokens.proofs.CommentTokens.{body_of, body_of-octets, body_of-is, body_of-depth}
 
 items_before : List TextItem → Inside → Inside

@@ -4,7 +4,7 @@ use Rattle.std.proofs.lemmas.Bool.{both_ways}
 use Rattle.std.proofs.lemmas.List.{append_assoc, length-append, take_rest}
 use Rattle.field_tokens.specs.Groups.{Inside, End, Plain, Pair, Nested, inside_octets, depth_of, may_stand, IsInside, AreMarks}
 use Rattle.field_tokens.specs.declared.groups.Marks.{Marks}
-use Rattle.field_tokens.specs.Levels.{Levels, Step, NeverCloses}
+use Rattle.field_tokens.specs.private.Levels.{Levels, Step, NeverCloses}
 
 pub Step-none : (m : Marks) (d : ℕ) (rest : List ℕ) → Step m d rest d rest
 Step-none m d rest = record { front = []; whole = refl; onward = λ ys l. l; back = λ xs z e l. (xs, e, l, refl) }

@@ -7,7 +7,7 @@ use Rattle.mail_wire.specs.Octets.{is_white}
 use Rattle.mail_wire.specs.Spans.{Stops, IsSpan}
 use Rattle.encoded_words.specs.CommentUnits.{TextItem, Plain, Pair, item_spelling, is_white_item}
 use Rattle.field_tokens.specs.Trees.{AreText, spelling, IsRun}
-use Rattle.field_tokens.specs.Bodies.{BeginsNoItem, BeginsItem, SplitsRun, SplitsText}
+use Rattle.field_tokens.specs.private.Bodies.{BeginsNoItem, BeginsItem, SplitsRun, SplitsText}
 use Rattle.field_tokens.proofs.Texts.{AreText-append, spelling-append, AreText-white, white_items, spelling-white, item_black}
 
 -- the last item is not white

@@ -9,7 +9,7 @@ use Rattle.mail_wire.specs.Spans.{Stops}
 use Rattle.mail_wire.specs.declared.values.Span.{Span}
 use Rattle.encoded_words.specs.CommentUnits.{TextItem, Plain, Pair, item_spelling, is_white_item}
 use Rattle.field_tokens.specs.Trees.{StandsInText, AreText, spelling, HasRun, GivesRun}
-use Rattle.field_tokens.specs.Bodies.{BeginsNoItem}
+use Rattle.field_tokens.specs.private.Bodies.{BeginsNoItem}
 use Rattle.field_tokens.specs.Comments.{HasRunOf}
 
 pub AreText-append : (a b : List TextItem) → AreText a → AreText b → AreText (a ++ b)

@@ -9,7 +9,7 @@ use Rattle.field_tokens.specs.declared.TokenKind.{TokenKind}
 use Rattle.field_tokens.specs.declared.TokenKind.TheVariants.{Atom, Quoted, Literal, Special, Gap, Comment}
 use Rattle.field_tokens.specs.declared.groups.Marks.{Marks}
 use Rattle.field_tokens.specs.Groups.{IsGroup, AreMarks}
-use Rattle.field_tokens.specs.Levels.{BeginsNoGroup}
+use Rattle.field_tokens.specs.private.Levels.{BeginsNoGroup}
 use Rattle.mail_wire.specs.Octets.{is_white}
 use Rattle.field_tokens.specs.TokenOctets.{is_mail, is_special, is_mark, is_control, is_atom_octet}
 use Rattle.field_tokens.specs.Tokens.{comment_marks, quoted_marks, literal_marks, IsToken, BeginsWith}

@@ -9,7 +9,7 @@ use Rattle.field_tokens.specs.declared.Item.TheVariants.{Run, rolls-Run, rolls-N
 use Rattle.field_tokens.specs.declared.Item.TheViews.{roll-Comment, Nested}
 use Rattle.field_tokens.specs.declared.Item.TheFolds.{fold-roll-Item, fold-roll-Comment}
 use Rattle.field_tokens.specs.Trees.{Tree, End, RunThen, NestedThen, item_step, comment_step, all_before, tree_of, item_of}
-use Rattle.field_tokens.specs.Bodies.{AddsItem}
+use Rattle.field_tokens.specs.private.Bodies.{AddsItem}
 
 pub tree_roll : (x : Comment-F Item Comment) → tree_of (roll-Comment x) ≡ all_before (map item_of x.items.items) End
 tree_roll = fold-roll-Comment (Tree → Tree) Tree item_step comment_step

@@ -8,7 +8,7 @@ use Rattle.std.specs.Str.{IsUtf8}
 use Rattle.mail_wire.specs.Octets.{is_white}
 use Rattle.encoded_words.specs.CommentUnits.{TextItem, Plain, Pair, is_white_item}
 use Rattle.field_tokens.specs.Trees.{spelling, Body, Before, body_octets}
-use Rattle.field_tokens.specs.Bodies.{BeginsNoItem}
+use Rattle.field_tokens.specs.private.Bodies.{BeginsNoItem}
 use Rattle.field_tokens.specs.Comments.{HasRunOf, comment_of}
 use Rattle.field_tokens.proofs.Texts.{spelling-append}
 use Rattle.field_tokens.proofs.TokenLines.{BothUtf8, BeginsAscii, before_ascii, behind_ascii, ends_ascii}

@@ -17,7 +17,7 @@ use Rattle.encoded_words.proofs.WritableUnits.{HasCommentUnits-writable}
 use Rattle.encoded_words.proofs.WrittenUnits.{HasCommentUnits-written}
 use Rattle.encoded_words.proofs.WrittenPieces.{is_plain, IsPlainPiece, HasCommentUnits-not_empty, WriteAll-some_piece, joined_all}
 use Rattle.field_tokens.specs.Trees.{StandsInText, AreText, spelling, Body, Last, Before, body_octets, IsBody, IsRun}
-use Rattle.field_tokens.specs.Bodies.{body_depth}
+use Rattle.field_tokens.specs.private.Bodies.{body_depth}
 use Rattle.field_tokens.specs.Comments.{IsComment, CommentValue, TextSays, BodySays, comment_of, CommentSays, RunPieces, TextPieces, White, Run, WrappedPieces, BodyPieces, CommentPieces, CommentsSay, CommentsPieces, AreWritableComments, IsWritten, IsAsciiComment, AreWritten}
 use Rattle.field_tokens.proofs.Texts.{AreText-append, spelling-append, HasRunOf-once, HasRunOf-black}
 use Rattle.field_tokens.proofs.BodyLemmas.{body_once}

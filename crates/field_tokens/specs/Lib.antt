@@ -1,9 +1,7 @@
 pub mod TokenOctets
 pub mod Groups
-pub mod Levels
 pub mod Tokens
 pub mod Trees
 pub mod Comments
-pub mod Bodies
-pub mod CommentWriting
 pub mod Squeezed
+pub mod private

@@ -3,14 +3,13 @@ ghost use Rattle.std.specs.Prelude.{◌≡◌, ◌++◌, ◌∷◌, [], ◌≤�
 ghost use Rattle.std.specs.List.{list_all};
 ghost use Rattle.mail_wire.specs.Octets.{is_ascii as is_ascii_of};
 ghost use Rattle.field_tokens.specs.Comments.{IsComment, RunPieces, CommentPieces, AddsPieces};
-ghost use Rattle.field_tokens.specs.CommentWriting.{IsCommentWithin, BeginsComment, SplitsComment, WritesText};
+ghost use Rattle.field_tokens.specs.private.CommentWriting.{IsCommentWithin, BeginsComment, SplitsComment, WritesText};
 
 use crate::groups::{COMMENT, group_rest};
 use crate::places::split_mark;
 use crate::trees::split_run;
 use encoded_words::{read_comment, write_units};
-use mail_wire::text::{is_ascii, split_white};
-use mail_wire::values::{Memory, Octets};
+use mail_wire::{Memory, Octets, is_ascii, split_white};
 use std::alloc::Global;
 
 fn push_piece(alloc: Global, octets: &[u8], pieces: &mut Vec<Octets>) -> Result<(), Memory>
@@ -32,7 +31,7 @@ fn write_run(alloc: Global, run: &[u8], pieces: &mut Vec<Octets>) -> Result<(), 
     write_units(alloc, &units, pieces)
 }
 
-/// Puts the pieces of the text that comes first last, and answers what follows it.
+// Puts the pieces of the text that comes first last, and answers what follows it.
 fn write_text<'a>(
     alloc: Global,
     octets: &'a [u8],
@@ -51,7 +50,7 @@ fn write_text<'a>(
     Ok(after)
 }
 
-/// The comment that comes first, and what follows it.
+// The comment that comes first, and what follows it.
 fn split_comment(octets: &[u8]) -> (&[u8], &[u8])
     requires { BeginsComment octets.now }
     ensures { SplitsComment octets.now result.0.now result.1.now }
@@ -63,7 +62,7 @@ fn split_comment(octets: &[u8]) -> (&[u8], &[u8])
     (comment, rest)
 }
 
-/// Calls of itself go no deeper than `levels`.
+// Calls of itself go no deeper than `levels`.
 fn write_nested(
     alloc: Global,
     comment: &[u8],

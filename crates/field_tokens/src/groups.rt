@@ -2,7 +2,7 @@
 ghost use Rattle.std.specs.Prelude.{◌≡◌, ◌<◌, ◌≤◌, length, IfSome, IfNone};
 ghost use Rattle.field_tokens.specs.TokenOctets.{is_control as is_control_of};
 ghost use Rattle.field_tokens.specs.Groups.{may_stand as may_stand_of, AreMarks};
-ghost use Rattle.field_tokens.specs.Levels.{Step, NeverCloses, SplitsGroup, BeginsNoGroup};
+ghost use Rattle.field_tokens.specs.private.Levels.{Step, NeverCloses, SplitsGroup, BeginsNoGroup};
 
 /// The marks of a kind of group, how many may be open at one place, and whether control octets may stand in it.
 #[derive(Clone, Copy)]
@@ -41,14 +41,14 @@ pub fn is_control(octet: u8) -> bool
     (octet < 32 && octet != b'\t') || octet == 127
 }
 
-/// Whether an octet that is no mark may stand in a group.
+// Whether an octet that is no mark may stand in a group.
 fn may_stand(marks: Marks, octet: u8) -> bool
     ensures { result ≡ may_stand_of marks octet }
 {
     marks.holds_controls || !is_control(octet)
 }
 
-/// One octet, pair or mark of open groups: how many are open behind it, and what follows.
+// One octet, pair or mark of open groups: how many are open behind it, and what follows.
 fn group_step(marks: Marks, depth: usize, rest: &[u8]) -> Option<(usize, &[u8])>
     requires marks { AreMarks marks }
     requires is_open { 0 < depth }

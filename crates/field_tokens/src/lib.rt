@@ -1,18 +1,19 @@
 //! The tokens of a structured field's text (RFC 5322, 3.2; RFC 2045, 5.1), and its comments as trees.
 #![tactic(auto)]
 
-pub mod comments;
+mod comments;
 mod groups;
-pub mod kinds;
+mod kinds;
 pub mod laws;
 mod places;
-pub mod reading;
-pub mod squeezing;
-pub mod trees;
+mod reading;
+mod squeezing;
+mod trees;
 
+pub use comments::write_comment;
 pub use kinds::{is_blank, is_comment};
-use mail_wire::values::Span;
-pub use reading::{read_tokens, tokens};
+use mail_wire::Span;
+pub use reading::{is_atom_octet, read_tokens, tokens};
 pub use squeezing::squeezed;
 pub use trees::comment_tree;
 

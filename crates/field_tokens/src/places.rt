@@ -2,7 +2,7 @@
 ghost use Rattle.std.specs.Prelude.{◌≡◌, ◌+◌, ◌<◌, ◌≤◌, ◌∷◌, length};
 ghost use Rattle.field_tokens.specs.Tokens.{octets_at};
 
-use mail_wire::values::Span;
+use mail_wire::Span;
 
 pub fn octets_of(text: &[u8], span: Span) -> &[u8]
     requires { span.at + span.len ≤ length text.now }

@@ -9,11 +9,10 @@ ghost use Rattle.field_tokens.specs.declared.TokenKind.{TokenKind};
 
 use crate::groups::{COMMENT, LITERAL, QUOTED, group_rest, is_control};
 use crate::{Style, Token, TokenFault, TokenKind};
-use mail_wire::text::{is_utf8, is_white, split_white};
-use mail_wire::values::{Memory, Span};
+use mail_wire::{Memory, Span, is_utf8, is_white, split_white};
 use std::alloc::Global;
 
-/// Whether an octet is a token of its own.
+// Whether an octet is a token of its own.
 fn is_special(style: Style, octet: u8) -> bool
     ensures { result ≡ is_special_of style octet }
 {
@@ -23,7 +22,7 @@ fn is_special(style: Style, octet: u8) -> bool
     }
 }
 
-/// Whether an octet begins or ends a group, or quotes.
+// Whether an octet begins or ends a group, or quotes.
 fn is_mark(style: Style, octet: u8) -> bool
     ensures { result ≡ is_mark_of style octet }
 {
@@ -33,7 +32,7 @@ fn is_mark(style: Style, octet: u8) -> bool
     }
 }
 
-/// Whether an octet begins a literal.
+// Whether an octet begins a literal.
 fn opens_literal(style: Style, octet: u8) -> bool
     ensures { result ≡ (is_mail style && octet == 91) }
 {
@@ -47,7 +46,7 @@ pub fn is_atom_octet(style: Style, octet: u8) -> bool
     !is_white(octet) && !is_special(style, octet) && !is_mark(style, octet) && !is_control(octet)
 }
 
-/// The place of the first octet that may not stand in an atom.
+// The place of the first octet that may not stand in an atom.
 fn find_atom_end(style: Style, octets: &[u8]) -> Option<usize>
     ensures { result ≡ position (λ x. not (is_atom_octet_of style x)) octets.now }
 {
@@ -56,7 +55,7 @@ fn find_atom_end(style: Style, octets: &[u8]) -> Option<usize>
         .position(|octet| !is_atom_octet(style, *octet))
 }
 
-/// The longest front of an atom's octets, and what follows it.
+// The longest front of an atom's octets, and what follows it.
 fn split_atom(style: Style, octets: &[u8]) -> (&[u8], &[u8])
     ensures { IsSpan (is_atom_octet_of style) octets.now result.0.now result.1.now }
 {
@@ -66,7 +65,7 @@ fn split_atom(style: Style, octets: &[u8]) -> (&[u8], &[u8])
     }
 }
 
-/// The kind of the first token of a text, and what follows it.
+// The kind of the first token of a text, and what follows it.
 fn first_token(style: Style, text: &[u8]) -> Option<(TokenKind, &[u8])>
     requires { 0 < length text.now }
     ensures found { IfSome result (λ x. BeginsWith style x.0 text.now x.1.now) }
@@ -106,7 +105,7 @@ fn first_token(style: Style, text: &[u8]) -> Option<(TokenKind, &[u8])>
     None
 }
 
-/// Whether no octet is NUL, CR or LF.
+// Whether no octet is NUL, CR or LF.
 fn are_line_octets(text: &[u8]) -> bool
     ensures { result ≡ list_all is_line_octet text.now }
 {
@@ -114,7 +113,7 @@ fn are_line_octets(text: &[u8]) -> bool
         .all(|octet| !matches!(*octet, 0 | b'\r' | b'\n'))
 }
 
-/// Whether the octets are UTF-8 without NUL, CR and LF.
+// Whether the octets are UTF-8 without NUL, CR and LF.
 fn is_line(text: &[u8]) -> bool
     ensures { IsTrue result ↔ IsLine text.now }
 {

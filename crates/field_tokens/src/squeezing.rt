@@ -5,7 +5,7 @@ ghost use Rattle.field_tokens.specs.Squeezed.{squeezed_text, AreNeighbours};
 use crate::Token;
 use crate::kinds::is_blank;
 use crate::places::octets_of;
-use mail_wire::values::{Memory, Octets};
+use mail_wire::{Memory, Octets};
 use std::alloc::Global;
 
 fn push_token(made: &mut Octets, is_apart: bool, octets: &[u8]) -> Result<(), Memory>

@@ -4,15 +4,14 @@ ghost use Rattle.mail_wire.specs.Octets.{is_white};
 ghost use Rattle.mail_wire.specs.Spans.{Stops};
 ghost use Rattle.field_tokens.specs.Tokens.{IsTokenOf};
 ghost use Rattle.field_tokens.specs.Trees.{tree_of, run_then, NestedThen, HasComment};
-ghost use Rattle.field_tokens.specs.Bodies.{BeginsNoItem, BeginsItem, SplitsRun, SplitsText, HoldsBody, ReadsBody, AddsItem};
+ghost use Rattle.field_tokens.specs.private.Bodies.{BeginsNoItem, BeginsItem, SplitsRun, SplitsText, HoldsBody, ReadsBody, AddsItem};
 
 use crate::places::{octets_of, split_mark};
 use crate::{Comment, Item, Token, TokenKind};
-use mail_wire::text::split_white;
-use mail_wire::values::{Memory, Span};
+use mail_wire::{Memory, Span, split_white};
 use std::alloc::Global;
 
-/// What follows the octet or the quoted pair that comes first.
+// What follows the octet or the quoted pair that comes first.
 fn item_rest(octets: &[u8]) -> Option<&[u8]>
     ensures found { IfSome result (λ rest. BeginsItem octets.now rest.now) }
     ensures shorter { IfSome result (λ rest. length rest.now < length octets.now) }
@@ -50,7 +49,7 @@ pub(crate) fn split_run(octets: &[u8]) -> (usize, &[u8])
     }
 }
 
-/// The run of the text that comes first, and what follows the text. The last octet stands before `end`.
+// The run of the text that comes first, and what follows the text. The last octet stands before `end`.
 fn split_text(end: usize, octets: &[u8]) -> (Option<Span>, &[u8])
     requires { length octets.now ≤ end }
     ensures { SplitsText end octets.now result.0 result.1.now }
@@ -80,8 +79,8 @@ fn push_nested(items: &mut Vec<Item>, comment: Comment) -> Result<(), Memory>
     Ok(())
 }
 
-/// The comment whose opening parenthesis stands before the octets, and what follows its closing parenthesis. The last
-/// octet stands before `end`. Calls of itself go no deeper than `levels`.
+// The comment whose opening parenthesis stands before the octets, and what follows its closing parenthesis. The last
+// octet stands before `end`. Calls of itself go no deeper than `levels`.
 fn read_comment(
     alloc: Global,
     end: usize,

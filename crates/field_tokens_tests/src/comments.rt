@@ -3,8 +3,7 @@ ghost use Rattle.std.specs.Prelude.{◌≡◌, [], ◌∷◌, true, IsTrue};
 ghost use Rattle.field_tokens.specs.Squeezed.{is_comment as is_comment_of};
 ghost use Rattle.field_tokens.specs.declared.Token.{Token};
 
-use field_tokens::comments::write_comment;
-use field_tokens::{Style, Token, is_comment, read_tokens};
+use field_tokens::{Style, Token, is_comment, read_tokens, write_comment};
 use std::alloc::Global;
 use std::test::Fail;
 

@@ -3,7 +3,7 @@ use field_tokens::{
     Comment, Item, Style, Token, TokenFault, TokenKind, comment_tree, is_blank, is_comment,
     read_tokens, squeezed, tokens,
 };
-use mail_wire::values::Span;
+use mail_wire::Span;
 use std::test::Fail;
 
 fn token(kind: TokenKind, at: usize, len: usize) -> Token {

@@ -2,7 +2,7 @@
 use Rattle.std.proofs.Common.{◌≡◌, ℕ, List, [], ◌∷◌, Option, Some, None, refl, sym, subst, ◌∙◌, inl, inr, codes}
 use Rattle.mail_wire.specs.Telling.{Telling}
 use Rattle.mail_wire.proofs.Moving.{Gives-nil}
-use Rattle.address_lists.specs.declared.Address.{Address}
+use Rattle.address_grammar.specs.declared.Address.{Address}
 use Rattle.mail_store.specs.Answers.{LeavesRecords}
 use Rattle.mail_store.specs.Kept.{Kept}
 use Rattle.mail_store.specs.declared.changing.StoreFault.{StoreFault}

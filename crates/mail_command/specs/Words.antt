@@ -1,6 +1,6 @@
 -- The words of the commands.
 use Rattle.std.specs.Prelude.{◌≡◌, ℕ, List, [], ◌∷◌, codes, string_bytes, Option, Some, None}
-use Rattle.address_lists.specs.declared.Address.{Address}
+use Rattle.address_grammar.specs.declared.Address.{Address}
 use Rattle.setup_command.specs.WordForms.{IsAccount, IsDomain, IsHelp}
 use Rattle.mail_command.specs.declared.command.Command.{Command}
 use Rattle.mail_command.specs.declared.command.Command.TheVariants as command

@@ -2,8 +2,8 @@
 ghost use Rattle.std.specs.Prelude.{◌≡◌, ◌≢◌, ℕ, List, [], ◌∷◌, Err, IfOk, IfErr, IfSome};
 ghost use Rattle.mail_wire.specs.Moves.{HasWireCause};
 ghost use Rattle.ace_domains.specs.Domains.{compared_form};
-ghost use Rattle.address_lists.specs.Addresses.{address_text};
-ghost use Rattle.address_lists.specs.declared.Address.{Address as AddressValue};
+ghost use Rattle.address_grammar.specs.Addresses.{address_text};
+ghost use Rattle.address_grammar.specs.declared.Address.{Address as AddressValue};
 ghost use Rattle.mail_store.specs.Addresses.{WithPaths};
 ghost use Rattle.mail_store.specs.Changing.{account_refusal, domain_refusal};
 ghost use Rattle.mail_store.specs.declared.records.Record.TheVariants as records;
@@ -20,15 +20,11 @@ ghost use Rattle.mail_command.specs.declared.serving.TheConstants.{LIMITS};
 use crate::downgrading::run_downgrade;
 use crate::roles::Role;
 use crate::sessions::run_session;
-use mail_wire::clock::Clock;
-use mail_wire::keeping::Keeper;
-use mail_wire::outside::{Fault, Wire};
-use mail_wire::traffic::give_all;
-use mail_wire::values::Memory;
-use mail_wire::words::Words;
-use setup_command::adding::{run_account, run_domain};
-use setup_command::helping::run_help;
-use setup_command::word_forms::{AccountWords, read_account, read_domain};
+use mail_wire::{Clock, Fault, Keeper, Memory, Wire, Words, give_all};
+use setup_command::{
+    AccountWords, KEEPER_FAULT, WANT_OF_MEMORY, WIRE_FAULT, WORDS_REFUSED, read_account,
+    read_domain, run_account, run_domain, run_help,
+};
 use std::alloc::Global;
 
 /// The commands that words name.
@@ -87,7 +83,7 @@ fn refuse_words<W: Wire>(wire: &mut W) -> Result<u8, Fault>
     ensures keeper { ¬ (result ≡ Err Fault.Keeper) }
 {
     give_all(wire, b"words refused\r\n")?;
-    Ok(4)
+    Ok(WORDS_REFUSED)
 }
 
 // Does what the words say.
@@ -165,8 +161,8 @@ pub fn run<W: Wire, J: Keeper, C: Clock>(
 {
     match work(alloc, words, wire, keeper, clock) {
         Ok(status) => status,
-        Err(Fault::Wire) => 1,
-        Err(Fault::Keeper) => 2,
-        Err(Fault::Memory) => 3,
+        Err(Fault::Wire) => WIRE_FAULT,
+        Err(Fault::Keeper) => KEEPER_FAULT,
+        Err(Fault::Memory) => WANT_OF_MEMORY,
     }
 }

@@ -8,24 +8,24 @@ ghost use Rattle.mail_command.specs.Running.{Answers, BreaksOff};
 
 use crate::lines::{Reply, refusal_line};
 use crate::taking::take_up_to;
-use mail_wire::outside::{Fault, Wire};
-use mail_wire::traffic::give_all;
-use mail_wire::values::{Memory, Octets};
-use mime_tree::completing::complete;
-use mime_tree::entity::TreeFault;
-use mime_tree::reading::read_tree;
+use mail_wire::{Fault, Memory, Octets, Wire, give_all};
+use mime_tree::{TreeFault, complete, read_tree};
+use setup_command::{DONE, MESSAGE_REFUSED};
 use std::alloc::Global;
-use surrogate_rope::rope::Rope;
+use surrogate_rope::Rope;
 
 /// The most octets of a message: 32 MiB.
-pub const MESSAGE_MAX: usize = mail_store::limits::MESSAGE_MAX as usize;
+pub const MESSAGE_MAX: usize = mail_store::MESSAGE_MAX as usize;
 
 // A message is refused at this place.
 fn refused(alloc: Global, at: usize, reason: &[u8]) -> Result<Reply, Memory>
     ensures { IfOk result (λ reply. (reply.status ≡ 7) × (reply.given ≡ refusal_line at reason.now)) }
 {
     let given = refusal_line(alloc, at as u64, reason)?;
-    Ok(Reply { status: 7, given })
+    Ok(Reply {
+        status: MESSAGE_REFUSED,
+        given,
+    })
 }
 
 // The fault of a message, or want of memory.
@@ -67,7 +67,10 @@ pub fn downgrade(alloc: Global, octets: Octets) -> Result<Reply, Memory>
     };
     let rope = Rope::build(alloc, completed.as_slice(), &tree)?;
     let given = rope_octets(alloc, completed.as_slice(), &rope)?;
-    Ok(Reply { status: 0, given })
+    Ok(Reply {
+        status: DONE,
+        given,
+    })
 }
 
 /// Takes one message, and gives its surrogate or why there is none.

@@ -1,11 +1,18 @@
 //! The commands: what the words of the command line do over a wire and a keeper.
 #![tactic(auto)]
 
-pub mod command;
-pub mod downgrading;
+mod command;
+mod downgrading;
 pub mod laws;
 mod lines;
-pub mod roles;
-pub mod serving;
-pub mod sessions;
-pub mod taking;
+mod roles;
+mod serving;
+mod sessions;
+mod taking;
+
+pub use command::run;
+pub use downgrading::downgrade;
+pub use roles::Role;
+pub use serving::{Desk, LIMITS, Limits, Served, open_desk, serve_one};
+pub use sessions::run_session;
+pub use setup_command::{KEEPER_FAULT, WANT_OF_MEMORY, WIRE_FAULT};

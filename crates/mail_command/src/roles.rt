@@ -8,12 +8,10 @@ ghost use Rattle.mail_command.specs.Roles.{ForRole, OverCall, Begins, Feeds, Has
 ghost use Rattle.mail_command.specs.Serving.{IsOpen};
 
 use crate::serving::Desk;
-use mail_store::storing::Store;
-use mail_wire::clock::Clock;
-use mail_wire::keeping::Keeper;
-use mail_wire::outside::{Fault, Wire};
-use pop_session::session::PopSession;
-use smtp_session::session::SmtpSession;
+use mail_store::Store;
+use mail_wire::{Clock, Fault, Keeper, Wire};
+use pop_session::PopSession;
+use smtp_session::SmtpSession;
 use std::alloc::Global;
 
 /// The protocol of a session.

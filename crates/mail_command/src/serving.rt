@@ -9,15 +9,10 @@ ghost use Rattle.mail_command.specs.Serving.{AreLimits, IsOpen, Serves};
 ghost use Rattle.mail_command.specs.Served.{HasServedCause, served_of};
 
 use crate::roles::{Role, Session};
-use mail_store::limits::MESSAGE_MAX;
-use mail_store::opening::OpenFault;
-use mail_store::storing::Store;
-use mail_wire::clock::Clock;
-use mail_wire::keeping::Keeper;
-use mail_wire::outside::{Fault, Wire};
-use mail_wire::traffic::{PIECE, take_piece};
+use mail_store::{MESSAGE_MAX, OpenFault, Store};
+use mail_wire::{Clock, Fault, Keeper, PIECE, Wire, take_piece};
 use std::alloc::Global;
-use surrogate_cache::cache::Cache;
+use surrogate_cache::Cache;
 
 /// How much a desk serves: octets of a message and of a session, blocks and entries of the cache.
 #[derive(Clone, Copy, Debug, PartialEq, Eq)]

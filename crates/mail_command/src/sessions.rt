@@ -8,10 +8,8 @@ ghost use Rattle.mail_command.specs.declared.serving.TheConstants.{LIMITS};
 
 use crate::roles::Role;
 use crate::serving::{LIMITS, Served, open_desk, serve_one};
-use mail_wire::clock::Clock;
-use mail_wire::keeping::Keeper;
-use mail_wire::outside::{Fault, Wire};
-use setup_command::refusals::tell_unopened;
+use mail_wire::{Clock, Fault, Keeper, Wire};
+use setup_command::{DONE, LIMIT_REACHED, tell_unopened};
 use std::alloc::Global;
 
 /// Opens the journal of the keeper, and serves one session.
@@ -33,8 +31,8 @@ pub fn run_session<W: Wire, J: Keeper, C: Clock>(
         Err(fault) => return tell_unopened(alloc, fault, wire),
     };
     match serve_one(alloc, &mut desk, role, wire, keeper, clock) {
-        Served::Ended => Ok(0),
-        Served::Limit => Ok(6),
+        Served::Ended => Ok(DONE),
+        Served::Limit => Ok(LIMIT_REACHED),
         Served::WireFault => Err(Fault::Wire),
         Served::KeeperFault => Err(Fault::Keeper),
         Served::Memory => Err(Fault::Memory),

@@ -3,9 +3,7 @@ ghost use Rattle.std.specs.Prelude.{◌≡◌, Err, IfOk, OnErr};
 ghost use Rattle.mail_wire.specs.Moves.{HasWireCause};
 ghost use Rattle.mail_command.specs.Taking.{TakesUpTo, TakesSome};
 
-use mail_wire::outside::{Fault, Wire};
-use mail_wire::traffic::{PIECE, take_piece};
-use mail_wire::values::Octets;
+use mail_wire::{Fault, Octets, PIECE, Wire, take_piece};
 use std::alloc::Global;
 
 /// Takes what is left, or the first octets of it, once they are more than `max`: up to a piece more.

@@ -1,11 +1,6 @@
 //! The rows of `downgrade`, over wires in memory.
-use mail_command::command::run;
-use mail_wire::clock::FixedClock;
-use mail_wire::in_memory::{Failure, MemWire};
-use mail_wire::mem_keeper::MemKeeper;
-use mail_wire::outside::Entry;
-use mail_wire::values::Octets;
-use mail_wire::words::Words;
+use mail_command::run;
+use mail_wire::{Entry, Failure, FixedClock, MemKeeper, MemWire, Octets, Words};
 use std::alloc::Global;
 use std::test::Fail;
 

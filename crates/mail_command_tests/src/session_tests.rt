@@ -1,13 +1,6 @@
 //! The rows of sessions, over wires and keepers in memory.
-use mail_command::command::run;
-use mail_command::roles::Role;
-use mail_command::serving::{LIMITS, Limits, Served, open_desk, serve_one};
-use mail_wire::clock::FixedClock;
-use mail_wire::in_memory::{Failure, MemWire};
-use mail_wire::mem_keeper::MemKeeper;
-use mail_wire::outside::Entry;
-use mail_wire::values::{Memory, Octets};
-use mail_wire::words::Words;
+use mail_command::{LIMITS, Limits, Role, Served, open_desk, run, serve_one};
+use mail_wire::{Entry, Failure, FixedClock, MemKeeper, MemWire, Memory, Octets, Words};
 use std::alloc::Global;
 use std::test::Fail;
 

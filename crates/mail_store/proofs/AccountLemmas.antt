@@ -1,10 +1,10 @@
 -- One more account.
 use Rattle.std.proofs.Common.{◌≡◌, ℕ, ◌<◌, ◌≤◌, Bool, true, false, not, cond, ◌||◌, List, [], ◌∷◌, ◌++◌, length, Option, Some, None, Err, refl, ap, ap₂, ◌∙◌, arith, length-append}
 use Rattle.std.specs.Prelude.{is_some}
-use Rattle.address_lists.specs.declared.Address.{Address}
-use Rattle.address_lists.specs.Addresses.{address_text}
-use Rattle.address_lists.specs.Paths.{ComesInPath, ReadsPaths}
-use Rattle.address_lists.proofs.WritingLemmas.{path_again}
+use Rattle.address_grammar.specs.declared.Address.{Address}
+use Rattle.address_grammar.specs.Addresses.{address_text}
+use Rattle.address_grammar.specs.Paths.{ComesInPath, ReadsPaths}
+use Rattle.address_grammar.proofs.WritingLemmas.{path_again}
 use Rattle.mail_store.specs.declared.changing.StoreFault.{StoreFault}
 use Rattle.mail_store.specs.declared.changing.StoreFault.TheVariants as faults
 use Rattle.mail_store.specs.declared.kept.Account.{Account}
@@ -12,9 +12,9 @@ use Rattle.mail_store.specs.declared.kept.Folder.{Folder}
 use Rattle.mail_store.specs.declared.limits.TheConstants.{THINGS_MAX, TEXT_MAX}
 use Rattle.mail_store.specs.declared.records.Record.TheVariants as records
 use Rattle.mail_store.specs.Changing.{are_too_many, account_refusal, IsRefusedAs, IsSendable}
-use Rattle.mail_store.specs.Delivering.{room_refusal}
+use Rattle.mail_store.specs.private.Delivering.{room_refusal}
 use Rattle.mail_store.specs.Kept.{Kept, find_account, inbox, is_local}
-use Rattle.mail_store.specs.Names.{mailbox_key, first_mailbox}
+use Rattle.mail_store.specs.private.Names.{mailbox_key, first_mailbox}
 use Rattle.mail_store.specs.Records.{AreRecords}
 use Rattle.mail_store.specs.Spelling.{octet_list}
 use Rattle.mail_store.specs.StoreState.{StoreState, Indexes, AreIndexes, with_records}

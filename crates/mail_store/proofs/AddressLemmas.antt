@@ -5,8 +5,8 @@ use Rattle.std.specs.Prelude.{IsUtf8, IfNone}
 use Rattle.std.specs.Str.{chars}
 use Rattle.unicode_normalization.specs.Forms.{nfd}
 use Rattle.caseless.specs.Caseless.{default_case_fold, canonical_key}
-use Rattle.address_lists.specs.declared.Address.{Address}
-use Rattle.address_lists.specs.Paths.{HasPath, in_angles}
+use Rattle.address_grammar.specs.declared.Address.{Address}
+use Rattle.address_grammar.specs.Paths.{HasPath, in_angles}
 use Rattle.mail_store.specs.Addresses.{IsTextOf}
 
 -- where the path was the null path, the text is that of no address

@@ -1,7 +1,7 @@
 -- What reading a text tells of whether it is an address within its limit.
 use Rattle.std.proofs.Common.{◌≡◌, ℕ, ◌≤◌, true, false, List, length, Option, Some, None, refl, subst}
 use Rattle.std.specs.Prelude.{◌↔◌, IsTrue, IfSome, IfNone}
-use Rattle.address_lists.specs.declared.Address.{Address}
+use Rattle.address_grammar.specs.declared.Address.{Address}
 use Rattle.mail_store.specs.declared.limits.TheConstants.{TEXT_MAX}
 use Rattle.mail_store.specs.Addresses.{IsTextOf}
 use Rattle.mail_store.specs.Records.{IsAddress}

@@ -11,7 +11,7 @@ use Rattle.mail_store.specs.declared.contents.Content.{Content}
 use Rattle.mail_store.specs.declared.limits.TheConstants.{THINGS_MAX}
 use Rattle.mail_store.specs.declared.kept.Message.{Message}
 use Rattle.mail_store.specs.declared.kept.Listed.{Listed}
-use Rattle.mail_store.specs.Chains.{chain, content_at, empty_content}
+use Rattle.mail_store.specs.private.Chains.{chain, content_at, empty_content}
 use Rattle.mail_store.specs.Kept.{Kept, numbers_in, uid_next, listed_from, listed_one}
 use Rattle.mail_store.specs.StoreState.{Indexes, AreIndexes}
 use Rattle.mail_store.proofs.ChainLemmas.{AreBelow, chain_below}

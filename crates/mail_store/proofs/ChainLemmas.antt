@@ -8,7 +8,7 @@ use Rattle.std.proofs.Math.Seq.{get_or-append_seam}
 use Rattle.mail_store.specs.declared.contents.Content.{Content}
 use Rattle.mail_store.specs.declared.kept.Message.{Message}
 use Rattle.mail_store.specs.Kept.{numbers_in}
-use Rattle.mail_store.specs.Chains.{chain, empty_content, content_at, AreChained}
+use Rattle.mail_store.specs.private.Chains.{chain, empty_content, content_at, AreChained}
 
 pub eqb_same : (n : ℕ) → eqb n n ≡ true
 eqb_same n = eq-eqb n n refl

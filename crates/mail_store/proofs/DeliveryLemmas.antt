@@ -2,21 +2,21 @@
 use Rattle.std.proofs.Common.{◌≡◌, ◌⊎◌, ℕ, suc, ◌+◌, ◌<◌, ◌≤◌, Bool, true, false, not, cond, ◌||◌, ◌&&◌, eqb, List, [], ◌∷◌, ◌++◌, length, map, take, get_or, Option, Some, None, unwrap_or, refl, sym, ap, subst, ◌∙◌, arith, inl, inr, append_assoc, append-nil, length-append}
 use Rattle.std.specs.List.{flat_map, All, AllByRecursion}
 use Rattle.std.specs.Prelude.{IfSome, ◌*◌}
-use Rattle.address_lists.specs.declared.Address.{Address}
-use Rattle.address_lists.specs.Addresses.{address_text}
+use Rattle.address_grammar.specs.declared.Address.{Address}
+use Rattle.address_grammar.specs.Addresses.{address_text}
 use Rattle.std.specs.Option.{option_to_list}
 use Rattle.std.proofs.lemmas.Grind.{flat_map-append}
 use Rattle.std.proofs.lemmas.List.{take_more, length-map}
 use Rattle.std.proofs.lemmas.List.Elements.{All-head, All-tail, All-map}
 use Rattle.std.proofs.lemmas.Option.{slice_get-get_or}
 use Rattle.std.proofs.lemmas.Bool.{ltb-false, cases_Bool, ne_eqb}
-use Rattle.address_lists.proofs.WritingLemmas.{path_again}
+use Rattle.address_grammar.proofs.WritingLemmas.{path_again}
 use Rattle.mail_store.specs.declared.kept.Message.{Message}
 use Rattle.mail_store.specs.declared.records.Record.{Record}
 use Rattle.mail_store.specs.declared.records.Record.TheVariants as records
 use Rattle.mail_store.specs.Changing.{IsDeliverable, IsSendable, delivered, IsWritable, path_text, queued, copy_for, inboxes_of, has_large_octets, has_many_things, are_too_many, delivery_refusal}
 use Rattle.mail_store.specs.declared.changing.StoreFault.TheVariants as faults
-use Rattle.mail_store.specs.Delivering.{copied}
+use Rattle.mail_store.specs.private.Delivering.{copied}
 use Rattle.mail_store.specs.Kept.{Kept, after, after_all, inbox_of}
 use Rattle.mail_store.specs.Grammar.{IsDate}
 use Rattle.mail_store.specs.Records.{AreRecords, IsAddress, recipient_count}

@@ -12,7 +12,7 @@ use Rattle.mail_store.specs.declared.records.Record.TheVariants as records
 use Rattle.mail_store.specs.Addresses.{IsDomainText}
 use Rattle.mail_store.specs.Changing.{are_too_many, domain_refusal, IsWritable}
 use Rattle.mail_store.specs.Kept.{Kept, is_local}
-use Rattle.mail_store.specs.Names.{first_name, PutsName}
+use Rattle.mail_store.specs.private.Names.{first_name, PutsName}
 use Rattle.mail_store.specs.Records.{AreRecords}
 use Rattle.mail_store.specs.StoreState.{Indexes, AreIndexes}
 use Rattle.mail_store.proofs.MailboxLemmas.{first_name_is_local}

@@ -6,7 +6,7 @@ use Rattle.std.specs.Option.{option_to_list, option_and_then}
 use Rattle.std.proofs.lemmas.List.{length-map}
 use Rattle.std.proofs.lemmas.List.Elements.{All-map}
 use Rattle.std.proofs.lemmas.Bool.{cases_Bool}
-use Rattle.address_lists.specs.Addresses.{address_text}
+use Rattle.address_grammar.specs.Addresses.{address_text}
 use Rattle.mail_wire.specs.Keeping.{with_last}
 use Rattle.mail_store.specs.declared.contents.Content.{Content}
 use Rattle.mail_store.specs.declared.delivery.Delivery.{Delivery}
@@ -15,9 +15,9 @@ use Rattle.mail_store.specs.declared.kept.Message.{Message}
 use Rattle.mail_store.specs.declared.limits.TheConstants.{THINGS_MAX}
 use Rattle.mail_store.specs.declared.records.Record.{Record}
 use Rattle.mail_store.specs.declared.records.Record.TheVariants as records
-use Rattle.mail_store.specs.Chains.{AreChained}
+use Rattle.mail_store.specs.private.Chains.{AreChained}
 use Rattle.mail_store.specs.Changing.{delivered, path_text, queued, copy_for, inboxes_of, has_large_octets, has_many_things}
-use Rattle.mail_store.specs.Delivering.{copied, entry_of}
+use Rattle.mail_store.specs.private.Delivering.{copied, entry_of}
 use Rattle.mail_store.specs.Kept.{Kept, after_all, waiting}
 use Rattle.mail_store.specs.Records.{AreRecords, recipient_count}
 use Rattle.mail_store.specs.Spelling.{record_text}

@@ -6,7 +6,7 @@ use Rattle.std.proofs.lemmas.Nat.{be_bytes_4}
 use Rattle.mail_store.specs.declared.limits.TheConstants.{RECORD_MAX}
 use Rattle.mail_store.specs.Opening.{IsCutShort}
 use Rattle.mail_store.specs.Spelling.{number, octet_list}
-use Rattle.mail_store.specs.Reading.{number_at, list_at}
+use Rattle.mail_store.specs.private.Reading.{number_at, list_at}
 use Rattle.mail_store.proofs.Fields.{AreOctets, some_is, number_again, list_again}
 
 -- two ways to begin with a number agree

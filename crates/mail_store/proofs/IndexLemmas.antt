@@ -8,9 +8,9 @@ use Rattle.std.proofs.lemmas.List.Elements.{All-push, All-append, All-from_recur
 use Rattle.std.proofs.lemmas.List.Sums.{sum_by-cons, sum_by_push}
 use Rattle.std.proofs.lemmas.Bool.{cases_Bool, cases_eq, ne_eqb}
 use Rattle.std.proofs.lemmas.Option.{slice_get_past, slice_get-get_or}
-use Rattle.address_lists.specs.declared.Address.{Address}
-use Rattle.address_lists.specs.Paths.{HasPath, IsReading, ReadsPaths, in_angles}
-use Rattle.address_lists.proofs.PathLemmas.{HasPath-once}
+use Rattle.address_grammar.specs.declared.Address.{Address}
+use Rattle.address_grammar.specs.Paths.{HasPath, IsReading, ReadsPaths, in_angles}
+use Rattle.address_grammar.proofs.PathLemmas.{HasPath-once}
 use Rattle.mail_store.specs.declared.contents.Content.{Content}
 use Rattle.mail_store.specs.declared.limits.TheConstants.{THINGS_MAX}
 use Rattle.mail_store.specs.declared.kept.Folder.{Folder}
@@ -18,9 +18,9 @@ use Rattle.mail_store.specs.declared.kept.Message.{Message}
 use Rattle.mail_store.specs.declared.kept.Account.{Account}
 use Rattle.mail_store.specs.declared.kept.Entry.{Entry}
 use Rattle.mail_store.specs.Addresses.{IsTextOf, IsDomainText, address_of}
-use Rattle.mail_store.specs.Chains.{empty_content, AreChained}
+use Rattle.mail_store.specs.private.Chains.{empty_content, AreChained}
 use Rattle.mail_store.specs.Kept.{Kept, first_folder, change_at, settled, without}
-use Rattle.mail_store.specs.Names.{kept_first, PutsName, first_name, mailbox_key, has_key, first_mailbox}
+use Rattle.mail_store.specs.private.Names.{kept_first, PutsName, first_name, mailbox_key, has_key, first_mailbox}
 use Rattle.mail_store.specs.Records.{recipient_count}
 use Rattle.mail_store.specs.Stored.{IsStored}
 use Rattle.mail_store.specs.StoreState.{Indexes, AreIndexes}

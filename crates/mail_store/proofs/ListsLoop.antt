@@ -3,7 +3,7 @@ use Rattle.std.proofs.Common.{◌≡◌, ℕ, suc, ◌-◌, ◌+◌, ◌≤◌, 
 use Rattle.std.proofs.lemmas.List.{append-nil}
 use Rattle.mail_store.specs.declared.reading.ReadFault.{ReadFault}
 use Rattle.mail_store.specs.declared.reading.ReadFault.TheVariants.{Memory, NoRecord}
-use Rattle.mail_store.specs.Reading.{◌>>=◌, Fails, list_at, lists_at}
+use Rattle.mail_store.specs.private.Reading.{◌>>=◌, Fails, list_at, lists_at}
 
 -- what was read before, and what is still read
 abbrev pub with_front : List (List ℕ) → Option (List (List ℕ) × List ℕ) → Option (List (List ℕ) × List ℕ)

@@ -14,15 +14,15 @@ use lib.Utf8.{scalar, scalars, next, encode, encodes, scalar_cases}
 use Rattle.caseless.specs.Caseless.{canonical_key}
 use Rattle.ace_domains.specs.Domains.{normal_form, compared_form}
 use Rattle.ace_domains.proofs.FormLemmas.{form_ascii}
-use Rattle.address_lists.specs.declared.Address.{Address}
-use Rattle.address_lists.specs.Paths.{ComesInPath, HasPath, IsReading, ReadsPaths, in_angles}
+use Rattle.address_grammar.specs.declared.Address.{Address}
+use Rattle.address_grammar.specs.Paths.{ComesInPath, HasPath, IsReading, ReadsPaths, in_angles}
 use Rattle.address_lists.proofs.PathPiecesLemmas.{path_parts, paths_read}
-use Rattle.address_lists.proofs.PathLemmas.{HasPath-once}
+use Rattle.address_grammar.proofs.PathLemmas.{HasPath-once}
 use Rattle.mail_store.specs.Addresses.{IsTextOf, IsDomainText, is_same_domain, is_same_mailbox, address_of, WithPaths}
 use Rattle.mail_store.specs.declared.kept.Account.{Account}
 use Rattle.mail_store.specs.Kept.{Kept, is_account_of, first_account, find_account, is_local, has_password, admitted, logged_in}
 use Rattle.mail_store.specs.StoreState.{Indexes, AreIndexes}
-use Rattle.mail_store.specs.Names.{first_name, mailbox_key, has_key, first_mailbox}
+use Rattle.mail_store.specs.private.Names.{first_name, mailbox_key, has_key, first_mailbox}
 
 -- ---- the mark is in no text
 

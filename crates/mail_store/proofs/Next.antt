@@ -7,9 +7,9 @@ use Rattle.mail_store.specs.declared.records.Record.{Record}
 use Rattle.mail_store.specs.declared.records.Record.TheVariants as records
 use Rattle.mail_store.specs.Records.{IsInOrder}
 use Rattle.mail_store.specs.Spelling.{fields_of}
-use Rattle.mail_store.specs.Reading.{Fails, record_at}
+use Rattle.mail_store.specs.private.Reading.{Fails, record_at}
 use Rattle.mail_store.specs.StoreState.{StoreState}
-use Rattle.mail_store.specs.Adding.{AddsRecord, AddsNext}
+use Rattle.mail_store.specs.private.Adding.{AddsRecord, AddsNext}
 use Rattle.mail_store.proofs.Fields.{AreOctets, some_is}
 use Rattle.mail_store.proofs.RecordLaws.{record_takes, record_again}
 

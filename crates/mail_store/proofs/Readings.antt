@@ -7,7 +7,7 @@ use Rattle.mail_store.specs.declared.records.Record.{Record}
 use Rattle.mail_store.specs.Kept.{Kept, nothing, after, after_all, store_of}
 use Rattle.mail_store.specs.Records.{IsRecord, AreRecords}
 use Rattle.mail_store.specs.Spelling.{number, octet_list, fields_of, record_text, journal, first_octets}
-use Rattle.mail_store.specs.Reading.{record_at}
+use Rattle.mail_store.specs.private.Reading.{record_at}
 use Rattle.mail_store.specs.Opening.{IsCutShort, IsBeginning, BeginsWith, HasRecords, HasNoRecord, IsBadAt}
 use Rattle.mail_store.proofs.Fields.{some_is}
 use Rattle.mail_store.proofs.FrameLemmas.{number_once, list_once}

@@ -5,7 +5,7 @@ use Rattle.std.proofs.lemmas.Bool.{eqb-true}
 use Rattle.mail_store.specs.declared.records.Record.{Record}
 use Rattle.mail_store.specs.declared.records.Record.TheVariants as records
 use Rattle.mail_store.specs.Spelling.{number, octet_list, fields_of, Fits}
-use Rattle.mail_store.specs.Reading.{◌>>=◌, number_at, octet_at, list_at, lists_at, ended, account_at, domain_at, folder_at, message_at, flags_at, expunge_at, queue_at, settle_at, kind_at, record_at}
+use Rattle.mail_store.specs.private.Reading.{◌>>=◌, number_at, octet_at, list_at, lists_at, ended, account_at, domain_at, folder_at, message_at, flags_at, expunge_at, queue_at, settle_at, kind_at, record_at}
 use Rattle.mail_store.proofs.Fields.{AreOctets, AreOctets-rest, bind_some, guard_held, Takes, Takes-then, Takes-all, number_takes, number_again, octet_takes, list_takes, list_again, lists_take, lists_again}
 
 none_is_some : (one : Record) → None ≡ Some one → ⊥

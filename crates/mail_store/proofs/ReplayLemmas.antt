@@ -15,9 +15,9 @@ use Rattle.mail_store.specs.Records.{IsRecord, AreRecords}
 use Rattle.mail_store.specs.Spelling.{octet_list, fields_of, record_text, journal, first_octets}
 use Rattle.mail_store.specs.StoreState.{StoreState}
 use Rattle.mail_store.specs.Opening.{IsCutShort, BeginsWith, HasRecords}
-use Rattle.mail_store.specs.Adding.{Added, NotAdded}
+use Rattle.mail_store.specs.private.Adding.{Added, NotAdded}
 use Rattle.mail_store.specs.Answers.{LeavesRecords}
-use Rattle.mail_store.specs.Replaying.{IsWhole, IsNoFrame, IsFieldsFault, Stays, IsSoFar, EndsAt, IsReadingFault, IsHalfRepaired, HalfRepairs, fields_at}
+use Rattle.mail_store.specs.private.Replaying.{IsWhole, IsNoFrame, IsFieldsFault, Stays, IsSoFar, EndsAt, IsReadingFault, IsHalfRepaired, HalfRepairs, fields_at}
 use Rattle.mail_store.proofs.ChangeLemmas.{after_all-push}
 use Rattle.mail_store.proofs.FrameLemmas.{list_once}
 use Rattle.mail_store.proofs.Next.{some_fields}

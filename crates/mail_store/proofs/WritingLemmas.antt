@@ -8,7 +8,7 @@ use Rattle.std.proofs.lemmas.List.{take-append-le, take_min, take_more, take-app
 use Rattle.mail_wire.specs.declared.values.Memory.{Memory}
 use Rattle.mail_store.specs.Changing.{copy_for}
 use Rattle.mail_store.specs.Spelling.{number, octet_list, fields_of}
-use Rattle.mail_store.specs.Writing.{PutsText}
+use Rattle.mail_store.specs.private.Writing.{PutsText}
 
 -- a first part of the text was put last
 abbrev pub PutsFirst : List ℕ → List ℕ → List ℕ → Type 0

@@ -3,8 +3,8 @@ use Rattle.std.specs.Prelude.{◌≡◌, ℕ, List, Bool, ◌&&◌, Option, Some
 use Rattle.std.specs.Str.{bytes_eq, chars}
 use Rattle.caseless.specs.Caseless.{canonical_key}
 use Rattle.ace_domains.specs.Domains.{normal_form, compared_form}
-use Rattle.address_lists.specs.declared.Address.{Address}
-use Rattle.address_lists.specs.Paths.{HasPath, ReadsPaths, in_angles}
+use Rattle.address_grammar.specs.declared.Address.{Address}
+use Rattle.address_grammar.specs.Paths.{HasPath, ReadsPaths, in_angles}
 
 -- in angle brackets it is the path of this address
 abbrev pub IsTextOf : List ℕ → Address → Type 0

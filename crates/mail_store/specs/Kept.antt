@@ -11,7 +11,7 @@ use Rattle.mail_store.specs.declared.kept.Message.{Message}
 use Rattle.mail_store.specs.declared.kept.Recipient.{Recipient}
 use Rattle.mail_store.specs.declared.kept.Entry.{Entry}
 use Rattle.mail_store.specs.declared.kept.Listed.{Listed}
-use Rattle.address_lists.specs.declared.Address.{Address}
+use Rattle.address_grammar.specs.declared.Address.{Address}
 use Rattle.mail_store.specs.Addresses.{is_same_mailbox, is_same_domain, address_of}
 
 pub record Kept : Type 0 where

@@ -6,9 +6,9 @@ use Rattle.mail_store.specs.declared.limits.TheConstants.{THINGS_MAX}
 use Rattle.mail_store.specs.declared.records.Record.{Record}
 use Rattle.mail_store.specs.declared.kept.Message.{Message}
 use Rattle.mail_store.specs.Addresses.{WithPaths, IsDomainText}
-use Rattle.mail_store.specs.Chains.{AreChained}
+use Rattle.mail_store.specs.private.Chains.{AreChained}
 use Rattle.mail_store.specs.Kept.{Kept, after, after_all, inbox_of}
-use Rattle.mail_store.specs.Names.{first_name, first_mailbox}
+use Rattle.mail_store.specs.private.Names.{first_name, first_mailbox}
 use Rattle.mail_store.specs.Records.{recipient_count}
 use Rattle.mail_store.specs.Stored.{IsStored}
 

@@ -2,15 +2,15 @@
 ghost use Rattle.std.specs.Prelude.{◌≡◌, ◌≢◌, ◌↔◌, IfOk, IfSome, IfNone, IsTrue, IsUtf8, Some, encode_utf8_all, chars};
 ghost use Rattle.caseless.specs.Caseless.{canonical_key};
 ghost use Rattle.ace_domains.specs.Domains.{compared_form};
-ghost use Rattle.address_lists.specs.Paths.{ComesInPath};
-ghost use Rattle.address_lists.specs.declared.Address.{Address as AddressValue};
+ghost use Rattle.address_grammar.specs.Paths.{ComesInPath};
+ghost use Rattle.address_grammar.specs.declared.Address.{Address as AddressValue};
 ghost use Rattle.mail_store.specs.Addresses.{IsTextOf, IsDomainText};
-ghost use Rattle.mail_store.specs.Names.{mailbox_key};
+ghost use Rattle.mail_store.specs.private.Names.{mailbox_key};
 
 use ace_domains::normal;
-use address_lists::{Address, AddressFault, read_path};
+use address_grammar::{Address, AddressFault, read_path};
 use caseless::default_case_fold_str;
-use mail_wire::values::{Memory, Octets};
+use mail_wire::{Memory, Octets};
 use std::alloc::Global;
 use unicode_normalization::to_nfd;
 

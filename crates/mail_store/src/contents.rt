@@ -1,7 +1,7 @@
 //! The messages of each folder, as a chain from the last one back.
 ghost use Rattle.std.specs.Prelude.{◌≡◌, ◌+◌, ◌<◌, ◌≤◌, ◌++◌, ◌∷◌, [], length, set, Some, vec_len, vec_capacity};
 ghost use Rattle.std.specs.List.{All};
-ghost use Rattle.mail_store.specs.Chains.{AreChained, content_at};
+ghost use Rattle.mail_store.specs.private.Chains.{AreChained, content_at};
 ghost use Rattle.mail_store.specs.declared.limits.TheConstants.{THINGS_MAX};
 
 use crate::kept::Message;

@@ -1,11 +1,11 @@
 //! What stands at a place of a keeper's octets.
 ghost use Rattle.std.specs.Prelude.{◌≡◌, ◌+◌, ◌-◌, ◌≤◌, ℕ, List, length, take, drop, IfOk, OnOk, IfErr, IfSome};
 ghost use Rattle.mail_wire.specs.Keeping.{HasKeeperCause};
-ghost use Rattle.mail_store.specs.Replaying.{IsFrame, FitsIn, IsBeginningOf, IsLong, IsOutside};
+ghost use Rattle.mail_store.specs.private.Replaying.{IsFrame, FitsIn, IsBeginningOf, IsLong, IsOutside};
 
 use crate::limits::RECORD_MAX;
 use crate::opening::OpenFault;
-use mail_wire::keeping::Keeper;
+use mail_wire::Keeper;
 
 /// What a journal begins with.
 pub const FIRST_OCTETS: [u8; 8] = *b"MAILJNL1";

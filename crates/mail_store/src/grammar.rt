@@ -5,8 +5,7 @@ ghost use Rattle.mail_wire.specs.Octets.{same_name};
 ghost use Rattle.mail_store.specs.Grammar.{fits_letter, IsDate, IsFolderName, IsNameChar, months};
 
 use crate::limits::NAME_MAX;
-use mail_wire::text::is_same_name;
-use mail_wire::values::Memory;
+use mail_wire::{Memory, is_same_name};
 use std::alloc::Global;
 use unicode_normalization::is_nfc;
 

@@ -1,10 +1,10 @@
 //! What the store keeps.
-ghost use Rattle.std.specs.Prelude.{◌≡◌, ◌<◌, ◌↔◌, [], ◌∷◌, ◌++◌, IfOk, OnOk, OnErr, IsTrue, length, map, slice_get};
+ghost use Rattle.std.specs.Prelude.{◌≡◌, ◌<◌, ◌↔◌, IfOk, IsTrue, length, map, slice_get};
 ghost use Rattle.mail_store.specs.Kept.{waiting, change_at, settled};
 ghost use Rattle.mail_store.specs.Records.{IsWaiting};
 
 use crate::records::Texts;
-use mail_wire::values::{Memory, Octets};
+use mail_wire::{Items, Memory, Octets};
 use std::alloc::Global;
 use std::marker::Model;
 
@@ -117,47 +117,4 @@ pub struct Listed {
 }
 
 /// A list of numbers.
-#[derive(Debug, Drop)]
-pub struct Numbers {
-    numbers: Vec<u32>,
-}
-
-impl Model for Numbers {
-    ghost use Rattle.std.specs.Prelude.{List, ℕ};
-
-    ghost Value = { List ℕ };
-
-    ghost view = { λ a. a.numbers.items };
-}
-
-impl Numbers {
-    /// No numbers.
-    pub fn new(alloc: Global) -> Self
-        ensures { result ≡ [] }
-    {
-        Numbers {
-            numbers: Vec::new(alloc),
-        }
-    }
-
-    /// Puts a number last.
-    pub fn push(&mut self, number: u32) -> Result<(), Memory>
-        ensures ok { OnOk result (self.new ≡ self.old ++ number ∷ []) }
-        ensures err { OnErr result (self.new ≡ self.old) }
-    {
-        self.numbers.push(number)?;
-        Ok(())
-    }
-
-    pub fn len(&self) -> usize
-        ensures { result ≡ length self.now }
-    {
-        self.numbers.len()
-    }
-
-    pub fn as_slice(&self) -> &[u32]
-        ensures { result.now ≡ self.now }
-    {
-        &self.numbers
-    }
-}
+pub type Numbers = Items<u32>;

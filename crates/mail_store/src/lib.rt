@@ -1,20 +1,31 @@
 //! The store of a mail system: accounts, domains, folders, messages and a queue, as the fold of a journal's records.
 #![tactic(auto)]
 
-pub mod addresses;
-pub mod changing;
+mod addresses;
+mod changing;
 mod checks;
-pub mod contents;
-pub mod delivery;
+mod contents;
+mod delivery;
 mod frames;
-pub mod grammar;
-pub mod kept;
+mod grammar;
+mod kept;
 pub mod laws;
-pub mod limits;
+mod limits;
 mod names;
-pub mod opening;
+mod opening;
 mod reading;
-pub mod records;
+mod records;
 mod stored;
-pub mod storing;
-pub mod writing;
+mod storing;
+mod writing;
+
+pub use addresses::read_text;
+pub use changing::{StoreFault, has_large_octets, path_text};
+pub use delivery::{Addresses, Delivery};
+pub use grammar::{is_date, is_folder_name};
+pub use kept::{Account, Entry, Folder, Listed, Message, Numbers, Recipient, Recipients};
+pub use limits::{MESSAGE_MAX, NAME_MAX, RECIPIENTS_MAX, RECORD_MAX, TEXT_MAX, THINGS_MAX};
+pub use opening::OpenFault;
+pub use records::{Record, Texts};
+pub use storing::Store;
+pub use writing::push_record;

@@ -1,8 +1,8 @@
 //! The first number of each name.
 ghost use Rattle.std.specs.Prelude.{◌≡◌, ℕ, List, OnOk, OnErr, None};
-ghost use Rattle.mail_store.specs.Names.{number_of, PutsName};
+ghost use Rattle.mail_store.specs.private.Names.{number_of, PutsName};
 
-use mail_wire::values::Memory;
+use mail_wire::Memory;
 use std::alloc::Global;
 use std::collections::BTreeMap;
 

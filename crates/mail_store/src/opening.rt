@@ -1,18 +1,17 @@
 //! The store opened from a keeper's octets.
 ghost use Rattle.std.specs.Prelude.{◌≡◌, ◌+◌, ◌≤◌, length, ◌<◌, ◌^◌, IfOk, OnOk, OnErr, IfErr, IfSome, option_map, false};
 ghost use Rattle.mail_wire.specs.Keeping.{HasKeeperCause};
-ghost use Rattle.mail_store.specs.Adding.{AddsNext, Added};
+ghost use Rattle.mail_store.specs.private.Adding.{AddsNext, Added};
 ghost use Rattle.mail_store.specs.Answers.{open_fault, IsFold, OpensTo, IsJournalFault, LeavesRecords};
 ghost use Rattle.mail_store.specs.Kept.{nothing};
-ghost use Rattle.mail_store.specs.Replaying.{IsOutside, IsFieldsFault, fields_at, EndsAt, IsReadingFault, repaired, HalfRepairs, IsBeginningOf};
+ghost use Rattle.mail_store.specs.private.Replaying.{IsOutside, IsFieldsFault, fields_at, EndsAt, IsReadingFault, repaired, HalfRepairs, IsBeginningOf};
 ghost use Rattle.mail_store.specs.declared.frames.Beginning.TheVariants as beginnings;
 
 use crate::frames::{Beginning, FIRST_OCTETS, Frame, fill, frame_at, read_beginning};
 use crate::limits::{MESSAGE_MAX, RECORD_MAX};
 use crate::reading::{self, ReadFault};
 use crate::storing::Store;
-use mail_wire::keeping::Keeper;
-use mail_wire::outside::Failed;
+use mail_wire::{Failed, Keeper};
 use std::alloc::{AllocError, Global};
 use thiserror::Error;
 

@@ -1,10 +1,10 @@
 //! Records read from octets.
 ghost use Rattle.std.specs.Prelude.{◌≡◌};
 ghost use Rattle.mail_store.specs.declared.reading.ReadFault.TheVariants.{Memory};
-ghost use Rattle.mail_store.specs.Reading.{Gives, number_at, octet_at, list_at, lists_at, ended, account_at, domain_at, folder_at, message_at, flags_at, expunge_at, queue_at, settle_at, kind_at, record_at};
+ghost use Rattle.mail_store.specs.private.Reading.{Gives, number_at, octet_at, list_at, lists_at, ended, account_at, domain_at, folder_at, message_at, flags_at, expunge_at, queue_at, settle_at, kind_at, record_at};
 
 use crate::records::{Record, Texts};
-use mail_wire::values::{Memory as OutOfMemory, Octets};
+use mail_wire::{Memory as OutOfMemory, Octets};
 use std::alloc::{AllocError, AllocFailed, Global};
 
 /// Why there is no record.
@@ -59,7 +59,7 @@ fn octet_of(octets: &[u8]) -> Result<(u8, &[u8]), ReadFault>
     }
 }
 
-#[tactic(auto, unfolding(crate::specs::Reading::list_at))]
+#[tactic(auto, unfolding(crate::specs::private::Reading::list_at))]
 fn list_of(alloc: Global, octets: &[u8]) -> Result<(Octets, &[u8]), ReadFault>
     ensures { Gives (λ x. (x.0, x.1.now)) result (list_at octets.now) }
 {
@@ -96,7 +96,7 @@ fn ended(whole: Record, rest: &[u8]) -> Result<Record, ReadFault>
     }
 }
 
-#[tactic(auto, unfolding(crate::specs::Reading::account_at))]
+#[tactic(auto, unfolding(crate::specs::private::Reading::account_at))]
 fn account_of(alloc: Global, octets: &[u8]) -> Result<Record, ReadFault>
     ensures { Gives (λ x. x) result (account_at octets.now) }
 {
@@ -105,7 +105,7 @@ fn account_of(alloc: Global, octets: &[u8]) -> Result<Record, ReadFault>
     ended(Record::Account { address, password }, rest)
 }
 
-#[tactic(auto, unfolding(crate::specs::Reading::domain_at))]
+#[tactic(auto, unfolding(crate::specs::private::Reading::domain_at))]
 fn domain_of(alloc: Global, octets: &[u8]) -> Result<Record, ReadFault>
     ensures { Gives (λ x. x) result (domain_at octets.now) }
 {
@@ -113,7 +113,7 @@ fn domain_of(alloc: Global, octets: &[u8]) -> Result<Record, ReadFault>
     ended(Record::Domain { name }, rest)
 }
 
-#[tactic(auto, unfolding(crate::specs::Reading::folder_at))]
+#[tactic(auto, unfolding(crate::specs::private::Reading::folder_at))]
 fn folder_of(alloc: Global, octets: &[u8]) -> Result<Record, ReadFault>
     ensures { Gives (λ x. x) result (folder_at octets.now) }
 {
@@ -122,7 +122,7 @@ fn folder_of(alloc: Global, octets: &[u8]) -> Result<Record, ReadFault>
     ended(Record::Folder { account, name }, rest)
 }
 
-#[tactic(auto, unfolding(crate::specs::Reading::message_at))]
+#[tactic(auto, unfolding(crate::specs::private::Reading::message_at))]
 fn message_of(alloc: Global, octets: &[u8]) -> Result<Record, ReadFault>
     ensures { Gives (λ x. x) result (message_at octets.now) }
 {
@@ -141,7 +141,7 @@ fn message_of(alloc: Global, octets: &[u8]) -> Result<Record, ReadFault>
     )
 }
 
-#[tactic(auto, unfolding(crate::specs::Reading::flags_at))]
+#[tactic(auto, unfolding(crate::specs::private::Reading::flags_at))]
 fn flags_of(octets: &[u8]) -> Result<Record, ReadFault>
     ensures { Gives (λ x. x) result (flags_at octets.now) }
 {
@@ -150,7 +150,7 @@ fn flags_of(octets: &[u8]) -> Result<Record, ReadFault>
     ended(Record::Flags { message, flags }, rest)
 }
 
-#[tactic(auto, unfolding(crate::specs::Reading::expunge_at))]
+#[tactic(auto, unfolding(crate::specs::private::Reading::expunge_at))]
 fn expunge_of(octets: &[u8]) -> Result<Record, ReadFault>
     ensures { Gives (λ x. x) result (expunge_at octets.now) }
 {
@@ -158,7 +158,7 @@ fn expunge_of(octets: &[u8]) -> Result<Record, ReadFault>
     ended(Record::Expunge { message }, rest)
 }
 
-#[tactic(auto, unfolding(crate::specs::Reading::queue_at))]
+#[tactic(auto, unfolding(crate::specs::private::Reading::queue_at))]
 fn queue_of(alloc: Global, octets: &[u8]) -> Result<Record, ReadFault>
     ensures { Gives (λ x. x) result (queue_at octets.now) }
 {
@@ -176,7 +176,7 @@ fn queue_of(alloc: Global, octets: &[u8]) -> Result<Record, ReadFault>
     )
 }
 
-#[tactic(auto, unfolding(crate::specs::Reading::settle_at))]
+#[tactic(auto, unfolding(crate::specs::private::Reading::settle_at))]
 fn settle_of(octets: &[u8]) -> Result<Record, ReadFault>
     ensures { Gives (λ x. x) result (settle_at octets.now) }
 {
@@ -185,7 +185,7 @@ fn settle_of(octets: &[u8]) -> Result<Record, ReadFault>
     ended(Record::Settle { entry, index }, rest)
 }
 
-#[tactic(auto, unfolding(crate::specs::Reading::kind_at))]
+#[tactic(auto, unfolding(crate::specs::private::Reading::kind_at))]
 fn kind_of(alloc: Global, kind: u8, octets: &[u8]) -> Result<Record, ReadFault>
     ensures { Gives (λ x. x) result (kind_at kind octets.now) }
 {
@@ -203,7 +203,7 @@ fn kind_of(alloc: Global, kind: u8, octets: &[u8]) -> Result<Record, ReadFault>
 }
 
 /// The record that has these fields.
-#[tactic(auto, unfolding(crate::specs::Reading::record_at))]
+#[tactic(auto, unfolding(crate::specs::private::Reading::record_at))]
 pub fn read(alloc: Global, fields: &[u8]) -> Result<Record, ReadFault>
     ensures { Gives (λ x. x) result (record_at fields.now) }
 {

@@ -1,42 +1,8 @@
 //! The records of a journal.
-ghost use Rattle.std.specs.Prelude.{◌≡◌, List, ℕ};
-
-use mail_wire::values::Octets;
-use std::marker::Model;
+use mail_wire::{Items, Octets};
 
 /// A list of texts.
-#[derive(Debug, Drop)]
-pub struct Texts {
-    texts: Vec<Octets>,
-}
-
-impl Model for Texts {
-    ghost Value = { List (List ℕ) };
-
-    ghost view = { λ a. a.texts.items };
-}
-
-impl Texts {
-    /// The texts of a `Vec`, which is taken over as it is.
-    pub fn from_vec(texts: Vec<Octets>) -> Self
-        ensures { result ≡ texts.items }
-    {
-        Texts { texts }
-    }
-
-    /// Gives the `Vec` back.
-    pub fn into_vec(self) -> Vec<Octets>
-        ensures { result.items ≡ self }
-    {
-        self.texts
-    }
-
-    pub fn as_slice(&self) -> &[Octets]
-        ensures { result.now ≡ self.now }
-    {
-        &self.texts
-    }
-}
+pub type Texts = Items<Octets>;
 
 /// A change of the store, as the journal keeps it. Things are named by their numbers in order of their records.
 #[derive(Debug, Drop)]

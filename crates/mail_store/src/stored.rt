@@ -1,9 +1,8 @@
 //! The octets that the store may keep.
-ghost use Rattle.mail_store.specs.Adding.{IsJudged};
+ghost use Rattle.mail_store.specs.private.Adding.{IsJudged};
 
 use crate::reading::ReadFault;
-use mime_tree::entity::TreeFault;
-use mime_tree::reading::read_tree;
+use mime_tree::{TreeFault, read_tree};
 use std::alloc::Global;
 
 /// Whether the octets may be kept.

@@ -1,12 +1,12 @@
 //! The store: what is kept, and the indexes beside it.
 ghost use Rattle.std.specs.Prelude.{◌≡◌, ℕ, reverse, ◌⊎◌, ◌↔◌, ◌<◌, ◌≤◌, [], length, IfOk, IfSome, false, slice_get, Some, IsTrue, option_map, IsUtf8};
 ghost use Rattle.std.specs.List.{All};
-ghost use Rattle.address_lists.specs.Paths.{ComesInPath};
+ghost use Rattle.address_grammar.specs.Paths.{ComesInPath};
 ghost use Rattle.mail_store.specs.declared.limits.TheConstants.{MESSAGE_MAX};
 ghost use Rattle.mail_store.specs.declared.records.Record.TheVariants as records;
-ghost use Rattle.mail_store.specs.Adding.{AddsRecord};
+ghost use Rattle.mail_store.specs.private.Adding.{AddsRecord};
 ghost use Rattle.mail_store.specs.Addresses.{WithPaths};
-ghost use Rattle.mail_store.specs.Chains.{chain};
+ghost use Rattle.mail_store.specs.private.Chains.{chain};
 ghost use Rattle.mail_store.specs.Kept.{nothing, change_at, with_flags, gone, without, inbox_of, uid_next, listed, listed_one, listed_from, numbers_in, logged_in, find_account, is_local, name_of, has_password};
 ghost use Rattle.mail_store.specs.Records.{IsAddress, IsUnsettled};
 ghost use Rattle.mail_store.specs.Stored.{IsStored};
@@ -22,8 +22,8 @@ use crate::names::{number_of, put_first};
 use crate::reading::ReadFault;
 use crate::records::{Record, Texts};
 use crate::stored::judge;
-use address_lists::Address;
-use mail_wire::values::{Memory, Octets};
+use address_grammar::Address;
+use mail_wire::{Memory, Octets};
 use std::alloc::Global;
 use std::collections::BTreeMap;
 use std::marker::Model;
@@ -58,7 +58,7 @@ impl Model for Store {
 
     ghost Value = { StoreState };
 
-    ghost use Rattle.mail_store.specs.Store.{state_of, IsIndexed};
+    ghost use Rattle.mail_store.specs.private.Store.{state_of, IsIndexed};
 
     ghost view = { state_of };
 

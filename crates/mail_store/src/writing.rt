@@ -4,10 +4,10 @@ ghost use Rattle.std.specs.List.{flat_map, AllByRecursion};
 ghost use Rattle.mail_store.specs.declared.limits.TheConstants.{RECORD_MAX};
 ghost use Rattle.mail_store.specs.Changing.{copy_for};
 ghost use Rattle.mail_store.specs.Spelling.{number as number_octets, octet_list, fields_of, record_text, HasLength, Fits};
-ghost use Rattle.mail_store.specs.Writing.{PutsText};
+ghost use Rattle.mail_store.specs.private.Writing.{PutsText};
 
 use crate::records::Record;
-use mail_wire::values::{Memory, Octets};
+use mail_wire::{Memory, Octets};
 
 fn number(n: usize) -> [u8; 4]
     requires { n < 2 ^ 32 }

@@ -7,18 +7,10 @@ ghost use Rattle.mail_store.specs.Stored.{IsStored};
 ghost use Rattle.mail_store.specs.declared.limits.TheConstants.{RECIPIENTS_MAX};
 
 use ace_domains::normal;
-use address_lists::{Address, write_address};
-use mail_store::addresses::read_text;
-use mail_store::changing::StoreFault;
-use mail_store::delivery::{Addresses, Delivery};
-use mail_store::grammar::is_date;
-use mail_store::kept::Numbers;
-use mail_store::limits::TEXT_MAX;
-use mail_store::storing::Store;
-use mail_wire::in_memory::Failure;
-use mail_wire::mem_keeper::MemKeeper;
-use mail_wire::values::Octets;
-use mime_tree::reading::read_tree;
+use address_grammar::{Address, write_address};
+use mail_store::{Addresses, Delivery, Numbers, Store, StoreFault, TEXT_MAX, is_date, read_text};
+use mail_wire::{Failure, MemKeeper, Octets};
+use mime_tree::read_tree;
 use std::alloc::Global;
 use std::test::Fail;
 

@@ -1,11 +1,6 @@
 //! Journals opened, and what is read from them.
-use mail_store::opening::OpenFault;
-use mail_store::records::{Record, Texts};
-use mail_store::storing::Store;
-use mail_store::writing::push_record;
-use mail_wire::in_memory::Failure;
-use mail_wire::mem_keeper::MemKeeper;
-use mail_wire::values::{Memory, Octets};
+use mail_store::{OpenFault, Record, Store, Texts, push_record};
+use mail_wire::{Failure, MemKeeper, Memory, Octets};
 use std::alloc::Global;
 use std::test::Fail;
 

@@ -9,10 +9,9 @@ pub mod Causes
 pub mod Transcript
 pub mod Telling
 pub mod Moves
-pub mod MemState
 pub mod KeeperTelling
 pub mod Keeping
-pub mod MemKept
 pub mod Turns
 pub mod Dates
 pub mod Framing
+pub mod private

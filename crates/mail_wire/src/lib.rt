@@ -1,19 +1,41 @@
 //! The outside of the mail server, and what every crate shares: small values, lines, folds and messages.
 #![tactic(auto)]
 
-pub mod clock;
-pub mod dates;
-pub mod edge;
-pub mod faults;
-pub mod file_keeper;
-pub mod framing;
-pub mod in_memory;
-pub mod keeping;
-pub mod mem_keeper;
-pub mod message;
-pub mod numbers;
-pub mod outside;
-pub mod text;
-pub mod traffic;
-pub mod values;
-pub mod words;
+mod clock;
+mod dates;
+mod edge;
+mod faults;
+mod file_keeper;
+mod framing;
+mod in_memory;
+mod items;
+mod keeping;
+mod mem_keeper;
+mod message;
+mod numbers;
+mod outside;
+mod text;
+mod traffic;
+mod values;
+mod words;
+
+pub use clock::{CLOCK_END, Clock, FixedClock, SystemClock};
+pub use dates::{date_text, internal_date, texts_are_one};
+pub use edge::{StdWire, WireFailure};
+pub use faults::Faults;
+pub use file_keeper::FileKeeper;
+pub use framing::{FoundLine, LINE_MAX, find_line};
+pub use in_memory::{Failure, MemWire};
+pub use items::Items;
+pub use keeping::Keeper;
+pub use mem_keeper::MemKeeper;
+pub use message::{MESSAGE_MAX, first_faulty, is_ended, is_message};
+pub use numbers::{are_digits, read_number};
+pub use outside::{Entry, Failed, Fault, Wire};
+pub use text::{
+    LineSpans, is_ascii, is_same_name, is_utf8, is_white, is_white_text, line_len, lines,
+    push_unfolded, split_white, unfold,
+};
+pub use traffic::{PIECE, give_all, take_piece};
+pub use values::{Memory, Octets, Span};
+pub use words::Words;

@@ -17,7 +17,7 @@ pub struct MemKeeper {
 
 impl Model for MemKeeper {
     ghost use Rattle.std.specs.Prelude.{length, ◌==◌};
-    ghost use Rattle.mail_wire.specs.MemKept.{MemKept};
+    ghost use Rattle.mail_wire.specs.private.MemKept.{MemKept};
 
     ghost Value = { MemKept };
 

@@ -26,6 +26,13 @@ pub fn is_white(octet: u8) -> bool
     octet == b' ' || octet == b'\t'
 }
 
+/// Whether each octet is a space or a horizontal tab.
+pub fn is_white_text(text: &[u8]) -> bool
+    ensures { result ≡ list_all is_white text.now }
+{
+    text.iter().all(|octet| is_white(*octet))
+}
+
 /// Whether each octet is below 128.
 pub fn is_ascii(octets: &[u8]) -> bool
     ensures { result ≡ list_all is_ascii octets.now }

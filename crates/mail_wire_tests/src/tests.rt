@@ -1,17 +1,9 @@
 //! Texts, words, wires and keepers, each public call once with ample memory.
-use mail_wire::clock::{CLOCK_END, Clock, FixedClock, SystemClock};
-use mail_wire::dates::{date_text, internal_date};
-use mail_wire::edge::{StdWire, WireFailure};
-use mail_wire::file_keeper::FileKeeper;
-use mail_wire::in_memory::{Failure, MemWire};
-use mail_wire::keeping::Keeper;
-use mail_wire::mem_keeper::MemKeeper;
-use mail_wire::message::{first_faulty, is_message};
-use mail_wire::outside::{Entry, Failed, Fault};
-use mail_wire::text::{lines, unfold};
-use mail_wire::traffic::{give_all, take_piece};
-use mail_wire::values::Octets;
-use mail_wire::words::Words;
+use mail_wire::{
+    CLOCK_END, Clock, Entry, Failed, Failure, Fault, FileKeeper, FixedClock, Items, Keeper,
+    MemKeeper, MemWire, Octets, StdWire, SystemClock, WireFailure, Words, date_text, first_faulty,
+    give_all, internal_date, is_message, lines, take_piece, unfold,
+};
 use std::fs::OpenOptions;
 use std::io::{self, ErrorKind, Read, Write};
 use std::test::Fail;
@@ -217,5 +209,24 @@ fn a_moment_has_its_texts(rt: HostRuntime) -> Result<(), Fail> {
         date_text(alloc, last)?.as_slice() == b"Fri, 31 Dec 9999 23:59:59 +0000".as_slice()
     );
     assert!(rt; internal_date(alloc, last)?.as_slice() == b"31-Dec-9999 23:59:59 +0000".as_slice());
+    Ok(())
+}
+
+#[test]
+fn items_stand_in_their_order(rt: HostRuntime) -> Result<(), Fail> {
+    let alloc = rt.alloc();
+    let mut items: Items<Octets> = Items::new(alloc);
+    assert!(rt; items.is_empty());
+    items.push(Octets::from_slice(alloc, b"a")?)?;
+    items.push(Octets::new(alloc))?;
+    assert!(rt; items.len() == 2);
+    assert!(rt;
+        items
+            .as_slice()
+            .first()
+            .is_some_and(|first| first.as_slice() == b"a".as_slice())
+    );
+    let items = Items::from_vec(items.into_vec());
+    assert!(rt; items.len() == 2);
     Ok(())
 }

@@ -10,10 +10,10 @@ use Rattle.mime_tree.specs.declared.reading.Start.{Start}
 use Rattle.mime_tree.specs.declared.reading.Next.{Next}
 use Rattle.mime_tree.specs.declared.reading.Next.TheVariants.{Part as NextPart, End as NextEnd}
 use Rattle.mime_tree.specs.Parts.{Part, parts_on, size}
-use Rattle.mime_tree.specs.Open.{is_marked, begins_marked, region, after, later, lines_at, IsStop, IsStart, IsNext}
+use Rattle.mime_tree.specs.private.Open.{is_marked, begins_marked, region, after, later, lines_at, IsStop, IsStart, IsNext}
 use Rattle.mime_tree.specs.Tree.{EntityRelation, AreParts, IsDivided, IsEntity}
 use Rattle.mime_tree.specs.Faults.{FaultRelation, IsFaultAmong, IsFaultOf}
-use Rattle.mime_tree.specs.Reading.{region_at, IsDividedRead, IsEntityRead}
+use Rattle.mime_tree.specs.private.Reading.{region_at, IsDividedRead, IsEntityRead}
 use Rattle.mime_tree.proofs.Regions.{after-on, after-marked, size-cons}
 use Rattle.mime_tree.proofs.Pieces.{part-first, part-last, begins_with, after-after}
 use Rattle.mime_tree.proofs.LinesAt.{size_at}

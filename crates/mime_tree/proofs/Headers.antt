@@ -4,7 +4,7 @@ use Rattle.std.specs.List.{concat}
 use Rattle.mail_wire.specs.Lines.{lines_of, crlf}
 use Rattle.mime_tree.specs.Marks.{text_of}
 use Rattle.mime_tree.specs.Parts.{shortened, size}
-use Rattle.mime_tree.specs.Open.{is_marked, begins_marked, region, header, after_header, is_empty_line}
+use Rattle.mime_tree.specs.private.Open.{is_marked, begins_marked, region, header, after_header, is_empty_line}
 use Rattle.mime_tree.proofs.Texts.{AreLines, lines_of-whole, lines_of-text}
 use Rattle.mime_tree.proofs.Regions.{region-begins, region-cut, region-on, size-cons, size-shortened, whole_size, AreLines-tail}
 

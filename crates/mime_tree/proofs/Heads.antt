@@ -22,9 +22,9 @@ use Rattle.mime_tree.specs.declared.reading.Stop.{Stop}
 use Rattle.mime_tree.specs.declared.reading.Start.{Start}
 use Rattle.mime_tree.specs.Marks.{text_of}
 use Rattle.mime_tree.specs.Parts.{shortened, size}
-use Rattle.mime_tree.specs.Open.{is_marked, begins_marked, region, after, header, after_header, is_empty_line, kept, lines_at, IsHeaderStop, IsStart, IsAfterLine, IsContentStart, end_place}
+use Rattle.mime_tree.specs.private.Open.{is_marked, begins_marked, region, after, header, after_header, is_empty_line, kept, lines_at, IsHeaderStop, IsStart, IsAfterLine, IsContentStart, end_place}
 use Rattle.mime_tree.specs.Openings.{AreFieldsWithin}
-use Rattle.mime_tree.specs.Reading.{IsHeadRead, region_at}
+use Rattle.mime_tree.specs.private.Reading.{IsHeadRead, region_at}
 use Rattle.mime_tree.proofs.Texts.{text_of-text, lines_of-are}
 use Rattle.mime_tree.proofs.Regions.{region-begins, region-cut, region-on, after-on, size-append}
 use Rattle.mime_tree.proofs.Headers.{or_left, header-stop, header-cut, header-on, header-begins, after_header-begins, after_header-stop, after_header-on, region-header, lines_of-header, header-first, header-end, header-open}

@@ -11,7 +11,7 @@ pub mod LinesAt
 pub mod NextParts
 pub mod Heads
 pub mod Dividing
-pub mod Entities
+pub mod EntityLemmas
 pub mod NoFaults
 pub mod Whole
 pub mod Standing

@@ -9,7 +9,7 @@ use Rattle.mail_wire.proofs.LineLemmas.{concat_lines_of}
 use Rattle.utf8_fields.proofs.Heads.{lines_of-nil}
 use Rattle.mime_tree.specs.Marks.{text_of}
 use Rattle.mime_tree.specs.Parts.{size}
-use Rattle.mime_tree.specs.Open.{is_marked_text, is_marked, begins_marked, after, after_header, is_empty_line, lines_at, IsStop, IsHeaderStop, IsAfterLine}
+use Rattle.mime_tree.specs.private.Open.{is_marked_text, is_marked, begins_marked, after, after_header, is_empty_line, lines_at, IsStop, IsHeaderStop, IsAfterLine}
 use Rattle.mime_tree.proofs.Regions.{after-begins, after-on, after-none}
 use Rattle.mime_tree.proofs.Headers.{after_header-begins, after_header-on, after_header-stop}
 

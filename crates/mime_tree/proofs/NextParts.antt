@@ -5,7 +5,7 @@ use Rattle.mime_tree.specs.declared.reading.Start.{Start}
 use Rattle.mime_tree.specs.declared.reading.Next.TheVariants.{Part as NextPart, End as NextEnd}
 use Rattle.mime_tree.specs.Marks.{text_of, dashes, is_padded, is_delimiter, is_close}
 use Rattle.mime_tree.specs.Parts.{Part, parts_of, parts_on}
-use Rattle.mime_tree.specs.Open.{is_marked_text, is_marked, begins_marked, region, after, kept, later, lines_at, IsStop, IsStart, IsAfterLine, IsNext}
+use Rattle.mime_tree.specs.private.Open.{is_marked_text, is_marked, begins_marked, region, after, kept, later, lines_at, IsStop, IsStart, IsAfterLine, IsNext}
 use Rattle.mime_tree.proofs.Regions.{region-begins, after-on, after-begins}
 use Rattle.mime_tree.proofs.PartLemmas.{preamble-on, preamble-delimiter, not_both, is_marked-with}
 use Rattle.mime_tree.proofs.LinesAt.{HasLine, HasPassed, HasPassed-none, HasPassed-more, IsStop-marked, IsStop-end, begins_at, nothing_at}

@@ -8,11 +8,11 @@ use Rattle.mail_wire.specs.Octets.{same_name}
 use Rattle.utf8_fields.specs.declared.block.Field.{Field}
 use Rattle.utf8_fields.specs.Parts.{FieldParts, HasParts, IsField, HasValue}
 use Rattle.utf8_fields.specs.Block.{raw_of}
-use Rattle.encoded_words.specs.Values.{value_of}
+use Rattle.encoded_words.specs.private.Values.{value_of}
 use Rattle.field_tokens.specs.Trees.{Tree}
-use Rattle.param_2231.specs.declared.Param.{Param}
-use Rattle.param_2231.specs.declared.ParamKind.TheVariants.{Content}
-use Rattle.param_2231.specs.Joining.{ParamValue, param_value, HasParams}
+use Rattle.param_grammar.specs.declared.Param.{Param}
+use Rattle.param_grammar.specs.declared.ParamKind.TheVariants.{Content}
+use Rattle.param_grammar.specs.Joining.{ParamValue, param_value, HasParams}
 use Rattle.param_2231.proofs.SaidTrees.{HasParams-says, SaysParams-trees}
 use Rattle.mime_tree.specs.declared.openings.Opening.{Opening}
 use Rattle.mime_tree.specs.declared.openings.Opening.TheVariants.{Nothing, Message}

@@ -11,7 +11,7 @@ use Rattle.mail_wire.specs.Octets.{is_white}
 use Rattle.mime_tree.specs.declared.marks.Mark.{Mark}
 use Rattle.mime_tree.specs.declared.marks.Mark.TheVariants.{Delimiter, Close}
 use Rattle.mime_tree.specs.Marks.{dashes, is_padded}
-use Rattle.mime_tree.specs.Open.{mark_by, is_marked_text}
+use Rattle.mime_tree.specs.private.Open.{mark_by, is_marked_text}
 
 and_assoc : (a b c : Bool) → (a && (b && c)) ≡ ((a && b) && c)
 and_assoc true b c = refl

@@ -4,7 +4,7 @@ use Rattle.std.specs.Prelude.{if◌then◌else◌}
 use Rattle.std.proofs.lemmas.List.Folds.{list_any-append}
 use Rattle.mime_tree.specs.Marks.{text_of, dashes, is_padded, is_delimiter, is_close}
 use Rattle.mime_tree.specs.Parts.{shortened, size, cut_last, parts_on, parts_of}
-use Rattle.mime_tree.specs.Open.{is_marked_text, is_marked, begins_marked, region, kept}
+use Rattle.mime_tree.specs.private.Open.{is_marked_text, is_marked, begins_marked, region, kept}
 use Rattle.mime_tree.proofs.Texts.{text_of-text}
 use Rattle.mime_tree.proofs.Padded.{or_false, one_mark}
 use Rattle.mime_tree.proofs.Regions.{region-cut, region-on, region-begins}

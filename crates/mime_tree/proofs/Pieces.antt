@@ -3,7 +3,7 @@ use Rattle.std.proofs.Common.{◌≡◌, ℕ, ◌+◌, List, [], ◌∷◌, ◌+
 use Rattle.std.specs.Prelude.{if◌then◌else◌}
 use Rattle.mime_tree.specs.Marks.{text_of, is_delimiter, is_close}
 use Rattle.mime_tree.specs.Parts.{shortened, size, cut_last, parts_on}
-use Rattle.mime_tree.specs.Open.{is_marked, begins_marked, region, after, kept, later}
+use Rattle.mime_tree.specs.private.Open.{is_marked, begins_marked, region, after, kept, later}
 use Rattle.mime_tree.proofs.Regions.{region-marked, region-cut, region-on, region-begins, after-on, after-marked, after-begins, size-cons, size-append}
 use Rattle.mime_tree.proofs.PartLemmas.{is_marked-with, not_both, kept_mark, is_delimiter-kept, is_close-kept, is_delimiter-text, is_close-text, delimiter_has_text, close_has_text, parts_on-close, parts_on-delimiter, parts_on-on}
 

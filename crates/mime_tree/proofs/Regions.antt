@@ -4,7 +4,7 @@ use Rattle.std.specs.List.{concat}
 use Rattle.mail_wire.specs.Lines.{crlf}
 use Rattle.mime_tree.specs.Marks.{text_of}
 use Rattle.mime_tree.specs.Parts.{shortened, size}
-use Rattle.mime_tree.specs.Open.{is_marked, begins_marked, region, after}
+use Rattle.mime_tree.specs.private.Open.{is_marked, begins_marked, region, after}
 use Rattle.mime_tree.proofs.Texts.{IsWhole, AreLines}
 
 pub region-marked : (s : List (List ℕ)) (line : List ℕ) (rest : List (List ℕ)) → is_marked s line ≡ true → region s (line ∷ rest) ≡ []

@@ -5,10 +5,10 @@ use Rattle.utf8_fields.specs.declared.block.FieldFault.TheVariants.{NotField as 
 use Rattle.mime_tree.specs.declared.entity.Entity.{Entity}
 use Rattle.mime_tree.specs.declared.reading.Stop.{Stop}
 use Rattle.mail_wire.specs.Message.{IsSound}
-use Rattle.mime_tree.specs.Open.{is_marked_text, begins_marked, region}
+use Rattle.mime_tree.specs.private.Open.{is_marked_text, begins_marked, region}
 use Rattle.mime_tree.specs.Tree.{HasTree}
 use Rattle.mime_tree.specs.Faults.{IsTreeFault, IsFaultOf, told_of}
-use Rattle.mime_tree.specs.Reading.{region_at, IsEntityRead}
+use Rattle.mime_tree.specs.private.Reading.{region_at, IsEntityRead}
 
 none_by : (line : List ℕ) (rest : List (List ℕ)) → region [] rest ≡ rest → (b : Bool) → begins_marked [] rest ≡ b → b ≡ false → region [] (line ∷ rest) ≡ line ∷ rest
 unfolding region is_marked_text

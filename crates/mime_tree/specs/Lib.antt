@@ -2,10 +2,9 @@ pub mod Completing
 pub mod Marks
 pub mod Parts
 pub mod Openings
-pub mod Open
 pub mod Tree
 pub mod Faults
 pub mod Outlines
 pub mod Rewriting
-pub mod Reading
 pub mod Sections
+pub mod private

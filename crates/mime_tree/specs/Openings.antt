@@ -14,8 +14,8 @@ use Rattle.field_tokens.specs.declared.TokenKind.TheVariants.{Atom}
 use Rattle.field_tokens.specs.Tokens.{TokenValue, HasTokenValues}
 use Rattle.field_tokens.specs.Squeezed.{words_of}
 use Rattle.field_tokens.specs.Comments.{CommentValue}
-use Rattle.param_2231.specs.declared.ParamKind.TheVariants.{Content}
-use Rattle.param_2231.specs.Joining.{ParamValue, SaysParams}
+use Rattle.param_grammar.specs.declared.ParamKind.TheVariants.{Content}
+use Rattle.param_grammar.specs.Joining.{ParamValue, SaysParams}
 use Rattle.mime_tree.specs.declared.openings.Opening.{Opening}
 use Rattle.mime_tree.specs.declared.openings.Opening.TheVariants.{Nothing, Message, Parts}
 

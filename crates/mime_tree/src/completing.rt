@@ -2,8 +2,7 @@
 ghost use Rattle.std.specs.Prelude.{◌≡◌, ◌++◌, ◌∷◌, [], ◌↔◌, ℕ, List, IsTrue, OnOk, OnErr};
 ghost use Rattle.mime_tree.specs.Completing.{EndsInCr, IsCompleted};
 
-use mail_wire::message::is_ended;
-use mail_wire::values::{Memory, Octets};
+use mail_wire::{Memory, Octets, is_ended};
 
 // Whether the last octet is a CR.
 fn ends_in_cr(octets: &[u8]) -> bool

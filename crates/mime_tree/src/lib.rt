@@ -1,11 +1,17 @@
 //! The tree of a message's entities (RFC 2045, RFC 2046).
 #![tactic(auto)]
 
-pub mod completing;
-pub mod entity;
+mod completing;
+mod entity;
 pub mod laws;
-pub mod marks;
-pub mod message;
-pub mod openings;
-pub mod reading;
-pub mod sections;
+mod marks;
+mod message;
+mod openings;
+mod reading;
+mod sections;
+
+pub use completing::complete;
+pub use entity::{Entities, Entity, Shape, Tree, TreeFault};
+pub use openings::first_value;
+pub use reading::{read_sound_tree, read_tree};
+pub use sections::Part;

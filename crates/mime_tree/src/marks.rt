@@ -1,13 +1,11 @@
 //! Lines, and what they are to a boundary.
 ghost use Rattle.std.specs.Prelude.{◌≡◌, ◌<◌, ◌≤◌, ◌∷◌, ◌++◌, length, take, drop, nat_eq, true, false, MatchOption};
-ghost use Rattle.std.specs.List.{starts_with, list_all};
-ghost use Rattle.mail_wire.specs.Octets.{is_white};
+ghost use Rattle.std.specs.List.{starts_with};
 ghost use Rattle.mail_wire.specs.Lines.{lines_of};
 ghost use Rattle.mime_tree.specs.Marks.{text_of, dashes, is_padded};
-ghost use Rattle.mime_tree.specs.Open.{mark_by, is_marked_text};
+ghost use Rattle.mime_tree.specs.private.Open.{mark_by, is_marked_text};
 
-use mail_wire::text::is_white;
-use mail_wire::values::Octets;
+use mail_wire::{Octets, is_white_text};
 use memchr::memmem;
 
 /// The line before a part, or the one after the last.
@@ -56,13 +54,6 @@ pub fn text_after<'a>(text: &'a [u8], beginning: &[u8]) -> Option<&'a [u8]>
     } else {
         None
     }
-}
-
-/// Whether all octets are white.
-pub fn is_white_text(text: &[u8]) -> bool
-    ensures { result ≡ list_all is_white text.now }
-{
-    text.iter().all(|octet| is_white(*octet))
 }
 
 /// What the text of a line is to a boundary.

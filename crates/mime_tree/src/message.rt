@@ -4,7 +4,7 @@ ghost use Rattle.mail_wire.specs.Message.{IsSound, IsFaulty};
 ghost use Rattle.mime_tree.specs.Faults.{IsFaultAt, IsOctetFault};
 
 use crate::entity::TreeFault;
-use mail_wire::message::first_faulty;
+use mail_wire::first_faulty;
 
 // What is wrong with the octet that stands there.
 fn fault_at(octets: &[u8], at: usize) -> TreeFault

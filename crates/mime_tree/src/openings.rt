@@ -3,21 +3,18 @@ ghost use Rattle.std.specs.Prelude.{◌≡◌, ◌≢◌, ◌↔◌, ◌+◌, �
 ghost use Rattle.std.specs.Str.{bytes_eq};
 ghost use Rattle.std.specs.List.{All, list_all};
 ghost use Rattle.utf8_fields.specs.Block.{raw_of};
-ghost use Rattle.encoded_words.specs.Values.{value_of};
+ghost use Rattle.encoded_words.specs.private.Values.{value_of};
 ghost use Rattle.field_tokens.specs.declared.TokenKind.TheVariants.{Atom};
 ghost use Rattle.field_tokens.specs.Squeezed.{is_blank};
-ghost use Rattle.param_2231.specs.Joining.{param_value};
+ghost use Rattle.param_grammar.specs.Joining.{param_value};
 ghost use Rattle.mime_tree.specs.Openings.{is_letter, is_digit_or_sign, is_other_sign, is_boundary_octet, is_usable, is_message_type, is_multipart_type, is_digest_type, is_identity_name, boundary_in, opening_said, opening_by_default, Opens, OpensByType, OpensByText, IsFirstValue, IsIdentity, KeepsOctets, AreFieldsWithin, usable_of, divided};
 
 use encoded_words::Unit;
 use field_tokens::{Style, Token, TokenFault, TokenKind, is_blank, tokens};
-use mail_wire::text::is_same_name;
-use mail_wire::values::{Memory, Octets};
-use param_2231::{Param, ParamFault, ParamKind, Params, read_params};
+use mail_wire::{Memory, Octets, is_same_name};
+use param_grammar::{Param, ParamFault, ParamKind, Params, read_params};
 use std::alloc::Global;
-use utf8_fields::block::Field;
-use utf8_fields::parts::split_field;
-use utf8_fields::values::value_of;
+use utf8_fields::{Field, split_field, value_of};
 
 /// How an entity is opened.
 #[derive(Drop)]

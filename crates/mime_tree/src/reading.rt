@@ -9,19 +9,18 @@ ghost use Rattle.mime_tree.specs.declared.entity.TreeFault.{TreeFault};
 ghost use Rattle.mime_tree.specs.declared.openings.Opening.{Opening};
 ghost use Rattle.mime_tree.specs.Openings.{AreFieldsWithin, Opens};
 ghost use Rattle.mime_tree.specs.Parts.{parts_of};
-ghost use Rattle.mime_tree.specs.Open.{lines_at, begins_marked, region, after, later, end_place, IsStop, IsHeaderStop, IsStart, IsAfterLine, IsNext, IsContentStart};
+ghost use Rattle.mime_tree.specs.private.Open.{lines_at, begins_marked, region, after, later, end_place, IsStop, IsHeaderStop, IsStart, IsAfterLine, IsNext, IsContentStart};
 ghost use Rattle.mime_tree.specs.Tree.{HasTree, IsEntity};
 ghost use Rattle.mime_tree.specs.Faults.{IsTreeFault, IsFaultOf, IsFaultAmong, told_of};
-ghost use Rattle.mime_tree.specs.Reading.{region_at, IsHeadRead, IsInsideRead, IsDividedRead, IsEntityRead, IsFaultWithin};
+ghost use Rattle.mime_tree.specs.private.Reading.{region_at, IsHeadRead, IsInsideRead, IsDividedRead, IsEntityRead, IsFaultWithin};
 
 use crate::entity::{Entities, Entity, Shape, Tree, TreeFault};
 use crate::marks::{first_line, is_delimiter, is_marked};
 use crate::message::check_message;
 use crate::openings::{Opening, opening_of};
-use mail_wire::values::Octets;
+use mail_wire::Octets;
 use std::alloc::Global;
-use utf8_fields::block::{Block, FieldFault};
-use utf8_fields::reading::read_block_at;
+use utf8_fields::{Block, FieldFault, read_block_at};
 
 /// How deep an entity may be that is opened.
 pub const DEPTH_MAX: u32 = 32;

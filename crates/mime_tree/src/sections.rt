@@ -4,7 +4,7 @@ ghost use Rattle.mime_tree.specs.Outlines.{outline_of, outlines_of};
 ghost use Rattle.mime_tree.specs.Sections.{is_in, child, itself, named, next, named_by, between, whole_of, header_of, content_of, child_of, part_at, part_of_all, section};
 
 use crate::entity::{Entity, Shape, Tree};
-use mail_wire::values::Span;
+use mail_wire::Span;
 
 /// What is asked of an entity.
 #[derive(Clone, Copy, Debug, PartialEq, Eq)]

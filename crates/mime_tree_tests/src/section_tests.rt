@@ -1,6 +1,5 @@
 //! Sections of worked messages, by the public calls.
-use mime_tree::reading::read_tree;
-use mime_tree::sections::Part;
+use mime_tree::{Part, read_tree};
 use std::test::Fail;
 
 const NESTED: &[u8] =

@@ -1,8 +1,6 @@
 //! The tree of worked messages, by the public calls.
-use mail_wire::values::Octets;
-use mime_tree::completing::complete;
-use mime_tree::entity::{Entity, Shape, TreeFault};
-use mime_tree::reading::read_tree;
+use mail_wire::Octets;
+use mime_tree::{Entity, Shape, TreeFault, complete, read_tree};
 use std::test::Fail;
 
 // An entity by its parent, depth, places and shape.

@@ -12,11 +12,11 @@ use Rattle.field_tokens.specs.TokenOctets.{is_line_octet}
 use Rattle.field_tokens.specs.Tokens.{TokenValue, AreTokens, octets_at}
 use Rattle.field_tokens.specs.Squeezed.{run_octets, octets_of}
 use Rattle.field_tokens.proofs.SqueezedValues.{value_at, AreKept}
-use Rattle.param_2231.specs.declared.ParamKind.{ParamKind}
-use Rattle.param_2231.specs.declared.ParamKind.TheVariants.{Content, Disposition}
-use Rattle.param_2231.specs.declared.Piece.{Piece}
-use Rattle.param_2231.specs.Names.{NameParts, HasNameParts}
-use Rattle.param_2231.specs.Bodies.{is_atom, is_quoted, is_main, is_plain_token, are_quoted, are_plain, touches_first, touch, unquoted, inner, content_of, is_first, SaysOctets, IsPiece, solid}
+use Rattle.param_grammar.specs.declared.ParamKind.{ParamKind}
+use Rattle.param_grammar.specs.declared.ParamKind.TheVariants.{Content, Disposition}
+use Rattle.param_grammar.specs.declared.Piece.{Piece}
+use Rattle.param_grammar.specs.Names.{NameParts, HasNameParts}
+use Rattle.param_grammar.specs.Bodies.{is_atom, is_quoted, is_main, is_plain_token, are_quoted, are_plain, touches_first, touch, unquoted, inner, content_of, is_first, SaysOctets, IsPiece, solid}
 
 abbrev pub is_octet : ℕ → Bool
 is_octet x = nat_lt x 256

@@ -9,10 +9,10 @@ use Rattle.field_tokens.specs.declared.Token.{Token}
 use Rattle.field_tokens.specs.Tokens.{tokens_from, HasTokens}
 use Rattle.field_tokens.specs.Comments.{CommentValue}
 use Rattle.field_tokens.proofs.DecideTokens.{decide_tokens}
-use Rattle.param_2231.specs.declared.ParamKind.{ParamKind}
-use Rattle.param_2231.specs.declared.Piece.{Piece}
-use Rattle.param_2231.specs.Joining.{is_part_of, parts_named, numbered, AreNumbered, ParamValue, params_of, AreParams, SaysParams}
-use Rattle.param_2231.proofs.BodyLemmas.{IsBody-once}
+use Rattle.param_grammar.specs.declared.ParamKind.{ParamKind}
+use Rattle.param_grammar.specs.declared.Piece.{Piece}
+use Rattle.param_grammar.specs.Joining.{is_part_of, parts_named, numbered, AreNumbered, ParamValue, params_of, AreParams, SaysParams}
+use Rattle.param_grammar.proofs.BodyLemmas.{IsBody-once}
 use Rattle.param_2231.proofs.DecidePieces.{Found, decide_body}
 use Rattle.param_2231.proofs.GivenLemmas.{by_tokens}
 use Rattle.param_2231.proofs.ParamsSome.{SaysSome, HasSaidBody-says}

@@ -8,19 +8,20 @@ use Rattle.std.specs.List.{list_all}
 use Rattle.std.specs.Str.{str_to_ascii_lowercase}
 use Rattle.mail_wire.specs.Octets.{is_ascii}
 use Rattle.encoded_words.specs.Words.{is_name_octet}
-use Rattle.encoded_words.specs.Parts.{lacks}
+use Rattle.encoded_words.specs.private.Parts.{lacks}
 use Rattle.field_tokens.specs.declared.Token.{Token}
 use Rattle.field_tokens.specs.Tokens.{octets_at}
 use Rattle.field_tokens.specs.Squeezed.{run_octets}
-use Rattle.param_2231.specs.declared.ParamKind.{ParamKind}
-use Rattle.param_2231.specs.Escapes.{EscapedItem, Plain, Escape, IsEscapedItem, item_spelling, IsEscaped, BeginsEscaped}
-use Rattle.param_2231.specs.Extended.{IsExtended}
-use Rattle.param_2231.specs.Names.{is_decimal_digit, leads_with_zero, IsNumber, NameParts, IsBase, HasNameParts, HasSuffix}
-use Rattle.param_2231.specs.Bodies.{is_atom, is_mark_at, are_quoted, are_plain, is_parameter, is_main, is_filled, solid, sections_of, content_of, is_first, SaysOctets, IsParameterOf, IsPieceOf, IsPiece, ArePieces, IsBody}
-use Rattle.param_2231.proofs.EscapeLemmas.{ReadsTo, ReadsTo-none, ReadsTo-push, IsEscaped-read, not-IsEscaped, BeginsEscaped-plain, BeginsEscaped-escape}
-use Rattle.param_2231.proofs.ExtendedLemmas.{not-IsExtended-first, not-IsExtended-second, not-IsExtended-charset}
-use Rattle.param_2231.proofs.NameLemmas.{not-HasSuffix, HasNameParts-made, not-HasNameParts-base, not-HasNameParts-behind}
-use Rattle.param_2231.proofs.ReadLemmas.{not-SaysOctets-text, not-IsPieceOf-octets, not-IsPiece-parameter, not-IsPiece-piece}
+use Rattle.param_grammar.specs.declared.ParamKind.{ParamKind}
+use Rattle.param_grammar.specs.Escapes.{EscapedItem, Plain, Escape, IsEscapedItem, item_spelling, IsEscaped, BeginsEscaped}
+use Rattle.param_grammar.specs.Extended.{IsExtended}
+use Rattle.mail_wire.specs.Numbers.{is_digit}
+use Rattle.param_grammar.specs.Names.{leads_with_zero, IsNumber, NameParts, IsBase, HasNameParts, HasSuffix}
+use Rattle.param_grammar.specs.Bodies.{is_atom, is_mark_at, are_quoted, are_plain, is_parameter, is_main, is_filled, solid, sections_of, content_of, is_first, SaysOctets, IsParameterOf, IsPieceOf, IsPiece, ArePieces, IsBody}
+use Rattle.param_grammar.proofs.EscapeLemmas.{ReadsTo, ReadsTo-none, ReadsTo-push, IsEscaped-read, not-IsEscaped, BeginsEscaped-plain, BeginsEscaped-escape}
+use Rattle.param_grammar.proofs.ExtendedLemmas.{not-IsExtended-first, not-IsExtended-second, not-IsExtended-charset}
+use Rattle.param_grammar.proofs.NameLemmas.{not-HasSuffix, HasNameParts-made, not-HasNameParts-base, not-HasNameParts-behind}
+use Rattle.param_grammar.proofs.ReadLemmas.{not-SaysOctets-text, not-IsPieceOf-octets, not-IsPiece-parameter, not-IsPiece-piece}
 
 -- some value is right, or none
 abbrev pub Found : {V : Type 0} → (V → Type 0) → Type 0
@@ -138,8 +139,8 @@ decide_base octets = elim (cases_lt 0 (length octets)) [
 decide_number : (digits : List ℕ) → IsNumber digits ⊎ ¬ IsNumber digits
 decide_number digits = elim (cases_lt 0 (length digits)) [
   | inr none ↦ inr (λ is. let some = is.some in omega (arith, none, some))
-  | inl some ↦ elim (cases_Bool (list_all is_decimal_digit digits)) [
-    | inr other ↦ inr (λ is. both_ways (list_all is_decimal_digit digits) other is.decimal)
+  | inl some ↦ elim (cases_Bool (list_all is_digit digits)) [
+    | inr other ↦ inr (λ is. both_ways (list_all is_digit digits) other is.decimal)
     | inl decimal ↦ elim (cases_Bool (leads_with_zero digits)) [
       | inl leads ↦ inr (λ is. both_ways (leads_with_zero digits) is.shortest leads)
       | inr shortest ↦ inl (record { some = some; decimal = decimal; shortest = shortest })

@@ -8,16 +8,16 @@ use Rattle.std.specs.Str.{str_to_ascii_lowercase}
 use Rattle.mail_wire.specs.Octets.{is_ascii}
 use Rattle.mail_wire.proofs.Feeding.{all-append}
 use Rattle.encoded_words.specs.Words.{is_name_octet}
-use Rattle.encoded_words.specs.Parts.{lacks}
+use Rattle.encoded_words.specs.private.Parts.{lacks}
 use Rattle.encoded_words.proofs.Octets.{all_append}
 use Rattle.field_tokens.specs.declared.Style.TheVariants.{Mime}
 use Rattle.field_tokens.specs.TokenOctets.{is_atom_octet}
 use Rattle.field_tokens.specs.Tokens.{IsToken, TokenValue, AreTokens}
 use Rattle.field_tokens.specs.Squeezed.{octets_of}
-use Rattle.param_2231.specs.declared.Piece.{Piece}
-use Rattle.param_2231.specs.Names.{IsBase, number_suffix, star_suffix}
-use Rattle.param_2231.specs.Bodies.{is_first, SaysOctets, unquoted, inner}
-use Rattle.param_2231.specs.Joining.{is_part_of, parts_named, numbered, has_number, first_parts, joined_unit, ParamValue, unit_at, goes_on, params_of, is_ascii_parameter, is_doubled}
+use Rattle.param_grammar.specs.declared.Piece.{Piece}
+use Rattle.param_grammar.specs.Names.{IsBase, number_suffix, star_suffix}
+use Rattle.param_grammar.specs.Bodies.{is_first, SaysOctets, unquoted, inner}
+use Rattle.param_grammar.specs.Joining.{is_part_of, parts_named, numbered, has_number, first_parts, joined_unit, ParamValue, unit_at, goes_on, params_of, is_ascii_parameter, is_doubled}
 use Rattle.param_2231.specs.Layout.{GivesWhere, PiecesGive}
 use Rattle.param_2231.proofs.CoresAgain.{is_octet, is_quoted_string, content, HasCore}
 use Rattle.param_2231.proofs.PlacedAgain.{all_take, all_drop, filter_all, is_atom_kind}

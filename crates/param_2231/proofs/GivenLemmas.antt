@@ -5,7 +5,7 @@ use Rattle.std.proofs.lemmas.List.{append_assoc, append-nil, length-append, take
 use Rattle.std.proofs.lemmas.Slice.Eq.{bytes_eq-Decides}
 use Rattle.std.specs.Str.{IsUtf8, bytes_eq, str_to_ascii_lowercase}
 use Rattle.encoded_words.specs.Words.{UnitValue, Text}
-use Rattle.encoded_words.specs.Values.{value_of}
+use Rattle.encoded_words.specs.private.Values.{value_of}
 use Rattle.field_tokens.specs.declared.Style.TheVariants.{Mime}
 use Rattle.field_tokens.specs.declared.Token.{Token}
 use Rattle.field_tokens.specs.declared.TokenKind.{TokenKind}
@@ -15,17 +15,17 @@ use Rattle.field_tokens.specs.Squeezed.{is_comment, comments_of, run_octets}
 use Rattle.field_tokens.specs.Comments.{IsComment, CommentPieces, CommentsPieces, AddsPieces}
 use Rattle.field_tokens.proofs.TokenLists.{token_at, AreTokens-once, HasTokens-once}
 use Rattle.field_tokens.proofs.TokenLines.{BothUtf8, token_utf8}
-use Rattle.param_2231.specs.declared.ParamKind.{ParamKind}
-use Rattle.param_2231.specs.declared.Piece.{Piece}
-use Rattle.param_2231.specs.declared.roles.Role.{Role}
-use Rattle.param_2231.specs.declared.roles.Role.TheVariants.{GoesOn, Begins}
-use Rattle.param_2231.specs.Bodies.{solid, IsBody}
-use Rattle.param_2231.specs.Joining.{ParamValue, params_of, AreParams, goes_on, unit_at, is_ascii_parameter, is_doubled, IsRole, AreRoles, HasSaidBody}
+use Rattle.param_grammar.specs.declared.ParamKind.{ParamKind}
+use Rattle.param_grammar.specs.declared.Piece.{Piece}
+use Rattle.param_grammar.specs.declared.role.Role.{Role}
+use Rattle.param_grammar.specs.declared.role.Role.TheVariants.{GoesOn, Begins}
+use Rattle.param_grammar.specs.Bodies.{solid, IsBody, WritesBody}
+use Rattle.param_grammar.specs.Joining.{ParamValue, params_of, AreParams, goes_on, unit_at, is_ascii_parameter, is_doubled, IsRole, AreRoles, HasSaidBody}
 use Rattle.param_2231.specs.Layout.{ParamPieces, GivesWhere, PieceGives, PiecesGive, with_semicolons, written_main, ParamsPieces}
-use Rattle.param_2231.specs.Parts.{IsWritableUnit}
-use Rattle.param_2231.specs.Given.{WritesBody, RoleGives, IsWritableRole, ended, GiveComments}
-use Rattle.param_2231.proofs.BodyLemmas.{IsBody-once}
-use Rattle.param_2231.proofs.SectionLemmas.{no_token}
+use Rattle.param_2231.specs.private.Parts.{IsWritableUnit}
+use Rattle.param_2231.specs.private.Given.{RoleGives, IsWritableRole, ended, GiveComments}
+use Rattle.param_grammar.proofs.BodyLemmas.{IsBody-once}
+use Rattle.param_grammar.proofs.SectionLemmas.{no_token}
 use Rattle.param_2231.proofs.ParamsSome.{unit_at-writable}
 
 -- ---- main parts

@@ -21,12 +21,12 @@ use Rattle.field_tokens.specs.Comments.{CommentValue, CommentsSay}
 use Rattle.field_tokens.proofs.TokenLists.{AreTokens-once, HasTokens-once, token_at}
 use Rattle.field_tokens.proofs.TokenLines.{AreLineTokens, tokens_lines, line_none, line_append, ascii_line}
 use Rattle.field_tokens.proofs.Parts.{octets_of-tokens, comments_of-append, StopsBehind-append}
-use Rattle.param_2231.specs.declared.ParamKind.{ParamKind}
-use Rattle.param_2231.specs.declared.ParamKind.TheVariants.{Content}
-use Rattle.param_2231.specs.Bodies.{solid, is_atom, is_mark_at, IsBody}
-use Rattle.param_2231.specs.Joining.{ParamValue, HasSaidBody, SaysParams}
+use Rattle.param_grammar.specs.declared.ParamKind.{ParamKind}
+use Rattle.param_grammar.specs.declared.ParamKind.TheVariants.{Content}
+use Rattle.param_grammar.specs.Bodies.{solid, is_atom, is_mark_at, IsBody}
+use Rattle.param_grammar.specs.Joining.{ParamValue, HasSaidBody, SaysParams}
 use Rattle.param_2231.specs.GlobalTypes.{HasSubtype, NamesGlobal, with_rfc822}
-use Rattle.param_2231.proofs.BodyLemmas.{IsBody-once}
+use Rattle.param_grammar.proofs.BodyLemmas.{IsBody-once}
 use Rattle.param_2231.proofs.ChangedTokens.{atom_of, Changed, atom_changed, AreSameAt, octets_between, same_places, octets_of-append, tokens_from-start, same_tokens}
 use Rattle.param_2231.proofs.SameOctets.{first_part}
 use Rattle.param_2231.proofs.GlobalPlaces.{solid-words, find_word, main_size, body_subtype, global_body, body_changed}

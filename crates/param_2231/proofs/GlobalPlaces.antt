@@ -8,13 +8,13 @@ use Rattle.std.specs.List.{AllByRecursion, list_all}
 use Rattle.std.specs.Str.{bytes_eq, str_to_ascii_lowercase}
 use Rattle.std.specs.Prelude.{codes}
 use Rattle.mail_wire.specs.Octets.{is_ascii}
-use Rattle.encoded_words.specs.Parts.{lacks}
+use Rattle.encoded_words.specs.private.Parts.{lacks}
 use Rattle.field_tokens.specs.declared.Token.{Token}
 use Rattle.field_tokens.specs.Tokens.{TokenValue, tokens_from, octets_at}
 use Rattle.field_tokens.specs.Squeezed.{is_blank, run_octets, words_of}
-use Rattle.param_2231.specs.declared.ParamKind.TheVariants.{Content}
-use Rattle.param_2231.specs.declared.Piece.{Piece}
-use Rattle.param_2231.specs.Bodies.{solid, is_atom, is_ascii_atom, is_main, is_mark_at, IsBody, is_filled}
+use Rattle.param_grammar.specs.declared.ParamKind.TheVariants.{Content}
+use Rattle.param_grammar.specs.declared.Piece.{Piece}
+use Rattle.param_grammar.specs.Bodies.{solid, is_atom, is_ascii_atom, is_main, is_mark_at, IsBody, is_filled}
 use Rattle.param_2231.proofs.ChangedTokens.{IsSameAt, AreSameAt}
 use Rattle.param_2231.proofs.SameOctets.{all_filter, all_parts, split_alike, same_marks, same_mark, same_pieces, Behind, first_part}
 

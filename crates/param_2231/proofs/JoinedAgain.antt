@@ -10,9 +10,9 @@ use Rattle.std.specs.List.{AllByRecursion, list_any, list_all}
 use Rattle.std.specs.Str.{bytes_eq}
 use Rattle.mail_wire.specs.Octets.{is_ascii}
 use Rattle.encoded_words.specs.Words.{UnitValue}
-use Rattle.param_2231.specs.declared.Piece.{Piece}
-use Rattle.param_2231.specs.Extended.{unit_of}
-use Rattle.param_2231.specs.Joining.{is_part_of, parts_named, AreNumbered, joined_unit, ParamValue, unit_at, goes_on, params_behind, params_of, AreParams, is_ascii_parameter, is_doubled}
+use Rattle.param_grammar.specs.declared.Piece.{Piece}
+use Rattle.param_grammar.specs.Extended.{unit_of}
+use Rattle.param_grammar.specs.Joining.{is_part_of, parts_named, AreNumbered, joined_unit, ParamValue, unit_at, goes_on, params_behind, params_of, AreParams, is_ascii_parameter, is_doubled}
 
 -- ---- what stands for a piece
 

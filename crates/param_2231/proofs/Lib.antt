@@ -1,15 +1,3 @@
-pub mod EscapeLemmas
-pub mod NameLemmas
-pub mod ExtendedLemmas
-pub mod BodyLemmas
-pub mod SectionLemmas
-pub mod ReadLemmas
-pub mod NumberLemmas
-pub mod SlotLemmas
-pub mod RoleLemmas
-pub mod BegunLemmas
-pub mod NamedLemmas
-pub mod ParamLemmas
 pub mod JoinedAgain
 pub mod CoresAgain
 pub mod SectionsAgain

@@ -10,7 +10,7 @@ use Rattle.std.specs.List.{AllByRecursion, flat_map, list_all, concat}
 use Rattle.std.specs.Str.{bytes_eq, str_to_ascii_lowercase}
 use Rattle.mail_wire.specs.Octets.{is_ascii}
 use Rattle.encoded_words.specs.Words.{UnitValue}
-use Rattle.encoded_words.specs.Parts.{lacks}
+use Rattle.encoded_words.specs.private.Parts.{lacks}
 use Rattle.encoded_words.proofs.Octets.{all_append}
 use Rattle.field_tokens.specs.declared.Style.TheVariants.{Mime}
 use Rattle.field_tokens.specs.declared.TokenKind.TheVariants.{Atom, Special}
@@ -18,15 +18,15 @@ use Rattle.field_tokens.specs.TokenOctets.{is_atom_octet, is_line_octet}
 use Rattle.field_tokens.specs.Tokens.{IsToken, TokenValue}
 use Rattle.field_tokens.specs.Squeezed.{octets_of}
 use Rattle.field_tokens.proofs.LinePieces.{list_weaker}
-use Rattle.param_2231.specs.declared.Piece.{Piece}
-use Rattle.param_2231.specs.Escapes.{escaped}
-use Rattle.param_2231.specs.Extended.{unit_of}
-use Rattle.param_2231.specs.Names.{NameParts, HasNameParts, IsBase, IsNumber}
-use Rattle.param_2231.specs.Bodies.{is_first, SaysOctets}
-use Rattle.param_2231.specs.Joining.{decimal_value, has_number, numbered, first_parts}
+use Rattle.param_grammar.specs.declared.Piece.{Piece}
+use Rattle.param_grammar.specs.Escapes.{escaped}
+use Rattle.param_grammar.specs.Extended.{unit_of}
+use Rattle.param_grammar.specs.Names.{NameParts, HasNameParts, IsBase, IsNumber}
+use Rattle.param_grammar.specs.Bodies.{is_first, SaysOctets}
+use Rattle.param_grammar.specs.Joining.{decimal_value, has_number, numbered, first_parts}
 use Rattle.param_2231.specs.Layout.{number_digits, charset_of, octets_in, charset_part, AreParts, is_short, whole_piece, numbered_piece, numbered_pieces, ParamPieces}
 use Rattle.param_2231.specs.Layout.ParamPieces.{Whole, Parts}
-use Rattle.param_2231.proofs.EscapeLemmas.{IsEscaped-escaped}
+use Rattle.param_grammar.proofs.EscapeLemmas.{IsEscaped-escaped}
 use Rattle.param_2231.proofs.CoresAgain.{is_octet, CanStand, HasCore}
 use Rattle.param_2231.proofs.PlacedAgain.{free_of, atom_free}
 use Rattle.param_2231.proofs.NumbersAgain.{number_back, number_digits_are}

@@ -13,9 +13,9 @@ use Rattle.field_tokens.specs.declared.TokenKind.TheVariants.{Atom, Special}
 use Rattle.field_tokens.specs.Tokens.{IsToken, TokenValue, octets_at}
 use Rattle.field_tokens.specs.Squeezed.{run_octets, octets_of}
 use Rattle.field_tokens.proofs.SqueezedValues.{value_at, AreKept}
-use Rattle.param_2231.specs.declared.ParamKind.{ParamKind}
-use Rattle.param_2231.specs.declared.ParamKind.TheVariants.{Content, Disposition}
-use Rattle.param_2231.specs.Bodies.{is_atom, is_main}
+use Rattle.param_grammar.specs.declared.ParamKind.{ParamKind}
+use Rattle.param_grammar.specs.declared.ParamKind.TheVariants.{Content, Disposition}
+use Rattle.param_grammar.specs.Bodies.{is_atom, is_main}
 use Rattle.param_2231.specs.Layout.{is_global, written_main}
 use Rattle.param_2231.specs.ParamsReadBack.{served_main}
 use Rattle.param_2231.proofs.CoresAgain.{is_mark, is_ascii_name, are_main, are_main-at, octets-at, CanStand}

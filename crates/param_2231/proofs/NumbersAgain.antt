@@ -8,8 +8,9 @@ use Rattle.std.specs.List.{list_all}
 use Rattle.std.specs.Char.{digit_value}
 use Rattle.std.specs.Fmt.{decimal}
 use Rattle.std.specs.Int.Digits.{digits_of, number_from_digits_after, AllBelowBase}
-use Rattle.param_2231.specs.Names.{is_decimal_digit, leads_with_zero, IsNumber}
-use Rattle.param_2231.specs.Joining.{decimal_onward, decimal_value}
+use Rattle.mail_wire.specs.Numbers.{is_digit}
+use Rattle.param_grammar.specs.Names.{leads_with_zero, IsNumber}
+use Rattle.param_grammar.specs.Joining.{decimal_onward, decimal_value}
 use Rattle.param_2231.specs.Layout.{number_digits}
 
 digit_back : (d : ℕ) → d < 10 → digit_value (48 + d) ≡ d
@@ -26,10 +27,10 @@ number_back zero = refl
 number_back (suc n) =
     digits_onward 0 (digits_of 10 (suc n)) (all_below_base_digits_of 10 (suc n) (omega arith)) ∙ number_digits_of 10 (suc n) (omega arith)
 
-digits_all : (ds : List ℕ) → AllBelowBase 10 ds → list_all is_decimal_digit (map (λ d. 48 + d) ds) ≡ true
+digits_all : (ds : List ℕ) → AllBelowBase 10 ds → list_all is_digit (map (λ d. 48 + d) ds) ≡ true
 digits_all [] below = refl
 digits_all (d ∷ ds) below =
-    and_from (is_decimal_digit (48 + d)) (list_all is_decimal_digit (map (λ e. 48 + e) ds)) (let h = below.0 in grind (arith, nat_tests)) (digits_all ds below.1)
+    and_from (is_digit (48 + d)) (list_all is_digit (map (λ e. 48 + e) ds)) (let h = below.0 in grind (arith, nat_tests)) (digits_all ds below.1)
 
 glyph_some : (d : ℕ) → 0 < d → (48 + d == 48) ≡ false
 glyph_some d h = grind (arith, nat_tests)

@@ -6,9 +6,9 @@ use Rattle.std.proofs.lemmas.List.{append_assoc, append-nil, length-append, nil_
 use Rattle.std.specs.List.{concat}
 use Rattle.encoded_words.specs.Words.{UnitValue}
 use Rattle.field_tokens.specs.Comments.{AddsPieces}
-use Rattle.param_2231.specs.Escapes.{escaped}
+use Rattle.param_grammar.specs.Escapes.{escaped}
 use Rattle.param_2231.specs.Layout.{octets_in, IsPartOf, AreParts, charset_part, whole_piece, numbered_piece, numbered_pieces, is_short, ParamPieces, Whole, Parts, GivesWhere}
-use Rattle.param_2231.specs.Parts.{IsCuttable, IsWritableUnit, IsFitting}
+use Rattle.param_2231.specs.private.Parts.{IsCuttable, IsWritableUnit, IsFitting}
 use Rattle.param_2231.proofs.PartLemmas.{fitting_short, fitting_long, AreParts-once, AreParts-some}
 
 -- ---- one piece

@@ -18,13 +18,13 @@ use Rattle.field_tokens.proofs.SqueezedValues.{values_at}
 use Rattle.field_tokens.proofs.TokenLines.{ascii_line, joined_line, comments_are_writable, comments_are_plain}
 use Rattle.field_tokens.proofs.LinePieces.{CommentsPieces-line, CommentsPieces-there}
 use Rattle.field_tokens.proofs.WrittenComments.{CommentsPieces-written}
-use Rattle.param_2231.specs.declared.ParamKind.{ParamKind}
-use Rattle.param_2231.specs.declared.Piece.{Piece}
-use Rattle.param_2231.specs.Bodies.{solid, IsBody}
-use Rattle.param_2231.specs.Joining.{ParamValue, params_of, AreParams, HasSaidBody, SaysParams}
+use Rattle.param_grammar.specs.declared.ParamKind.{ParamKind}
+use Rattle.param_grammar.specs.declared.Piece.{Piece}
+use Rattle.param_grammar.specs.Bodies.{solid, IsBody}
+use Rattle.param_grammar.specs.Joining.{ParamValue, params_of, AreParams, HasSaidBody, SaysParams}
 use Rattle.param_2231.specs.Layout.{with_semicolons, written_main, ParamsPieces}
 use Rattle.param_2231.specs.ParamsReadBack.{served_main, AreParamsAgain}
-use Rattle.param_2231.proofs.BodyLemmas.{IsBody-once}
+use Rattle.param_grammar.proofs.BodyLemmas.{IsBody-once}
 use Rattle.param_2231.proofs.JoinedAgain.{AreParams-again}
 use Rattle.param_2231.proofs.CoresAgain.{CanStand, HasCore}
 use Rattle.param_2231.proofs.PlacedAgain.{kept_solid, CanBeCopied, body_copied}

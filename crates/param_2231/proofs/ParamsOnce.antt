@@ -6,12 +6,12 @@ use Rattle.field_tokens.specs.Squeezed.{comments_of, run_octets}
 use Rattle.field_tokens.specs.Comments.{CommentValue, CommentsSay, CommentsPieces}
 use Rattle.field_tokens.proofs.TokenLists.{AreTokens-once, HasTokens-once}
 use Rattle.field_tokens.proofs.CommentValues.{CommentsSay-once, CommentsPieces-once}
-use Rattle.param_2231.specs.declared.ParamKind.{ParamKind}
-use Rattle.param_2231.specs.declared.Piece.{Piece}
-use Rattle.param_2231.specs.Bodies.{sections_of, solid, IsBody}
-use Rattle.param_2231.specs.Joining.{ParamValue, params_of, goes_on, unit_at, is_ascii_parameter, is_doubled, HasSaidBody, SaysParams}
+use Rattle.param_grammar.specs.declared.ParamKind.{ParamKind}
+use Rattle.param_grammar.specs.declared.Piece.{Piece}
+use Rattle.param_grammar.specs.Bodies.{sections_of, solid, IsBody}
+use Rattle.param_grammar.specs.Joining.{ParamValue, params_of, goes_on, unit_at, is_ascii_parameter, is_doubled, HasSaidBody, SaysParams}
 use Rattle.param_2231.specs.Layout.{PiecesGive, with_semicolons, written_main, ParamsPieces}
-use Rattle.param_2231.proofs.BodyLemmas.{IsBody-once}
+use Rattle.param_grammar.proofs.BodyLemmas.{IsBody-once}
 use Rattle.param_2231.proofs.ParamWriting.{GivesWhere-once}
 
 -- what two readings of a text share

@@ -13,13 +13,13 @@ use Rattle.field_tokens.specs.Tokens.{HasTokens}
 use Rattle.field_tokens.specs.declared.Token.{Token}
 use Rattle.field_tokens.proofs.TokenLines.{comments_are_writable}
 use Rattle.field_tokens.proofs.CommentValues.{CommentsSay-some, CommentsPieces-some}
-use Rattle.param_2231.specs.declared.ParamKind.{ParamKind}
-use Rattle.param_2231.specs.declared.Piece.{Piece}
-use Rattle.param_2231.specs.Extended.{is_nothing, is_text_of, unit_of}
-use Rattle.param_2231.specs.Bodies.{solid}
-use Rattle.param_2231.specs.Joining.{ParamValue, parts_named, numbered, first_parts, joined_unit, unit_at, goes_on, is_ascii_parameter, is_doubled, HasSaidBody, SaysParams}
+use Rattle.param_grammar.specs.declared.ParamKind.{ParamKind}
+use Rattle.param_grammar.specs.declared.Piece.{Piece}
+use Rattle.param_grammar.specs.Extended.{is_nothing, is_text_of, unit_of}
+use Rattle.param_grammar.specs.Bodies.{solid}
+use Rattle.param_grammar.specs.Joining.{ParamValue, parts_named, numbered, first_parts, joined_unit, unit_at, goes_on, is_ascii_parameter, is_doubled, HasSaidBody, SaysParams}
 use Rattle.param_2231.specs.Layout.{PiecesGive, with_semicolons, written_main, ParamsPieces}
-use Rattle.param_2231.specs.Parts.{IsWritableUnit}
+use Rattle.param_2231.specs.private.Parts.{IsWritableUnit}
 use Rattle.param_2231.proofs.ParamWriting.{GivesWhere-some}
 
 -- ---- what is said as text is UTF-8

@@ -7,20 +7,13 @@ use lib.Utf8.{scalar}
 use Rattle.std.specs.Char.{encode_utf8, len_utf8}
 use Rattle.std.specs.List.{concat}
 use Rattle.std.specs.Str.{IsUtf8, IsCharBoundary, encode_utf8_all, all_scalars}
-use Rattle.percent_encoding.specs.Percent.{percent_encode_byte}
 use Rattle.encoded_words.specs.Words.{UnitValue, Text, Opaque}
-use Rattle.param_2231.specs.Escapes.{is_attribute_octet, escaped_octet, escaped}
+use Rattle.param_grammar.specs.Escapes.{is_attribute_octet, escaped_octet, escaped}
 use Rattle.param_2231.specs.Layout.{EndsPart, IsPartOf, AreParts}
-use Rattle.param_2231.specs.Parts.{IsCuttable, IsFitting, IsLastBoundary, IsLastEnd}
+use Rattle.param_2231.specs.private.Parts.{IsCuttable, IsFitting, IsLastBoundary, IsLastEnd}
+use Rattle.param_grammar.proofs.EscapeLemmas.{octet_length-plain, octet_length-escape}
 
 -- ---- lengths
-
-pub octet_length-plain : (x : ℕ) → is_attribute_octet x ≡ true → length (escaped_octet x) ≡ 1
-octet_length-plain x plain = ap length (cond-true _ _ _ plain)
-
-pub octet_length-escape : (x : ℕ) → is_attribute_octet x ≡ false → length (escaped_octet x) ≡ 3
-unfolding percent_encode_byte
-octet_length-escape x other = ap length (cond-false _ _ _ other)
 
 octet_most : (x : ℕ) → length (escaped_octet x) ≤ 3
 octet_most x = elim (cases_Bool (is_attribute_octet x)) [

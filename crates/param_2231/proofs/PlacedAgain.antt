@@ -18,9 +18,9 @@ use Rattle.field_tokens.specs.Squeezed.{is_blank, octets_of}
 use Rattle.field_tokens.proofs.TokenLists.{token_octets_some}
 use Rattle.field_tokens.proofs.Parts.{IsToken-alike, IsToken-before, stops_more, stops_front}
 use Rattle.field_tokens.proofs.SqueezedValues.{value_at, AreKept, kept_no_gap}
-use Rattle.param_2231.specs.declared.ParamKind.{ParamKind}
-use Rattle.param_2231.specs.declared.Piece.{Piece}
-use Rattle.param_2231.specs.Bodies.{is_mark_at, solid, is_atom, is_filled, touches_first, touch, IsPiece, ArePieces, IsBody}
+use Rattle.param_grammar.specs.declared.ParamKind.{ParamKind}
+use Rattle.param_grammar.specs.declared.Piece.{Piece}
+use Rattle.param_grammar.specs.Bodies.{is_mark_at, solid, is_atom, is_filled, touches_first, touch, IsPiece, ArePieces, IsBody}
 use Rattle.param_2231.proofs.CoresAgain.{is_mark, is_plain, is_quoted_string, is_unquoted, CanStand, HasCore, IsPiece-core, value_to, is_octet}
 
 -- ---- tokens where they stand

@@ -15,9 +15,9 @@ use Rattle.field_tokens.specs.Comments.{CommentValue, CommentsSay, TextSays, Bod
 use Rattle.field_tokens.proofs.Parts.{octets_of-tokens}
 use Rattle.field_tokens.proofs.TokenLines.{comments_are_writable}
 use Rattle.field_tokens.proofs.CommentValues.{CommentsSay-some}
-use Rattle.param_2231.specs.declared.ParamKind.{ParamKind}
-use Rattle.param_2231.specs.Bodies.{HaveComments}
-use Rattle.param_2231.specs.Joining.{ParamValue, HasParams, SaysParams}
+use Rattle.param_grammar.specs.declared.ParamKind.{ParamKind}
+use Rattle.param_grammar.specs.Bodies.{HaveComments}
+use Rattle.param_grammar.specs.Joining.{ParamValue, HasParams, SaysParams}
 use Rattle.param_2231.proofs.ChangedTokens.{octets_between}
 
 said_run : (at : ℕ) (text : List TextItem) (units : Option (List UnitValue)) → TextSays text units → (run : Option Span) × GivesRun at text run

@@ -6,8 +6,8 @@ use Rattle.std.specs.Str.{bytes_eq}
 use Rattle.std.specs.Prelude.{codes}
 use Rattle.field_tokens.specs.declared.Token.{Token}
 use Rattle.field_tokens.specs.Squeezed.{is_blank, run_octets}
-use Rattle.param_2231.specs.declared.Piece.{Piece}
-use Rattle.param_2231.specs.Bodies.{is_mark_at, solid, is_atom, is_plain_token, touch, are_quoted, are_plain, content_of, IsParameterOf, is_first, SaysOctets, IsPieceOf, IsPiece, ArePieces, inner, unquoted}
+use Rattle.param_grammar.specs.declared.Piece.{Piece}
+use Rattle.param_grammar.specs.Bodies.{is_mark_at, solid, is_atom, is_plain_token, touch, are_quoted, are_plain, content_of, IsParameterOf, is_first, SaysOctets, IsPieceOf, IsPiece, ArePieces, inner, unquoted}
 use Rattle.param_2231.proofs.ChangedTokens.{IsSameAt, AreSameAt}
 
 -- ---- lists

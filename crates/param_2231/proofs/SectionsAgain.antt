@@ -18,9 +18,9 @@ use Rattle.field_tokens.specs.Tokens.{comment_marks, TokenValue, AreTokens, toke
 use Rattle.field_tokens.specs.Squeezed.{is_blank, octets_of, comments_of, space}
 use Rattle.field_tokens.proofs.Parts.{BeginsNoGap, EndsNoGap, EndsNoGap-append, AreTokens-append, AreTokens-space, comments_of-append}
 use Rattle.field_tokens.proofs.SqueezedValues.{value_at, AreKept, kept_no_gap, kept_no_comment}
-use Rattle.param_2231.specs.declared.ParamKind.{ParamKind}
-use Rattle.param_2231.specs.declared.Piece.{Piece}
-use Rattle.param_2231.specs.Bodies.{is_mark_at, sections_of, solid, is_filled, touch, ArePieces, IsBody}
+use Rattle.param_grammar.specs.declared.ParamKind.{ParamKind}
+use Rattle.param_grammar.specs.declared.Piece.{Piece}
+use Rattle.param_grammar.specs.Bodies.{is_mark_at, sections_of, solid, is_filled, touch, ArePieces, IsBody}
 use Rattle.param_2231.specs.Layout.{with_semicolons}
 use Rattle.param_2231.proofs.CoresAgain.{is_mark, are_main, are_main-at, octets-at, CanStand, HasCore, core-IsPiece}
 

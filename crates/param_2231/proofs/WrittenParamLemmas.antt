@@ -17,17 +17,17 @@ use Rattle.field_tokens.specs.Comments.{AddsPieces}
 use Rattle.mail_wire.specs.Octets.{is_white}
 use Rattle.field_tokens.proofs.Parts.{octets_of-tokens}
 use Rattle.field_tokens.proofs.SqueezedValues.{value_at, values_at, AreKept}
-use Rattle.param_2231.specs.declared.ParamKind.{ParamKind}
-use Rattle.param_2231.specs.declared.ParamKind.TheVariants.{Content, Disposition}
-use Rattle.param_2231.specs.declared.Piece.{Piece}
-use Rattle.param_2231.specs.Bodies.{is_atom, is_main, is_ascii_atom, is_mark_at}
-use Rattle.encoded_words.specs.Values.{value_of}
+use Rattle.param_grammar.specs.declared.ParamKind.{ParamKind}
+use Rattle.param_grammar.specs.declared.ParamKind.TheVariants.{Content, Disposition}
+use Rattle.param_grammar.specs.declared.Piece.{Piece}
+use Rattle.param_grammar.specs.Bodies.{is_atom, is_main, is_ascii_atom, is_mark_at}
+use Rattle.encoded_words.specs.private.Values.{value_of}
 use Rattle.field_tokens.specs.Trees.{Tree}
-use Rattle.param_2231.specs.declared.Param.{Param}
+use Rattle.param_grammar.specs.declared.Param.{Param}
 use Rattle.param_2231.proofs.SaidTrees.{HasParams-says}
-use Rattle.param_2231.specs.Joining.{ParamValue, HasParams, param_value, unit_at, goes_on, params_behind, params_of, AreParams, is_doubled, HasSaidBody, SaysParams}
+use Rattle.param_grammar.specs.Joining.{ParamValue, HasParams, param_value, unit_at, goes_on, params_behind, params_of, AreParams, is_doubled, HasSaidBody, SaysParams}
 use Rattle.param_2231.specs.Layout.{charset_of, octets_in, with_semicolons, ParamPieces}
-use Rattle.param_2231.specs.Parts.{IsWritableUnit}
+use Rattle.param_2231.specs.private.Parts.{IsWritableUnit}
 use Rattle.param_2231.specs.ParamsReadBack.{AreParamsAgain}
 use Rattle.param_2231.specs.WrittenParam.{ComesInParams, IsMainText, ReadsAsOne}
 use Rattle.param_2231.proofs.CoresAgain.{octets-at, HasCore}

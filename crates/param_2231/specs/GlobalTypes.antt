@@ -4,9 +4,9 @@ use Rattle.field_tokens.specs.declared.Style.TheVariants.{Mime}
 use Rattle.field_tokens.specs.Tokens.{TokenValue, HasTokenValues}
 use Rattle.field_tokens.specs.Squeezed.{octets_of, words_of}
 use Rattle.field_tokens.specs.Comments.{CommentValue}
-use Rattle.param_2231.specs.declared.ParamKind.TheVariants.{Content}
-use Rattle.param_2231.specs.Bodies.{is_atom}
-use Rattle.param_2231.specs.Joining.{ParamValue, SaysParams}
+use Rattle.param_grammar.specs.declared.ParamKind.TheVariants.{Content}
+use Rattle.param_grammar.specs.Bodies.{is_atom}
+use Rattle.param_grammar.specs.Joining.{ParamValue, SaysParams}
 
 -- the atom behind the slash of a Content-Type's main part stands at this place
 pub record HasSubtype (text : List ℕ) (at : ℕ) : Type 0 where

@@ -6,12 +6,12 @@ use Rattle.std.specs.Int.Digits.{digits_of}
 use Rattle.encoded_words.specs.Words.{UnitValue, Text, Opaque}
 use Rattle.field_tokens.specs.Squeezed.{comments_of, run_octets}
 use Rattle.field_tokens.specs.Comments.{CommentsPieces}
-use Rattle.param_2231.specs.declared.ParamKind.{ParamKind}
-use Rattle.param_2231.specs.declared.ParamKind.TheVariants.{Content, Disposition}
-use Rattle.param_2231.specs.declared.Piece.{Piece}
-use Rattle.param_2231.specs.Escapes.{escaped}
-use Rattle.param_2231.specs.Bodies.{solid}
-use Rattle.param_2231.specs.Joining.{ParamValue, goes_on, unit_at, is_ascii_parameter, is_doubled, HasSaidBody}
+use Rattle.param_grammar.specs.declared.ParamKind.{ParamKind}
+use Rattle.param_grammar.specs.declared.ParamKind.TheVariants.{Content, Disposition}
+use Rattle.param_grammar.specs.declared.Piece.{Piece}
+use Rattle.param_grammar.specs.Escapes.{escaped}
+use Rattle.param_grammar.specs.Bodies.{solid}
+use Rattle.param_grammar.specs.Joining.{ParamValue, goes_on, unit_at, is_ascii_parameter, is_doubled, HasSaidBody}
 
 -- ---- one parameter
 

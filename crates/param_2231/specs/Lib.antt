@@ -1,13 +1,5 @@
-pub mod Escapes
-pub mod Names
-pub mod Extended
-pub mod Bodies
-pub mod Joining
 pub mod Layout
-pub mod ByName
-pub mod Slots
 pub mod ParamsReadBack
-pub mod Parts
-pub mod Given
 pub mod GlobalTypes
 pub mod WrittenParam
+pub mod private

@@ -4,8 +4,8 @@ use Rattle.std.specs.List.{AllByRecursion, join_with_byte}
 use Rattle.mail_wire.specs.Octets.{is_white}
 use Rattle.mail_wire.specs.Spans.{Stops, StopsBehind}
 use Rattle.field_tokens.specs.Comments.{CommentValue, IsLinePiece}
-use Rattle.param_2231.specs.declared.ParamKind.{ParamKind}
-use Rattle.param_2231.specs.Joining.{ParamValue, SaysParams}
+use Rattle.param_grammar.specs.declared.ParamKind.{ParamKind}
+use Rattle.param_grammar.specs.Joining.{ParamValue, SaysParams}
 use Rattle.param_2231.specs.Layout.{is_global}
 
 -- the main part as it is served

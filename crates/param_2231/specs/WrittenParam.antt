@@ -7,9 +7,9 @@ use Rattle.field_tokens.specs.declared.Style.TheVariants.{Mime}
 use Rattle.field_tokens.specs.declared.Token.{Token}
 use Rattle.field_tokens.specs.Tokens.{HasTokens}
 use Rattle.field_tokens.specs.Comments.{CommentValue}
-use Rattle.param_2231.specs.declared.ParamKind.{ParamKind}
-use Rattle.param_2231.specs.Bodies.{is_main}
-use Rattle.param_2231.specs.Joining.{ParamValue, SaysParams}
+use Rattle.param_grammar.specs.declared.ParamKind.{ParamKind}
+use Rattle.param_grammar.specs.Bodies.{is_main}
+use Rattle.param_grammar.specs.Joining.{ParamValue, SaysParams}
 use Rattle.param_2231.specs.Layout.{with_semicolons}
 
 -- some text has a parameter of this name that says this

@@ -3,15 +3,13 @@ ghost use Rattle.std.specs.Prelude.{◌≡◌, ◌≢◌, ℕ, List, ◌∷◌, 
 ghost use Rattle.std.specs.Str.{bytes_eq};
 ghost use Rattle.field_tokens.specs.Comments.{CommentValue};
 ghost use Rattle.field_tokens.specs.declared.Token.{Token};
-ghost use Rattle.param_2231.specs.declared.ParamKind.TheVariants.{Content};
-ghost use Rattle.param_2231.specs.Joining.{ParamValue, SaysParams};
+ghost use Rattle.param_grammar.specs.declared.ParamKind.TheVariants.{Content};
+ghost use Rattle.param_grammar.specs.Joining.{ParamValue, SaysParams};
 ghost use Rattle.param_2231.specs.GlobalTypes.{NamesGlobal};
 
-use crate::reading::read_params;
-use crate::tokens::solid;
-use crate::{ParamFault, ParamKind};
 use field_tokens::{Style, Token, read_tokens};
-use mail_wire::values::{Memory, Octets};
+use mail_wire::{Memory, Octets};
+use param_grammar::{ParamFault, ParamKind, read_params, solid};
 use std::alloc::Global;
 
 // The main part of a Content-Type, in lower case, and nothing exactly where the text is none.

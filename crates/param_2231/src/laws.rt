@@ -2,10 +2,10 @@
 ghost use Rattle.std.specs.Prelude.{◌≡◌, ℕ, ◌⊎◌, Bool, List};
 ghost use Rattle.field_tokens.specs.Comments.{CommentValue};
 ghost use Rattle.field_tokens.specs.Trees.{Tree};
-ghost use Rattle.param_2231.specs.declared.ParamKind.{ParamKind};
-ghost use Rattle.param_2231.specs.declared.Piece.{Piece};
-ghost use Rattle.param_2231.specs.Bodies.{HasBody};
-ghost use Rattle.param_2231.specs.Joining.{ParamValue, HasParams, SaysParams};
+ghost use Rattle.param_grammar.specs.declared.ParamKind.{ParamKind};
+ghost use Rattle.param_grammar.specs.declared.Piece.{Piece};
+ghost use Rattle.param_grammar.specs.Bodies.{HasBody};
+ghost use Rattle.param_grammar.specs.Joining.{ParamValue, HasParams, SaysParams};
 ghost use Rattle.param_2231.specs.Layout.{ParamsPieces};
 ghost use Rattle.param_2231.specs.ParamsReadBack.{AreParamsAgain};
 

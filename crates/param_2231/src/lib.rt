@@ -1,85 +1,11 @@
-//! Parameters of Content-Type and Content-Disposition (RFC 2045, 5.1; RFC 2231).
+//! Parameters of Content-Type and Content-Disposition in ASCII (RFC 2231; RFC 6857, 3.2).
 #![tactic(auto)]
 
-pub mod bodies;
-mod by_name;
-pub mod escapes;
-pub mod extended;
-pub mod global_types;
-mod joining;
+mod global_types;
 pub mod laws;
-pub mod lists;
-pub mod names;
-pub mod numbers;
-mod reading;
-pub mod rewriting;
-mod roles;
-mod tokens;
-pub mod writing;
+mod rewriting;
+mod writing;
 
-pub use bodies::read_body;
-use encoded_words::Unit;
-use field_tokens::Comment;
-use lists::{ParamList, Pieces};
-use mail_wire::values::Octets;
-pub use reading::read_params;
+pub use global_types::find_global;
 pub use rewriting::rewrite_params;
 pub use writing::write_param;
-
-/// Which of the two fields with parameters.
-#[derive(Clone, Copy, Debug, PartialEq, Eq)]
-pub enum ParamKind {
-    /// Content-Type
-    Content,
-    /// Content-Disposition
-    Disposition,
-}
-
-/// A parameter, or a piece of one.
-#[derive(Drop)]
-pub struct Piece {
-    /// Its name without stars and number, in lower case.
-    pub base: Octets,
-    /// The digits of its number, where it is a piece.
-    pub number: Option<Octets>,
-    /// The charset that its value gives, as it is written, and nothing where it gives none.
-    pub charset: Octets,
-    /// The octets of its value.
-    pub octets: Octets,
-    /// Its name, `=` and its value as they are written.
-    pub written: Octets,
-}
-
-/// A parameter: its name in lower case, and what it says.
-#[derive(Drop)]
-pub struct Param {
-    pub name: Octets,
-    pub value: Unit,
-}
-
-/// What a field with parameters says.
-#[derive(Drop)]
-pub struct Params {
-    /// The main part in lower case.
-    pub main: Octets,
-    pub list: ParamList,
-    /// The comments, in the order of their places.
-    pub comments: Vec<Comment>,
-}
-
-/// The body of a field with parameters.
-#[derive(Drop)]
-pub struct Body {
-    /// The main part in lower case.
-    pub main: Octets,
-    pub pieces: Pieces,
-    /// The comments, in the order of their places.
-    pub comments: Vec<Comment>,
-}
-
-/// Why a text was not read.
-#[derive(Clone, Copy, Debug, PartialEq, Eq)]
-pub enum ParamFault {
-    Malformed,
-    Memory,
-}

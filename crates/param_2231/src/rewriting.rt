@@ -4,22 +4,19 @@ ghost use Rattle.std.specs.Str.{str_to_ascii_lowercase};
 ghost use Rattle.field_tokens.specs.declared.Style.TheVariants.{Mime};
 ghost use Rattle.field_tokens.specs.Tokens.{HasTokens};
 ghost use Rattle.field_tokens.specs.Comments.{AddsPieces, CommentValue};
-ghost use Rattle.param_2231.specs.Joining.{ParamValue, params_of, AreRoles, HasSaidBody, SaysParams};
+ghost use Rattle.param_grammar.specs.Joining.{ParamValue, params_of, AreRoles, HasSaidBody, SaysParams};
 ghost use Rattle.param_2231.specs.ParamsReadBack.{AreParamsAgain};
 ghost use Rattle.encoded_words.specs.Words.{Text};
-ghost use Rattle.encoded_words.specs.Values.{value_of};
-ghost use Rattle.param_2231.specs.Parts.{IsWritableUnit};
+ghost use Rattle.encoded_words.specs.private.Values.{value_of};
+ghost use Rattle.param_2231.specs.private.Parts.{IsWritableUnit};
 ghost use Rattle.param_2231.specs.Layout.{GivesWhere, PiecesGive, with_semicolons as with_semicolons_of, is_global as is_global_of, written_main as written_main_of, ParamsPieces};
-ghost use Rattle.param_2231.specs.Given.{RoleGives, IsWritableRole, ended, GiveComments};
+ghost use Rattle.param_2231.specs.private.Given.{RoleGives, IsWritableRole, ended, GiveComments};
 
-use crate::bodies::read_parts;
-use crate::roles::{Role, roles};
 use crate::writing::push_param;
-use crate::{ParamFault, ParamKind, Piece};
 use encoded_words::Unit;
-use field_tokens::comments::write_comment;
-use field_tokens::{Style, Token, is_comment, read_tokens};
-use mail_wire::values::{Memory, Octets};
+use field_tokens::{Style, Token, is_comment, read_tokens, write_comment};
+use mail_wire::{Memory, Octets};
+use param_grammar::{ParamFault, ParamKind, Piece, Role, read_parts, roles};
 use std::alloc::Global;
 
 fn push_copy(alloc: Global, octets: &[u8], pieces: &mut Vec<Octets>) -> Result<(), Memory>

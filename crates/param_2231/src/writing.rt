@@ -1,17 +1,17 @@
 //! The writer of parameters.
 ghost use Rattle.std.specs.Prelude.{◌≡◌, ◌<◌, ◌≤◌, ◌||◌, ◌++◌, ◌∷◌, ◌↔◌, [], not, nat_lt, false, length, codes, IfOk, OnOk, IsTrue, IsUtf8};
 ghost use Rattle.std.specs.Str.{IsCharBoundary};
-ghost use Rattle.encoded_words.specs.Values.{value_of};
+ghost use Rattle.encoded_words.specs.private.Values.{value_of};
 ghost use Rattle.field_tokens.specs.Comments.{AddsPieces};
-ghost use Rattle.param_2231.specs.Escapes.{escaped};
+ghost use Rattle.param_grammar.specs.Escapes.{escaped};
 ghost use Rattle.param_2231.specs.Layout.{number_digits, charset_of as charset_value, octets_in as octets_value, IsPartOf, charset_part, whole_piece, numbered_piece, is_short as is_short_value, ParamPieces};
-ghost use Rattle.param_2231.specs.Parts.{IsCuttable, IsWritableUnit, IsFitting, IsLastBoundary, IsLastEnd};
+ghost use Rattle.param_2231.specs.private.Parts.{IsCuttable, IsWritableUnit, IsFitting, IsLastBoundary, IsLastEnd};
 ghost use Rattle.param_2231.specs.WrittenParam.{ComesInParams, ReadsAsOne};
 
-use crate::escapes::{escaped_len, push_escaped};
 use encoded_words::Unit;
 use itoa::Buffer;
-use mail_wire::values::{Memory, Octets};
+use mail_wire::{Memory, Octets};
+use param_grammar::{escaped_len, push_escaped};
 use std::alloc::Global;
 
 // The most octets that spell a whole value, or a part of one.

@@ -1,5 +1,5 @@
 //! The place of `global` in types.
-use param_2231::global_types::find_global;
+use param_2231::find_global;
 use std::test::Fail;
 
 #[test]

@@ -2,14 +2,8 @@
 #![tactic(auto)]
 
 #[cfg(test)]
-mod bodies;
-#[cfg(test)]
 mod global_types;
 #[cfg(test)]
-mod reading;
-#[cfg(test)]
 mod rewriting;
-#[cfg(test)]
-mod values;
 #[cfg(test)]
 mod writing;

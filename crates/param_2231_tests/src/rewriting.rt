@@ -1,5 +1,6 @@
 //! Texts, and the pieces that they are written in.
-use param_2231::{ParamFault, ParamKind, rewrite_params};
+use param_2231::rewrite_params;
+use param_grammar::{ParamFault, ParamKind};
 use std::alloc::Global;
 use std::test::Fail;
 

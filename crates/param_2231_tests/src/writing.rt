@@ -1,5 +1,6 @@
 //! A parameter that is written by itself.
-use param_2231::{ParamKind, read_params, write_param};
+use param_2231::write_param;
+use param_grammar::{ParamKind, read_params};
 use std::test::Fail;
 
 #[test]

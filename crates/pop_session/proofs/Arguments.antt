@@ -3,7 +3,8 @@ use Rattle.std.proofs.Common.{◌≡◌, ℕ, ◌-◌, ◌^◌, min, List, take,
 use Rattle.std.specs.List.{position}
 use Rattle.std.specs.Option.{option_map}
 use Rattle.std.proofs.lemmas.List.{drop-drop}
-use Rattle.pop_session.specs.Commands.{argument_of, text_of, is_space, both_numbers, top_numbers_of, saturated}
+use Rattle.pop_session.specs.Commands.{argument_of, text_of, is_space, both_numbers, top_numbers_of}
+use Rattle.pop_session.specs.private.Saturated.{saturated}
 use Rattle.mail_wire.specs.Numbers.{number_of}
 
 pub argument_some : (line text rest argument : List ℕ) (at : ℕ) → text ≡ text_of line → Some at ≡ position is_space text → rest ≡ drop at text → argument ≡ drop 1 rest

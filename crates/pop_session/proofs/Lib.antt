@@ -8,6 +8,7 @@ pub mod FitLemmas
 pub mod FeedLemmas
 pub mod RowLemmas
 pub mod MaildropLemmas
+pub mod TakenLemmas
 pub mod ManyLines
 pub mod ModeLemmas
 pub mod MarkLemmas

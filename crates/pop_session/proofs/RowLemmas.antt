@@ -16,7 +16,7 @@ use Rattle.mail_store.proofs.DoingLemmas.{Does-reply, Does-err}
 use Rattle.surrogate_cache.specs.Served.{Mode, legacy, enabled, Meanings}
 use Rattle.pop_session.specs.Replies.{AreFit, part_octets, reply_octets}
 use Rattle.mail_store.specs.declared.kept.Listed.{Listed}
-use Rattle.pop_session.specs.Commands.{saturated}
+use Rattle.pop_session.specs.private.Saturated.{saturated}
 use Rattle.pop_session.specs.declared.command.TopNumbers.{TopNumbers}
 use Rattle.pop_session.specs.declared.command.Keyword.{Keyword}
 use Rattle.pop_session.specs.declared.command.Keyword.TheVariants as keyword

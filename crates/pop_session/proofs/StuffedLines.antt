@@ -11,7 +11,7 @@ use Rattle.pop_session.specs.declared.stuffing.Place.{Place}
 use Rattle.pop_session.specs.declared.stuffing.Place.TheVariants.{LineStart, AfterCr, Within}
 use Rattle.pop_session.specs.Replies.{are_complete, missing_end, multi_line}
 use Rattle.mail_wire.specs.Dots.{stuffed, stuffed_line, unstuffed_line}
-use Rattle.pop_session.specs.Stuffing.{is_start, next_place, place_after, stuffed_from}
+use Rattle.pop_session.specs.private.Stuffing.{is_start, next_place, place_after, stuffed_from}
 use Rattle.pop_session.proofs.StuffingLemmas.{others_stuffed, stuffed-from, stuffed_from-append, place_after-append, are_complete-from}
 use Rattle.pop_session.proofs.TopLemmas.{begins}
 

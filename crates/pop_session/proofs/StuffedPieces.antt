@@ -9,7 +9,7 @@ use Rattle.pop_session.specs.declared.stuffing.Place.{Place}
 use Rattle.pop_session.specs.declared.stuffing.Place.TheVariants.{LineStart}
 use Rattle.pop_session.specs.Replies.{multi_line, missing_end, are_complete}
 use Rattle.mail_wire.specs.Dots.{stuffed}
-use Rattle.pop_session.specs.Stuffing.{is_start, stuffed_from, place_after, PassesOn}
+use Rattle.pop_session.specs.private.Stuffing.{is_start, stuffed_from, place_after, PassesOn}
 use Rattle.pop_session.proofs.StuffingLemmas.{stuffed-from, stuffed_from-append, place_after-append, are_complete-from}
 
 -- A head and the first octets of a message, stuffed, were given or are pending, and this is the place behind them.

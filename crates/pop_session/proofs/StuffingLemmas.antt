@@ -9,7 +9,7 @@ use Rattle.pop_session.specs.declared.stuffing.Place.{Place}
 use Rattle.pop_session.specs.declared.stuffing.Place.TheVariants.{LineStart, AfterCr, Within}
 use Rattle.pop_session.specs.Replies.{are_complete}
 use Rattle.mail_wire.specs.Dots.{stuffed, stuffed_line}
-use Rattle.pop_session.specs.Stuffing.{is_start, is_after_cr, next_place, place_after, stuffed_octet, stuffed_from}
+use Rattle.pop_session.specs.private.Stuffing.{is_start, is_after_cr, next_place, place_after, stuffed_octet, stuffed_from}
 
 -- the first line as it is, and the others stuffed
 abbrev pub others_stuffed : List (List ℕ) → List ℕ

@@ -12,8 +12,8 @@ use Rattle.pop_session.specs.declared.stuffing.Place.{Place}
 use Rattle.pop_session.specs.declared.stuffing.Place.TheVariants.{LineStart, AfterCr, Within}
 use Rattle.pop_session.specs.declared.top.Scan.{Scan}
 use Rattle.pop_session.specs.Machine.{top_lines, top_length}
-use Rattle.pop_session.specs.Stuffing.{is_start, is_after_cr}
-use Rattle.pop_session.specs.Top.{begin, is_ended, behind, all_behind, count_from}
+use Rattle.pop_session.specs.private.Stuffing.{is_start, is_after_cr}
+use Rattle.pop_session.specs.private.Top.{begin, is_ended, behind, all_behind, count_from}
 use Rattle.pop_session.proofs.StuffedPieces.{IsRead}
 
 -- ---- pieces

@@ -1,5 +1,5 @@
 -- The words of a command line (RFC 1939, 3).
-use Rattle.std.specs.Prelude.{ℕ, ◌+◌, ◌-◌, ◌*◌, ◌==◌, ◌&&◌, List, [], ◌∷◌, Bool, Option, None, Some, length, take, drop, map, fold, codes, if◌then◌else◌, nat_le, option_and_then, position, min, ◌^◌}
+use Rattle.std.specs.Prelude.{ℕ, ◌+◌, ◌-◌, ◌*◌, ◌==◌, ◌&&◌, List, [], ◌∷◌, Bool, Option, None, Some, length, take, drop, map, fold, codes, if◌then◌else◌, nat_le, option_and_then, position}
 use Rattle.std.specs.List.{before_first}
 use Rattle.std.specs.Option.{option_map}
 use Rattle.std.specs.Str.{bytes_eq}
@@ -61,7 +61,3 @@ both_numbers (Some number) lines = with_lines number lines
 -- two numbers with one space between them
 unfoldable pub top_numbers_of : List ℕ → Option TopNumbers
 top_numbers_of text = option_and_then (λ at. both_numbers (number_of (take at text)) (number_of (drop (at + 1) text))) (position is_space text)
-
--- with the greatest 64-bit number in the place of a greater one
-abbrev pub saturated : TopNumbers → TopNumbers
-saturated numbers = record { number = min numbers.number (2 ^ 64 - 1); lines = min numbers.lines (2 ^ 64 - 1) }

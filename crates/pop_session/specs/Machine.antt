@@ -247,9 +247,14 @@ abbrev pub dele_step : Mode → List MaildropMessage → Option ℕ → Step
 dele_step mode maildrop None = answers syntax_error (transaction mode maildrop)
 dele_step mode maildrop (Some number) = dele_message mode maildrop number (message_at maildrop number)
 
--- QUIT takes the marked messages out of the store, by one call
+-- the change that takes these messages out of the store, by one call, and none where there are none
+abbrev pub taken_out : List ℕ → List (List Record)
+taken_out [] = []
+taken_out (id ∷ ids) = expunged (id ∷ ids) ∷ []
+
+-- QUIT takes the marked messages out of the store
 abbrev pub quit_step : List MaildropMessage → Step
-quit_step maildrop = record { changes = expunged (deleted_ids maildrop) ∷ []; reply = bye; state = ended }
+quit_step maildrop = record { changes = taken_out (deleted_ids maildrop); reply = bye; state = ended }
 
 -- the rows of TRANSACTION
 abbrev pub transaction_step : Meanings → Mode → List MaildropMessage → StoreState → Keyword → Option (List ℕ) → Step

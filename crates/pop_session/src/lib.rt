@@ -1,10 +1,12 @@
 //! POP3 sessions over a wire (RFC 1939), legacy ones and those that asked for UTF-8 (RFC 6856).
 #![tactic(auto)]
 
-pub mod command;
+mod command;
 pub mod laws;
-pub mod replies;
-pub mod session;
-pub mod states;
+mod replies;
+mod session;
+mod states;
 mod stuffing;
 mod top;
+
+pub use session::PopSession;

@@ -5,7 +5,7 @@ ghost use Rattle.mail_wire.specs.Moves.{GivesOrFails, HasWireCause};
 ghost use Rattle.mail_store.specs.Stored.{IsStored};
 ghost use Rattle.surrogate_rope.specs.Served.{IsShownOf, shown_octets};
 ghost use Rattle.surrogate_cache.specs.Served.{IsServed, HasServedHeaders, Meanings, WithMeanings};
-ghost use Rattle.pop_session.specs.Asked.{IsAsked, IsKnown};
+ghost use Rattle.pop_session.specs.private.Asked.{IsAsked, IsKnown};
 ghost use Rattle.mail_wire.specs.Numbers.{number_of};
 ghost use Rattle.pop_session.specs.Machine.{size_of, uid_row, stat_reply, listing_reply, listing_one_reply, retr_reply, top_reply, message_at as message_at_of, two_numbers};
 ghost use Rattle.pop_session.specs.Replies.{reply_octets, AreFit};
@@ -14,17 +14,12 @@ ghost use Rattle.pop_session.specs.States.{Knows};
 use crate::states::MaildropMessage;
 use crate::stuffing::give_message;
 use crate::top::top_length;
-use mail_store::kept::Listed;
-use mail_store::storing::Store;
-use mail_wire::numbers::read_number;
-use mail_wire::outside::{Fault, Wire};
-use mail_wire::values::Memory;
-use mime_tree::entity::TreeFault;
-use mime_tree::reading::read_tree;
+use mail_store::{Listed, Store};
+use mail_wire::{Fault, Memory, Wire, read_number};
+use mime_tree::{TreeFault, read_tree};
 use std::alloc::Global;
-use surrogate_cache::cache::Cache;
-use surrogate_cache::view::View;
-use surrogate_rope::shown::Shown;
+use surrogate_cache::{Cache, View};
+use surrogate_rope::Shown;
 
 // What a session of this kind is shown of the stored message of a number.
 fn show<V: View>(alloc: Global, cache: &mut Cache, id: u32, octets: &[u8]) -> Result<Shown, Memory>

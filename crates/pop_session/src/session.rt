@@ -19,15 +19,10 @@ use crate::replies::{
     Asked, find_message, list, list_one, message_at, retr, stat, top, uidl, uidl_one,
 };
 use crate::states::{Authorization, Kind, Login, MaildropMessage, Pop, PopState, Transaction};
-use mail_store::changing::StoreFault;
-use mail_store::storing::Store;
-use mail_wire::framing::{FoundLine, find_line};
-use mail_wire::keeping::Keeper;
-use mail_wire::outside::{Fault, Wire};
-use mail_wire::traffic::give_all;
-use mail_wire::values::{Memory, Octets};
+use mail_store::{Store, StoreFault};
+use mail_wire::{Fault, FoundLine, Keeper, Memory, Octets, Wire, find_line, give_all};
 use std::alloc::Global;
-use surrogate_cache::cache::Cache;
+use surrogate_cache::Cache;
 
 const DONE: &[u8] = b"+OK\r\n";
 

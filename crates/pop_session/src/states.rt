@@ -1,20 +1,17 @@
 //! The states of a session (RFC 1939, 4 to 6), each a type of its own.
-ghost use Rattle.std.specs.Prelude.{◌≡◌, ◌<◌, None, Some, IfOk, List, ℕ, Option, length, map, true, false};
+ghost use Rattle.std.specs.Prelude.{◌≡◌, ◌<◌, [], None, Some, IfOk, List, ℕ, Option, length, map, true, false};
 ghost use Rattle.mail_wire.specs.Keeping.{HasKeeperCause};
-ghost use Rattle.mail_store.specs.Changing.{Changes, IsRefusedAs, expunged};
+ghost use Rattle.mail_store.specs.Changing.{Changes, IsRefusedAs, LeavesAll, expunged};
 ghost use Rattle.mail_store.specs.Kept.{change_at};
 ghost use Rattle.surrogate_cache.specs.Served.{legacy, enabled, WithMeanings};
 ghost use Rattle.pop_session.specs.Machine.{State, authorization, transaction, unmarked, marked, deleted_ids as deleted_ids_of};
 ghost use Rattle.pop_session.specs.States.{state_of, IsLogin, Knows, KnowsLogin};
 
-use mail_store::changing::StoreFault;
-use mail_store::kept::Listed;
-use mail_store::storing::Store;
-use mail_wire::keeping::Keeper;
-use mail_wire::values::{Memory, Octets};
+use mail_store::{Listed, Store, StoreFault};
+use mail_wire::{Keeper, Memory, Octets};
 use std::alloc::Global;
 use std::marker::PhantomData;
-use surrogate_cache::view::{Enabled, Legacy, View};
+use surrogate_cache::{Enabled, Legacy, View};
 
 /// Before login, with the name that USER gave.
 #[derive(Debug, Drop)]
@@ -231,7 +228,7 @@ impl<V: Kind> Pop<Transaction, V> {
 }
 
 impl<V: Kind> Pop<Update, V> {
-    /// Takes the marked messages out of the store, by one call.
+    /// Takes the marked messages out of the store, by one call; where none is marked the keeper isn't called.
     pub fn update<J: Keeper>(
         self,
         alloc: Global,
@@ -242,6 +239,7 @@ impl<V: Kind> Pop<Update, V> {
         requires known { Knows store.old self.state.maildrop.items }
         ensures changes { Changes store.old store.new (J.tells keeper.old).octets (J.tells keeper.new).octets result
             (expunged (deleted_ids_of self.state.maildrop.items)) }
+        ensures nothing { deleted_ids_of self.state.maildrop.items ≡ [] → LeavesAll store.old store.new (J.tells keeper.old) (J.tells keeper.new) result }
         ensures refusal { IsRefusedAs result None }
         ensures cause { HasKeeperCause (J.tells keeper.old) (J.tells keeper.new) result StoreFault.Keeper }
     {

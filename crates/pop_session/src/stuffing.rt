@@ -4,13 +4,11 @@ ghost use Rattle.mail_wire.specs.Lines.{crlf};
 ghost use Rattle.mail_wire.specs.Moves.{GivesOrFails, GivesPrefix, HasWireCause};
 ghost use Rattle.surrogate_rope.specs.Served.{IsShownOf, shown_octets};
 ghost use Rattle.pop_session.specs.Replies.{multi_line};
-ghost use Rattle.pop_session.specs.Stuffing.{is_start, needs_dot, next_place as place_behind, place_after, stuffed_from, PassesOn};
+ghost use Rattle.pop_session.specs.private.Stuffing.{is_start, needs_dot, next_place as place_behind, place_after, stuffed_from, PassesOn};
 
-use mail_wire::outside::{Fault, Wire};
-use mail_wire::traffic::{PIECE, give_all};
-use mail_wire::values::{Memory, Octets};
+use mail_wire::{Fault, Memory, Octets, PIECE, Wire, give_all};
 use std::alloc::Global;
-use surrogate_rope::shown::Shown;
+use surrogate_rope::Shown;
 
 /// Where in its line an octet stands.
 #[derive(Clone, Copy, Debug, PartialEq, Eq)]

@@ -2,11 +2,11 @@
 ghost use Rattle.std.specs.Prelude.{◌≡◌, ◌≤◌, length};
 ghost use Rattle.surrogate_rope.specs.Served.{IsShownOf, shown_octets};
 ghost use Rattle.pop_session.specs.Machine.{top_length as top_length_of};
-ghost use Rattle.pop_session.specs.Top.{begin, is_ended, behind, all_behind, count_from};
+ghost use Rattle.pop_session.specs.private.Top.{begin, is_ended, behind, all_behind, count_from};
 
 use crate::stuffing::{Place, next_place};
-use mail_wire::traffic::PIECE;
-use surrogate_rope::shown::Shown;
+use mail_wire::PIECE;
+use surrogate_rope::Shown;
 
 /// What is known of a message behind the octets that were read.
 #[derive(Clone, Copy, Debug)]

@@ -1,15 +1,10 @@
 //! Sessions over a wire in memory and a store whose journal was written here: whole, octet by octet and in every single cut.
-use mail_store::records::Record;
-use mail_store::storing::Store;
-use mail_store::writing::push_record;
-use mail_wire::in_memory::{Failure, MemWire};
-use mail_wire::mem_keeper::MemKeeper;
-use mail_wire::outside::{Entry, Fault};
-use mail_wire::values::{Memory, Octets};
-use pop_session::session::PopSession;
+use mail_store::{Record, Store, push_record};
+use mail_wire::{Entry, Failure, Fault, MemKeeper, MemWire, Memory, Octets};
+use pop_session::PopSession;
 use std::alloc::Global;
 use std::test::Fail;
-use surrogate_cache::cache::Cache;
+use surrogate_cache::Cache;
 
 const CAFE: [u8; 25] = *b"Subject: caf\xc3\xa9 bar\r\n\r\nx\r\n";
 

@@ -2,10 +2,10 @@
 use Rattle.std.proofs.Common.{◌≡◌, ◌≢◌, ℕ, ◌≤◌, Bool, true, false, List, [], ◌∷◌, Option, Some, None, sym, ap, ◌∙◌, subst, codes}
 use Rattle.std.specs.Prelude.{◌↔◌, IsTrue, IsUtf8, IfSome, IfNone, length}
 use Rattle.ace_domains.specs.Domains.{normal_form}
-use Rattle.address_lists.specs.declared.Address.{Address}
-use Rattle.address_lists.specs.Addresses.{address_text}
-use Rattle.address_lists.specs.Paths.{HasPath, in_angles}
-use Rattle.address_lists.proofs.PathLemmas.{HasPath-once}
+use Rattle.address_grammar.specs.declared.Address.{Address}
+use Rattle.address_grammar.specs.Addresses.{address_text}
+use Rattle.address_grammar.specs.Paths.{HasPath, in_angles}
+use Rattle.address_grammar.proofs.PathLemmas.{HasPath-once}
 use Rattle.address_lists.proofs.PathPiecesLemmas.{path_parts}
 use Rattle.mail_store.specs.Addresses.{IsTextOf}
 use Rattle.mail_store.specs.declared.limits.TheConstants.{TEXT_MAX}

@@ -6,7 +6,7 @@ use Rattle.clap.specs.Faults.{fault_of, is_simple_and_free, walk_fault}
 use Rattle.clap.specs.Simple.{is_simple, built, matches_of}
 use Rattle.clap.specs.declared.error.kind.ErrorKind.TheVariants as kind
 use Rattle.clap.proofs.OnLiterals.{clap_on_literals}
-use Rattle.setup_command.specs.Apps.{word_rule, domain_app, account_app}
+use Rattle.setup_command.specs.private.Apps.{word_rule, domain_app, account_app}
 use Rattle.setup_command.specs.PlainWords.{is_plain}
 use Rattle.setup_command.proofs.ClapLemmas.{turned, faults_on, faults_by, standing}
 

@@ -13,7 +13,7 @@ use Rattle.clap.specs.declared.error.Error.{Error}
 use Rattle.clap.specs.declared.error.kind.ErrorKind.TheVariants as kind
 use Rattle.clap.specs.declared.parser.matches.ArgMatches.{ArgMatches}
 use Rattle.clap.proofs.WalkLemmas.{first_value-rows}
-use Rattle.setup_command.specs.Apps.{domain_app, account_app}
+use Rattle.setup_command.specs.private.Apps.{domain_app, account_app}
 use Rattle.setup_command.specs.PlainWords.{is_plain, IsCalled}
 use Rattle.setup_command.proofs.ReadLemmas.{domain_simple, account_simple, domain_none, domain_one, domain_more, domain_value, domain_is_simple, account_is_simple, account_none, account_one, account_two, account_more, account_values}
 

@@ -15,6 +15,7 @@ use Rattle.mail_store.specs.Following.{Follows}
 use Rattle.mail_store.specs.Kept.{Kept, store_of}
 use Rattle.mail_store.specs.Opening.{HasRecords}
 use Rattle.mail_store.specs.StoreState.{StoreState}
+use Rattle.setup_command.specs.declared.statuses.TheConstants.{DONE, KEEPER_FAULT, BAD_JOURNAL, ADDING_REFUSED}
 use Rattle.setup_command.specs.Running.{OpensStore, HoldsStore, IsUnopened, place_line, BreaksSessionOff, HoldsBegun}
 
 -- the line that tells why a store wasn't changed; a fault of the keeper and want of memory have none
@@ -53,8 +54,8 @@ pub record BreaksInAdding (refusal : Kept → Option StoreFault) (one : Record) 
   pub store : StoreState
   pub opened : Option (List ℕ)
   pub opens : OpensStore old opened store
-  pub free : status ≡ 2 → refusal store.kept ≡ None
-  pub same : ¬ (status ≡ 2) → new ≡ opened
+  pub free : status ≡ KEEPER_FAULT → refusal store.kept ≡ None
+  pub same : ¬ (status ≡ KEEPER_FAULT) → new ≡ opened
   pub holds : IfSome old (λ octets. HoldsBegun new store ((one ∷ []) ∷ []))
   pub quiet : Gives before now []
 
@@ -71,8 +72,8 @@ pub data BreaksAdding (refusal : Kept → Option StoreFault) (one : Record) (old
 
 -- what the command does, by its status
 pub data RunsAdding (refusal : Kept → Option StoreFault) (one : Record) (old new : Option (List ℕ)) (before now : Telling) (status : ℕ) : Type 0 where
-  Added : AddsOne refusal one old new before now → status ≡ 0 → RunsAdding refusal one old new before now status
-  Refused : (line : List ℕ) → RefusesOne refusal old new line → Gives before now line → status ≡ 9 → RunsAdding refusal one old new before now status
+  Added : AddsOne refusal one old new before now → status ≡ DONE → RunsAdding refusal one old new before now status
+  Refused : (line : List ℕ) → RefusesOne refusal old new line → Gives before now line → status ≡ ADDING_REFUSED → RunsAdding refusal one old new before now status
   -- the journal was told to be bad
   Unopened : (line : List ℕ) → IsUnopened old new status line → Gives before now line → RunsAdding refusal one old new before now status
   -- it was broken off
@@ -80,10 +81,10 @@ pub data RunsAdding (refusal : Kept → Option StoreFault) (one : Record) (old n
 
 -- ---- the answer is exact
 
--- 0 where the store refuses nothing, and else 9, unless the command was broken off
+-- done where the store refuses nothing, and else refused, unless the command was broken off
 abbrev pub IsAnswerTo : Option StoreFault → ℕ → Type 0
-IsAnswerTo None status = (status ≡ 0) ⊎ BreaksSessionOff status
-IsAnswerTo (Some why) status = (status ≡ 9) ⊎ BreaksSessionOff status
+IsAnswerTo None status = (status ≡ DONE) ⊎ BreaksSessionOff status
+IsAnswerTo (Some why) status = (status ≡ ADDING_REFUSED) ⊎ BreaksSessionOff status
 
 -- whatever records the octets have
 abbrev pub IsExactAdding : (Kept → Option StoreFault) → List ℕ → ℕ → Type 0
@@ -105,13 +106,13 @@ TellsNothing before now result met = (now ≡ before) × (result ≡ Err met)
 -- why the journal wasn't opened was told
 abbrev pub TellsUnopened : OpenFault → Telling → Telling → Result ℕ Fault → Type 0
 TellsUnopened opening.Keeper before now result = TellsNothing before now result fault.Keeper
-TellsUnopened (opening.BadJournal at) before now result = TellsLine before now result 5 (place_line (codes "bad journal at ") at)
+TellsUnopened (opening.BadJournal at) before now result = TellsLine before now result BAD_JOURNAL (place_line (codes "bad journal at ") at)
 TellsUnopened opening.Memory before now result = TellsNothing before now result fault.Memory
 
 -- why the record was refused was told
 abbrev pub TellsRefused : StoreFault → Telling → Telling → Result ℕ Fault → Type 0
-TellsRefused faults.Exists before now result = TellsLine before now result 9 (codes "exists" ++ crlf)
-TellsRefused faults.NoSuch before now result = TellsLine before now result 9 (codes "no such domain" ++ crlf)
-TellsRefused faults.TooLarge before now result = TellsLine before now result 9 (codes "too large" ++ crlf)
+TellsRefused faults.Exists before now result = TellsLine before now result ADDING_REFUSED (codes "exists" ++ crlf)
+TellsRefused faults.NoSuch before now result = TellsLine before now result ADDING_REFUSED (codes "no such domain" ++ crlf)
+TellsRefused faults.TooLarge before now result = TellsLine before now result ADDING_REFUSED (codes "too large" ++ crlf)
 TellsRefused faults.Memory before now result = TellsNothing before now result fault.Memory
 TellsRefused faults.Keeper before now result = TellsNothing before now result fault.Keeper

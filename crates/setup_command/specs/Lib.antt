@@ -1,6 +1,6 @@
 pub mod PlainWords
-pub mod Apps
 pub mod WordForms
 pub mod Running
 pub mod Statuses
 pub mod AddingRuns
+pub mod private

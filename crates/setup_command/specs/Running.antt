@@ -15,10 +15,11 @@ use Rattle.mail_store.specs.Opening.{IsBadAt}
 use Rattle.mail_store.specs.Records.{AreRecords}
 use Rattle.mail_store.specs.Spelling.{journal}
 use Rattle.mail_store.specs.StoreState.{StoreState}
+use Rattle.setup_command.specs.declared.statuses.TheConstants.{WIRE_FAULT, KEEPER_FAULT, WANT_OF_MEMORY, BAD_JOURNAL}
 
--- status 1, a fault of the wire, or 3, want of memory
+-- a fault of the wire, or want of memory
 abbrev pub IsBrokenOff : ℕ → Type 0
-IsBrokenOff status = (status ≡ 1) ⊎ (status ≡ 3)
+IsBrokenOff status = (status ≡ WIRE_FAULT) ⊎ (status ≡ WANT_OF_MEMORY)
 
 -- The store is the fold of the records that the keeper had, and the keeper holds them and nothing more.
 pub record OpensStore (old new : Option (List ℕ)) (store : StoreState) : Type 0 where
@@ -36,7 +37,7 @@ place_line text at = text ++ (decimal at ++ crlf)
 -- the status and the line that tell why a journal wasn't opened; a fault of the keeper and want of memory have none
 abbrev pub IsToldBy : OpenFault → ℕ → List ℕ → Type 0
 IsToldBy faults.Keeper status line = ⊥
-IsToldBy (faults.BadJournal at) status line = (status ≡ 5) × (line ≡ place_line (codes "bad journal at ") at)
+IsToldBy (faults.BadJournal at) status line = (status ≡ BAD_JOURNAL) × (line ≡ place_line (codes "bad journal at ") at)
 IsToldBy faults.Memory status line = ⊥
 
 -- The journal isn't opened: it is bad at a place, and the line tells where.
@@ -47,7 +48,7 @@ pub record IsUnopened (old new : Option (List ℕ)) (status : ℕ) (line : List 
 
 -- a fault of the wire, of the keeper, or want of memory
 abbrev pub BreaksSessionOff : ℕ → Type 0
-BreaksSessionOff status = IsBrokenOff status ⊎ (status ≡ 2)
+BreaksSessionOff status = IsBrokenOff status ⊎ (status ≡ KEEPER_FAULT)
 
 -- The keeper opens with the store's records and the first of those that the changes bring.
 pub record HoldsBegun (octets : Option (List ℕ)) (store : StoreState) (due : List (List Record)) : Type 0 where
@@ -56,18 +57,18 @@ pub record HoldsBegun (octets : Option (List ℕ)) (store : StoreState) (due : L
   pub fold : store.kept ≡ store_of all
   pub holds : HoldsFirst octets all (records_of due)
 
--- A journal that is bad is answered 5, unless the command was broken off.
+-- A journal that is bad is answered so, unless the command was broken off.
 abbrev pub IsExactJournal : List ℕ → ℕ → Type 0
-IsExactJournal octets status = (at : ℕ) → IsBadAt octets at → (status ≡ 5) ⊎ BreaksSessionOff status
+IsExactJournal octets status = (at : ℕ) → IsBadAt octets at → (status ≡ BAD_JOURNAL) ⊎ BreaksSessionOff status
 
 -- ---- causes
 
--- No count of faults falls. Status 1 comes only where the wire's rose, 2 only where the keeper's did, and neither where it tells
+-- No count of faults falls. The wire's fault is told only where its count rose, the keeper's only where its own did, and neither where it tells
 -- that it never fails.
 pub record HasStatusCause (before now : Telling) (keeper kept : KeeperTelling) (status : ℕ) : Type 0 where
   pub later : before.faults ≤ now.faults
-  pub wire_rose : status ≡ 1 → Rose before.faults now.faults
-  pub wire_sure : IsTrue before.never_fails → IsTrue now.never_fails × ¬ (status ≡ 1)
+  pub wire_rose : status ≡ WIRE_FAULT → Rose before.faults now.faults
+  pub wire_sure : IsTrue before.never_fails → IsTrue now.never_fails × ¬ (status ≡ WIRE_FAULT)
   pub keeper_later : keeper.faults ≤ kept.faults
-  pub keeper_rose : status ≡ 2 → Rose keeper.faults kept.faults
-  pub keeper_sure : IsTrue keeper.never_fails → IsTrue kept.never_fails × ¬ (status ≡ 2)
+  pub keeper_rose : status ≡ KEEPER_FAULT → Rose keeper.faults kept.faults
+  pub keeper_sure : IsTrue keeper.never_fails → IsTrue kept.never_fails × ¬ (status ≡ KEEPER_FAULT)

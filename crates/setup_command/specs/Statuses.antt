@@ -2,9 +2,10 @@
 use Rattle.std.specs.Prelude.{ℕ, Result, Ok, Err}
 use Rattle.mail_wire.specs.declared.outside.Fault.{Fault}
 use Rattle.mail_wire.specs.declared.outside.Fault.TheVariants as fault
+use Rattle.setup_command.specs.declared.statuses.TheConstants.{WIRE_FAULT, KEEPER_FAULT, WANT_OF_MEMORY}
 
 abbrev pub status_of : Result ℕ Fault → ℕ
 status_of (Ok status) = status
-status_of (Err fault.Wire) = 1
-status_of (Err fault.Keeper) = 2
-status_of (Err fault.Memory) = 3
+status_of (Err fault.Wire) = WIRE_FAULT
+status_of (Err fault.Keeper) = KEEPER_FAULT
+status_of (Err fault.Memory) = WANT_OF_MEMORY

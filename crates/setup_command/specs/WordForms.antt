@@ -1,8 +1,8 @@
 -- The words of the commands that add to a store, and of `help`.
 use Rattle.std.specs.Prelude.{◌≡◌, ◌≢◌, ℕ, ◌≤◌, List, [], ◌∷◌, length, codes, true, None}
 use Rattle.ace_domains.specs.Domains.{normal_form}
-use Rattle.address_lists.specs.declared.Address.{Address}
-use Rattle.address_lists.specs.Addresses.{address_text}
+use Rattle.address_grammar.specs.declared.Address.{Address}
+use Rattle.address_grammar.specs.Addresses.{address_text}
 use Rattle.mail_store.specs.Addresses.{IsTextOf}
 use Rattle.mail_store.specs.declared.limits.TheConstants.{TEXT_MAX}
 use Rattle.setup_command.specs.PlainWords.{is_plain}

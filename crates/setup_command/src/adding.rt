@@ -1,7 +1,7 @@
 //! The commands that add an account or a domain to the store of a keeper.
 ghost use Rattle.std.specs.Prelude.{◌≡◌, ◌≢◌, ◌≤◌, length, IfSome, None};
 ghost use Rattle.ace_domains.specs.Domains.{compared_form, normal_form};
-ghost use Rattle.address_lists.specs.Addresses.{address_text};
+ghost use Rattle.address_grammar.specs.Addresses.{address_text};
 ghost use Rattle.mail_store.specs.Addresses.{WithPaths};
 ghost use Rattle.mail_store.specs.Changing.{IsSendable, account_refusal, domain_refusal};
 ghost use Rattle.mail_store.specs.declared.limits.TheConstants.{TEXT_MAX};
@@ -11,14 +11,14 @@ ghost use Rattle.setup_command.specs.Running.{HasStatusCause, IsExactJournal};
 ghost use Rattle.setup_command.specs.Statuses.{status_of};
 
 use crate::refusals::{tell_refused, tell_unopened};
-use address_lists::Address;
-use mail_store::limits::MESSAGE_MAX;
-use mail_store::storing::Store;
-use mail_wire::keeping::Keeper;
-use mail_wire::outside::{Fault, Wire};
+use crate::statuses::DONE;
+use address_grammar::Address;
+use mail_store::{MESSAGE_MAX, Store};
+use mail_wire::{Fault, Keeper, Wire};
 use std::alloc::Global;
 
-/// Makes a domain local: 0 where it is put last in the journal, 5 where that is bad, 9 where the store refuses it.
+/// Makes a domain local: `DONE` where it is put last in the journal, `BAD_JOURNAL` where that is bad, `ADDING_REFUSED` where the
+/// store refuses it.
 pub fn run_domain<W: Wire, J: Keeper>(
     alloc: Global,
     domain: &str,
@@ -38,13 +38,13 @@ pub fn run_domain<W: Wire, J: Keeper>(
         Err(fault) => return tell_unopened(alloc, fault, wire),
     };
     match store.add_domain(keeper, domain) {
-        Ok(()) => Ok(0),
+        Ok(()) => Ok(DONE),
         Err(why) => tell_refused(why, wire),
     }
 }
 
-/// Makes an account with this address and password: 0 where it is put last in the journal, 5 where that is bad, 9 where the
-/// store refuses it.
+/// Makes an account with this address and password: `DONE` where it is put last in the journal, `BAD_JOURNAL` where that is
+/// bad, `ADDING_REFUSED` where the store refuses it.
 pub fn run_account<W: Wire, J: Keeper>(
     alloc: Global,
     address: &Address,
@@ -67,7 +67,7 @@ pub fn run_account<W: Wire, J: Keeper>(
         Err(fault) => return tell_unopened(alloc, fault, wire),
     };
     match store.add_account(keeper, address, password) {
-        Ok(_) => Ok(0),
+        Ok(_) => Ok(DONE),
         Err(why) => tell_refused(why, wire),
     }
 }

@@ -2,11 +2,12 @@
 ghost use Rattle.std.specs.Prelude.{List, ℕ};
 ghost use Rattle.mail_wire.specs.Moves.{HasWireCause};
 ghost use Rattle.setup_command.specs.AddingRuns.{TellsLine};
+ghost use Rattle.setup_command.specs.declared.statuses.TheConstants.{DONE};
 
 use crate::refusals::tell;
+use crate::statuses::DONE;
 use clap::Command;
-use mail_wire::outside::{Fault, Wire};
-use mail_wire::values::Memory;
+use mail_wire::{Fault, Memory, Wire};
 use std::alloc::Global;
 
 /// The version of the program.
@@ -54,9 +55,9 @@ fn help_text(alloc: Global) -> Result<String, Memory> {
 
 /// Gives the text of `help`, which begins with the version.
 pub fn run_help<W: Wire>(alloc: Global, wire: &mut W) -> Result<u8, Fault>
-    ensures gives { (text : List ℕ) × TellsLine (W.tells wire.old) (W.tells wire.new) result 0 text }
+    ensures gives { (text : List ℕ) × TellsLine (W.tells wire.old) (W.tells wire.new) result DONE text }
     ensures cause { HasWireCause (W.tells wire.old) (W.tells wire.new) result Fault.Wire }
 {
     let text = help_text(alloc)?;
-    tell(wire, 0, text.as_str().as_bytes())
+    tell(wire, DONE, text.as_str().as_bytes())
 }

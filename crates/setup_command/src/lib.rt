@@ -1,10 +1,20 @@
 //! The commands that add accounts and domains to a store, and the one that gives help: their words, and what they do.
 #![tactic(auto)]
 
-pub mod adding;
-pub mod helping;
+mod adding;
+mod helping;
 mod lines;
-pub mod refusals;
+mod refusals;
+mod statuses;
 mod values;
-pub mod word_forms;
+mod word_forms;
 pub mod word_laws;
+
+pub use adding::{run_account, run_domain};
+pub use helping::{VERSION, run_help};
+pub use refusals::tell_unopened;
+pub use statuses::{
+    ADDING_REFUSED, BAD_JOURNAL, DONE, KEEPER_FAULT, LIMIT_REACHED, MESSAGE_REFUSED,
+    WANT_OF_MEMORY, WIRE_FAULT, WORDS_REFUSED,
+};
+pub use word_forms::{AccountWords, read_account, read_domain};

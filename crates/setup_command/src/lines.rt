@@ -3,7 +3,7 @@ ghost use Rattle.std.specs.Prelude.{◌≡◌, IfOk};
 ghost use Rattle.setup_command.specs.Running.{place_line};
 
 use itoa::Buffer;
-use mail_wire::values::{Memory, Octets};
+use mail_wire::{Memory, Octets};
 use std::alloc::Global;
 
 /// A text, a place, and the end of the line.

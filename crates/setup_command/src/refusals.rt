@@ -4,10 +4,9 @@ ghost use Rattle.mail_wire.specs.Moves.{HasWireCause};
 ghost use Rattle.setup_command.specs.AddingRuns.{TellsLine, TellsRefused, TellsUnopened};
 
 use crate::lines::place_line;
-use mail_store::changing::StoreFault;
-use mail_store::opening::OpenFault;
-use mail_wire::outside::{Fault, Wire};
-use mail_wire::traffic::give_all;
+use crate::statuses::{ADDING_REFUSED, BAD_JOURNAL};
+use mail_store::{OpenFault, StoreFault};
+use mail_wire::{Fault, Wire, give_all};
 use std::alloc::Global;
 
 /// Gives octets, and answers the status.
@@ -19,7 +18,7 @@ pub fn tell<W: Wire>(wire: &mut W, status: u8, line: &[u8]) -> Result<u8, Fault>
     Ok(status)
 }
 
-/// Tells why a journal isn't opened: status 5. Want of memory and a fault of the keeper are only answered.
+/// Tells why a journal isn't opened: `BAD_JOURNAL`. Want of memory and a fault of the keeper are only answered.
 pub fn tell_unopened<W: Wire>(alloc: Global, fault: OpenFault, wire: &mut W) -> Result<u8, Fault>
     ensures tells { TellsUnopened fault (W.tells wire.old) (W.tells wire.new) result }
     ensures cause { HasWireCause (W.tells wire.old) (W.tells wire.new) result Fault.Wire }
@@ -27,22 +26,22 @@ pub fn tell_unopened<W: Wire>(alloc: Global, fault: OpenFault, wire: &mut W) -> 
     match fault {
         OpenFault::BadJournal { at } => {
             let line = place_line(alloc, b"bad journal at ", at)?;
-            tell(wire, 5, line.as_slice())
+            tell(wire, BAD_JOURNAL, line.as_slice())
         }
         OpenFault::Keeper => Err(Fault::Keeper),
         OpenFault::Memory => Err(Fault::Memory),
     }
 }
 
-/// Tells why a record is refused: status 9. Want of memory and a fault of the keeper are only answered.
+/// Tells why a record is refused: `ADDING_REFUSED`. Want of memory and a fault of the keeper are only answered.
 pub fn tell_refused<W: Wire>(why: StoreFault, wire: &mut W) -> Result<u8, Fault>
     ensures tells { TellsRefused why (W.tells wire.old) (W.tells wire.new) result }
     ensures cause { HasWireCause (W.tells wire.old) (W.tells wire.new) result Fault.Wire }
 {
     match why {
-        StoreFault::Exists => tell(wire, 9, b"exists\r\n"),
-        StoreFault::NoSuch => tell(wire, 9, b"no such domain\r\n"),
-        StoreFault::TooLarge => tell(wire, 9, b"too large\r\n"),
+        StoreFault::Exists => tell(wire, ADDING_REFUSED, b"exists\r\n"),
+        StoreFault::NoSuch => tell(wire, ADDING_REFUSED, b"no such domain\r\n"),
+        StoreFault::TooLarge => tell(wire, ADDING_REFUSED, b"too large\r\n"),
         StoreFault::Memory => Err(Fault::Memory),
         StoreFault::Keeper => Err(Fault::Keeper),
     }

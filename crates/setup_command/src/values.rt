@@ -1,12 +1,12 @@
 //! What `clap` reads behind the name of a command.
 ghost use Rattle.std.specs.Prelude.{◌≡◌, ◌≢◌, ◌↔◌, ℕ, List, [], ◌∷◌, map, codes, IfOk, IfSome, IfNone, IsTrue};
 ghost use Rattle.clap.specs.Words.{app_of, kind_of, rule_of};
-ghost use Rattle.setup_command.specs.Apps.{account_app, domain_app, word_rule};
+ghost use Rattle.setup_command.specs.private.Apps.{account_app, domain_app, word_rule};
 ghost use Rattle.setup_command.specs.PlainWords.{IsCalled};
 
 use clap::error::ErrorKind;
 use clap::{Arg, ArgAction, Command, Error};
-use mail_wire::values::Memory;
+use mail_wire::Memory;
 use std::alloc::Global;
 
 // The command of one word.

@@ -2,20 +2,18 @@
 ghost use Rattle.std.specs.Prelude.{◌≡◌, ◌≢◌, ◌≤◌, ◌↔◌, ℕ, List, length, map, string_bytes, IfOk, IfSome, IfNone, IsTrue, IsUtf8, None};
 ghost use Rattle.std.specs.List.{list_all};
 ghost use Rattle.ace_domains.specs.Domains.{normal_form};
-ghost use Rattle.address_lists.specs.Addresses.{address_text};
-ghost use Rattle.address_lists.specs.Paths.{ComesInPath};
-ghost use Rattle.address_lists.specs.declared.Address.{Address as AddressValue};
+ghost use Rattle.address_grammar.specs.Addresses.{address_text};
+ghost use Rattle.address_grammar.specs.Paths.{ComesInPath};
+ghost use Rattle.address_grammar.specs.declared.Address.{Address as AddressValue};
 ghost use Rattle.mail_store.specs.Addresses.{IsTextOf};
 ghost use Rattle.setup_command.specs.PlainWords.{IsCalled, is_plain as is_plain_word};
 ghost use Rattle.setup_command.specs.WordForms.{IsAccount, IsAccountText, IsDomain};
 
 use crate::values::{one_value, two_values};
 use ace_domains::normal;
-use address_lists::{Address, write_address};
-use mail_store::addresses::read_text;
-use mail_store::limits::TEXT_MAX;
-use mail_wire::values::{Memory, Octets};
-use mail_wire::words::Words;
+use address_grammar::{Address, write_address};
+use mail_store::{TEXT_MAX, read_text};
+use mail_wire::{Memory, Octets, Words};
 use std::alloc::Global;
 
 /// What the words of `account` say.

@@ -1,6 +1,6 @@
 //! Laws of the words of commands.
 ghost use Rattle.std.specs.Prelude.{◌≡◌, ℕ, List};
-ghost use Rattle.address_lists.specs.declared.Address.{Address};
+ghost use Rattle.address_grammar.specs.declared.Address.{Address};
 ghost use Rattle.setup_command.specs.WordForms.{IsAccount, IsDomain, IsHelp};
 
 /// Words are those of one command at most, and name one thing.

@@ -1,12 +1,6 @@
 //! The rows of words and of what is added, over wires and keepers in memory.
-use mail_wire::in_memory::{Failure, MemWire};
-use mail_wire::mem_keeper::MemKeeper;
-use mail_wire::outside::{Entry, Fault};
-use mail_wire::values::{Memory, Octets};
-use mail_wire::words::Words;
-use setup_command::adding::{run_account, run_domain};
-use setup_command::helping::run_help;
-use setup_command::word_forms::{read_account, read_domain};
+use mail_wire::{Entry, Failure, Fault, MemKeeper, MemWire, Memory, Octets, Words};
+use setup_command::{read_account, read_domain, run_account, run_domain, run_help};
 use std::alloc::Global;
 use std::test::Fail;
 

@@ -28,7 +28,7 @@ use Rattle.smtp_session.specs.Data.{Moment, behind_command, data_cut, end_cut}
 use Rattle.mail_wire.specs.Dots.{unstuffed}
 use Rattle.smtp_session.specs.Machine.{Readings, State, Step, acts_in, collecting, delivery_of, end_data, greeted, says, too_large}
 use Rattle.smtp_session.specs.Session.{AreDropped, HasRestIn, IsFit, IsTold, WithReadings, after_step, data_turn, line_octets, next_turn, turns_of}
-use Rattle.smtp_session.specs.Steps.{IsSaid, Steps}
+use Rattle.smtp_session.specs.private.Steps.{IsSaid, Steps}
 use Rattle.smtp_session.proofs.DataLemmas.{end_cut-apart, end_cut-parts, unstuffed-long}
 use Rattle.smtp_session.proofs.DroppedLemmas.{AreDropped-more}
 use Rattle.smtp_session.proofs.FeedLemmas.{machine_at, next_turn-framed, store_behind}

@@ -29,7 +29,7 @@ use Rattle.smtp_session.specs.Data.{IsMoment, Moment, TellsTrees, return_path}
 use Rattle.mail_wire.specs.Dots.{unstuffed}
 use Rattle.smtp_session.specs.Machine.{Readings, Step, acts_in, collecting, delivery_of, end_by, end_data, greeted, recipient_count, too_large, trace}
 use Rattle.smtp_session.specs.Session.{IsName, KnowsState, line_octets, reply_octets}
-use Rattle.smtp_session.specs.Steps.{IsSaid, Makes}
+use Rattle.smtp_session.specs.private.Steps.{IsSaid, Makes}
 use Rattle.smtp_session.proofs.KeptLemmas.{delivery-deliverable}
 
 -- ---- a store's name stays

@@ -35,7 +35,7 @@ use Rattle.smtp_session.specs.declared.states.SmtpState.TheVariants as smtp
 use Rattle.smtp_session.specs.Data.{Moment, behind_command, data_cut, end_cut}
 use Rattle.smtp_session.specs.Machine.{Readings, State, fresh, greeted, mail, collecting, ended, Step, acts_in}
 use Rattle.smtp_session.specs.Session.{FeedsBy, HasRestIn, IsFit, IsTold, IsUnfinished, Machine, WithReadings, data_turn, line_octets, line_turn, next_turn, state_of, state_or_ended, turn_in, turns_of}
-use Rattle.smtp_session.specs.Steps.{HasRestAfter, Steps}
+use Rattle.smtp_session.specs.private.Steps.{HasRestAfter, Steps}
 use Rattle.smtp_session.proofs.DataLemmas.{data_cut-shorter, data_cut-stays}
 
 -- the machine by what reads paths and tells trees

@@ -11,12 +11,12 @@ use Rattle.field_tokens.specs.declared.TokenKind.{TokenKind}
 use Rattle.field_tokens.specs.declared.TokenKind.TheVariants.{Atom, Quoted, Literal, Special, Gap, Comment}
 use Rattle.field_tokens.specs.Groups.{Inside, End, Plain, Pair, Nested, IsInside, inside_octets, depth_of}
 use Rattle.field_tokens.specs.Tokens.{AreTokens, IsToken, TokenValue, quoted_marks}
-use Rattle.address_lists.specs.declared.Address.{Address}
-use Rattle.address_lists.specs.Addresses.{is_domain, is_one_literal}
+use Rattle.address_grammar.specs.declared.Address.{Address}
+use Rattle.address_grammar.specs.Addresses.{is_domain, is_one_literal}
 use Rattle.field_tokens.specs.Squeezed.{is_comment}
-use Rattle.address_lists.specs.Lexemes.{are_blank, are_dotted, is_blank_token, is_literal_kind, is_mark, is_part, is_special_kind, words_of}
-use Rattle.address_lists.specs.Paths.{IsPathOf, in_angles}
-use Rattle.address_lists.proofs.WritingLemmas.{mark_is}
+use Rattle.address_grammar.specs.private.Lexemes.{are_blank, are_dotted, is_blank_token, is_literal_kind, is_mark, is_part, is_special_kind, words_of}
+use Rattle.address_grammar.specs.Paths.{IsPathOf, in_angles}
+use Rattle.address_grammar.proofs.WritingLemmas.{mark_is}
 use Rattle.smtp_session.specs.declared.command.Place.TheVariants as place
 use Rattle.smtp_session.specs.Commands.{path_and_rest, path_behind, path_in, path_len, stands_apart}
 use Rattle.smtp_session.specs.Paths.{IsPathText}

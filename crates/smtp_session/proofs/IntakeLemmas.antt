@@ -4,8 +4,8 @@ use Rattle.std.specs.Prelude.{slice_index_or}
 use Rattle.std.specs.List.{All, AllByRecursion, IsDistinct}
 use Rattle.std.proofs.lemmas.Bool.{cases_Bool, cases_eq, cond_both, eqb-true, eqb-false}
 use Rattle.std.proofs.lemmas.List.Elements.{All-from_recursion, recursion_from_All, All-weaker, filter-append}
-use Rattle.address_lists.specs.declared.Address.{Address}
-use Rattle.address_lists.specs.Addresses.{address_text}
+use Rattle.address_grammar.specs.declared.Address.{Address}
+use Rattle.address_grammar.specs.Addresses.{address_text}
 use Rattle.mail_store.specs.declared.delivery.Delivery.{Delivery}
 use Rattle.mail_store.specs.declared.kept.Folder.{Folder}
 use Rattle.mail_store.specs.declared.kept.Message.{Message}
@@ -13,7 +13,7 @@ use Rattle.mail_store.specs.declared.records.Record.{Record}
 use Rattle.mail_store.specs.declared.records.Record.TheVariants as records
 use Rattle.mail_store.specs.Answers.{IsFold}
 use Rattle.mail_store.specs.Changing.{copy_for, delivered, delivery_refusal, has_large_octets, inboxes_of, path_text, queued}
-use Rattle.mail_store.specs.Delivering.{copied}
+use Rattle.mail_store.specs.private.Delivering.{copied}
 use Rattle.mail_store.specs.Kept.{Kept, nothing, after, after_all, first_folder, inbox_of}
 use Rattle.mail_store.specs.StoreState.{StoreState}
 use Rattle.mail_store.proofs.ChangeLemmas.{after_all-append}

@@ -12,10 +12,10 @@ use Rattle.std.proofs.lemmas.Str.{IsUtf8-append, IsUtf8-from_ascii}
 use Rattle.std.proofs.lemmas.Str.Ascii.{IsAscii-cons, IsAscii-nil}
 use Rattle.ace_domains.specs.Domains.{is_name_octet as is_domain_octet}
 use Rattle.ace_domains.proofs.FormLemmas.{form_name}
-use Rattle.address_lists.specs.declared.Address.{Address}
-use Rattle.address_lists.specs.Addresses.{address_text}
-use Rattle.address_lists.specs.Paths.{ComesInPath, in_angles}
-use Rattle.address_lists.proofs.WritingLemmas.{path_again}
+use Rattle.address_grammar.specs.declared.Address.{Address}
+use Rattle.address_grammar.specs.Addresses.{address_text}
+use Rattle.address_grammar.specs.Paths.{ComesInPath, in_angles}
+use Rattle.address_grammar.proofs.WritingLemmas.{path_again}
 use Rattle.mail_wire.specs.Dates.{IsDateText, IsInternalDate}
 use Rattle.mail_wire.specs.Lines.{crlf}
 use Rattle.mail_wire.specs.Octets.{is_line_end, same_name}

@@ -33,7 +33,7 @@ use Rattle.smtp_session.specs.Commands.{command_of}
 use Rattle.smtp_session.specs.Data.{Moment, end_cut}
 use Rattle.smtp_session.specs.Machine.{Readings, State, ended, Step, acts_in, step}
 use Rattle.smtp_session.specs.Session.{HasRestIn, IsFit, IsName, IsTold, IsUnfinished, KnowsState, Machine, ReadsLines, WithReadings, after_step, line_octets, line_too_long, line_turn, next_turn, reply_octets, state_of, state_or_ended, turns_of}
-use Rattle.smtp_session.specs.Steps.{HasRestAfter, Steps}
+use Rattle.smtp_session.specs.private.Steps.{HasRestAfter, Steps}
 use Rattle.smtp_session.proofs.FeedLemmas.{err_is, machine_at, next_turn-framed, store_behind, waiting-nil}
 use Rattle.smtp_session.proofs.FitLemmas.{step_fit}
 use Rattle.smtp_session.proofs.RowLemmas.{step-changes}

@@ -4,7 +4,7 @@ use Rattle.std.specs.Prelude.{nat_lt}
 use Rattle.std.specs.List.{list_any}
 use Rattle.std.proofs.lemmas.Bool.Decides.{nat_tests}
 use Rattle.std.proofs.lemmas.List.Elements.{All-push}
-use Rattle.address_lists.specs.declared.Address.{Address}
+use Rattle.address_grammar.specs.declared.Address.{Address}
 use Rattle.mail_store.specs.Changing.{IsSendable}
 use Rattle.mail_store.specs.StoreState.{StoreState}
 use Rattle.mail_store.specs.declared.limits.TheConstants.{RECIPIENTS_MAX}

@@ -6,7 +6,7 @@ use Rattle.std.proofs.lemmas.Bool.Decides.{nat_tests}
 use Rattle.std.proofs.lemmas.List.Splits.{slice_split-cons_no}
 use Rattle.mail_wire.specs.Octets.{is_white}
 use Rattle.mail_wire.specs.declared.values.Memory.{Memory}
-use Rattle.address_lists.specs.declared.Address.{Address}
+use Rattle.address_grammar.specs.declared.Address.{Address}
 use Rattle.mail_store.specs.Kept.{find_account, is_local}
 use Rattle.mail_store.specs.StoreState.{StoreState}
 use Rattle.mail_store.specs.declared.limits.TheConstants.{RECIPIENTS_MAX}

@@ -3,7 +3,7 @@ use Rattle.std.proofs.Common.{◌≡◌, ◌⊎◌, ℕ, ◌<◌, ◌==◌, Bool
 use Rattle.std.specs.Prelude.{nat_lt, slice_index_or, sum_by}
 use Rattle.std.specs.List.{list_any}
 use Rattle.std.proofs.lemmas.Bool.{cond_both}
-use Rattle.address_lists.specs.declared.Address.{Address}
+use Rattle.address_grammar.specs.declared.Address.{Address}
 use Rattle.mail_store.specs.declared.limits.TheConstants.{RECIPIENTS_MAX}
 use Rattle.mail_store.specs.Answers.{IsFold}
 use Rattle.mail_store.specs.Kept.{Kept, find_account, is_local, name_of}

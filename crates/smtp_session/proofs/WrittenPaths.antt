@@ -19,12 +19,12 @@ use Rattle.field_tokens.specs.declared.TokenKind.TheVariants.{Atom, Quoted, Lite
 use Rattle.field_tokens.specs.Groups.{Inside, End, Plain, Pair, Nested, IsInside, inside_octets, depth_of}
 use Rattle.field_tokens.specs.TokenOctets.{is_atom_octet}
 use Rattle.field_tokens.specs.Tokens.{TokenValue, literal_marks}
-use Rattle.address_lists.specs.declared.Address.{Address}
-use Rattle.address_lists.specs.Addresses.{IsAddress, is_domain, is_dot_atom, is_one_literal, is_some_atom, quoted_octet, quoted_string, local_text, address_text}
-use Rattle.address_lists.specs.Lexemes.{are_dotted, content_of, contents, is_atom_kind, is_literal_kind, is_mark, is_part, words_of}
-use Rattle.address_lists.specs.Paths.{ComesInPath, in_angles}
-use Rattle.address_lists.proofs.SoundLemmas.{IsSound, Shape, contents-words, sound_front, sound_rest, sound_words, tokens_sound}
-use Rattle.address_lists.proofs.WritingLemmas.{mark_is}
+use Rattle.address_grammar.specs.declared.Address.{Address}
+use Rattle.address_grammar.specs.Addresses.{IsAddress, is_domain, is_dot_atom, is_one_literal, is_some_atom, quoted_octet, quoted_string, local_text, address_text}
+use Rattle.address_grammar.specs.private.Lexemes.{are_dotted, content_of, contents, is_atom_kind, is_literal_kind, is_mark, is_part, words_of}
+use Rattle.address_grammar.specs.Paths.{ComesInPath, in_angles}
+use Rattle.address_grammar.proofs.SoundLemmas.{IsSound, Shape, contents-words, sound_front, sound_rest, sound_words, tokens_sound}
+use Rattle.address_grammar.proofs.WritingLemmas.{mark_is}
 use Rattle.mail_store.specs.Changing.{path_text}
 use Rattle.smtp_session.specs.declared.command.Place.{Place}
 use Rattle.smtp_session.specs.declared.command.Place.TheVariants as place

@@ -1,7 +1,7 @@
 -- The data of a message (RFC 5321, 4.1.1.4 and 4.5.2), and what is kept of it (RFC 5321, 4.4; RFC 6531, 4.3).
 use Rattle.std.specs.Prelude.{ℕ, ◌<◌, ◌++◌, ◌==◌, List, [], ◌∷◌, Bool, take, drop, codes, Option, Some, None, option_map, if◌then◌else◌, IsTrue, ◌↔◌}
 use Rattle.std.specs.Str.{bytes_eq}
-use Rattle.address_lists.specs.declared.Address.{Address}
+use Rattle.address_grammar.specs.declared.Address.{Address}
 use Rattle.mail_wire.specs.Dates.{IsDateText, IsInternalDate}
 use Rattle.mail_wire.specs.declared.clock.TheConstants.{CLOCK_END}
 use Rattle.mail_wire.specs.Lines.{Cut, begun_with, crlf}

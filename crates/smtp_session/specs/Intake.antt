@@ -1,15 +1,15 @@
 -- What is kept of accepted mail: a message once for each of its recipients, and nothing else (RFC 5321, 6.1).
 use Rattle.std.specs.Prelude.{◌≡◌, ◌≢◌, ℕ, ◌<◌, ◌++◌, ◌==◌, List, [], ◌∷◌, Some, IsSomeAnd, codes, filter, length, map}
 use Rattle.std.specs.List.{All, IsDistinct}
-use Rattle.address_lists.specs.declared.Address.{Address}
-use Rattle.address_lists.specs.Addresses.{address_text}
+use Rattle.address_grammar.specs.declared.Address.{Address}
+use Rattle.address_grammar.specs.Addresses.{address_text}
 use Rattle.mail_store.specs.declared.delivery.Delivery.{Delivery}
 use Rattle.mail_store.specs.declared.kept.Entry.{Entry}
 use Rattle.mail_store.specs.declared.kept.Message.{Message}
 use Rattle.mail_store.specs.declared.records.Record.{Record}
 use Rattle.mail_store.specs.Acts.{Act, gives, changes}
 use Rattle.mail_store.specs.Changing.{path_text}
-use Rattle.mail_store.specs.Delivering.{copied}
+use Rattle.mail_store.specs.private.Delivering.{copied}
 use Rattle.mail_store.specs.Following.{records_of}
 use Rattle.mail_store.specs.Kept.{Kept, inbox_of, waiting}
 use Rattle.mail_store.specs.StoreState.{StoreState, with_records}

@@ -5,5 +5,5 @@ pub mod Machine
 pub mod Paths
 pub mod Sending
 pub mod Session
-pub mod Steps
 pub mod Transaction
+pub mod private

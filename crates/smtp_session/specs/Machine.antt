@@ -2,7 +2,7 @@
 use Rattle.std.specs.Prelude.{ℕ, ◌+◌, ◌++◌, ◌==◌, ◌&&◌, not, List, [], ◌∷◌, Bool, true, false, Option, None, Some, length, codes, nat_lt, nat_le, is_some, sum_by, option_and_then, decimal, if◌then◌else◌}
 use Rattle.std.specs.List.{list_any, list_all}
 use Rattle.std.specs.Str.{bytes_eq}
-use Rattle.address_lists.specs.declared.Address.{Address}
+use Rattle.address_grammar.specs.declared.Address.{Address}
 use Rattle.mail_wire.specs.Octets.{is_ascii}
 use Rattle.mail_store.specs.Acts.{Act, acts_of}
 use Rattle.mail_store.specs.Addresses.{is_same_domain}

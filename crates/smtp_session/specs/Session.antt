@@ -8,7 +8,7 @@ use Rattle.mail_wire.specs.Octets.{is_ascii}
 use Rattle.mail_wire.specs.Telling.{Telling}
 use Rattle.mail_wire.specs.Turns.{Turn, all_turns}
 use Rattle.mail_wire.specs.declared.outside.Fault.{Fault}
-use Rattle.address_lists.specs.Paths.{ReadsPaths}
+use Rattle.address_grammar.specs.Paths.{ReadsPaths}
 use Rattle.mail_store.specs.Acts.{Act, acts_of, IsFitAct}
 use Rattle.mail_store.specs.Addresses.{IsDomainText}
 use Rattle.mail_store.specs.Changing.{IsSendable}

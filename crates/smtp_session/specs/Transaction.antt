@@ -1,7 +1,7 @@
 -- A mail transaction (RFC 5321, 3.3): its path, its recipients, and what is kept at its end.
 use Rattle.std.specs.Prelude.{◌≡◌, ◌⊎◌, ℕ, ◌++◌, ◌==◌, List, [], ◌∷◌, Bool, true, false, Option, Some, codes}
 use Rattle.std.specs.List.{list_any}
-use Rattle.address_lists.specs.declared.Address.{Address}
+use Rattle.address_grammar.specs.declared.Address.{Address}
 use Rattle.mail_store.specs.declared.delivery.Delivery.{Delivery}
 use Rattle.mail_store.specs.Kept.{Kept, find_account, is_local, name_of}
 use Rattle.smtp_session.specs.declared.states.Client.{Client}

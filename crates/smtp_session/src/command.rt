@@ -1,16 +1,12 @@
 //! Commands, as a line writes them (RFC 5321, 4.1).
-ghost use Rattle.std.specs.Prelude.{◌≡◌, ◌≤◌, ◌+◌, ◌-◌, ◌^◌, ◌||◌, drop, None, Some, IfOk, IfSome, MatchOption, length, map, min, not, position};
+ghost use Rattle.std.specs.Prelude.{◌≡◌, ◌≤◌, ◌+◌, ◌-◌, ◌^◌, ◌||◌, drop, None, Some, IfOk, IfSome, MatchOption, length, min, not, position};
 ghost use Rattle.std.specs.List.{list_any, list_all, position_or_len, before_first, sum_by};
 ghost use Rattle.std.specs.Option.{option_copied};
-ghost use Rattle.std.specs.Str.{bytes_eq};
-ghost use Rattle.std.specs.Char.{to_ascii_lowercase};
 ghost use Rattle.smtp_session.specs.declared.command.Place.TheVariants.{Plain};
 ghost use Rattle.mail_wire.specs.Octets.{is_white, is_black};
 ghost use Rattle.smtp_session.specs.Commands.{command_of, verb_of, before_white, after_white, is_client as is_client_of, is_client_octet, place_after, stands_plain, path_len, behind_word, behind_space, begins_path, stands_apart, path_behind as path_behind_of, words_of, are_malformed, is_malformed, is_unknown, is_smtputf8, is_sign, value_of, size_said as size_said_of, size_parameter, body_parameter, parameter_of, announced};
 
-use mail_wire::numbers::read_number;
-use mail_wire::text::{is_same_name, is_white};
-use mail_wire::values::Memory;
+use mail_wire::{Memory, is_same_name, is_white, read_number};
 use std::alloc::Global;
 use std::collections::BTreeSet;
 
@@ -48,7 +44,7 @@ fn find_black(text: &[u8]) -> Option<usize>
     text.iter().position(|octet| !is_white(*octet))
 }
 
-/// The first word of a text, and what follows it.
+// The first word of a text, and what follows it.
 fn split_word(text: &[u8]) -> (&[u8], &[u8])
     ensures word { result.0.now ≡ before_first is_white text.now }
     ensures rest { result.1.now ≡ drop (position_or_len is_white text.now) text.now }
@@ -73,32 +69,27 @@ fn before_white(text: &[u8]) -> &[u8]
     &text[..end]
 }
 
-fn is_word(word: &[u8], name: &[u8]) -> bool
-    ensures { result ≡ bytes_eq (map to_ascii_lowercase word.now) (map to_ascii_lowercase name.now) }
-{
-    word.eq_ignore_ascii_case(name)
-}
-
+#[tactic(auto, unfolding(mail_wire::specs::Octets::same_name))]
 fn read_verb(word: &[u8]) -> Verb
     ensures { result ≡ verb_of word.now }
 {
-    if is_word(word, b"ehlo") {
+    if is_same_name(word, b"ehlo") {
         Verb::Ehlo
-    } else if is_word(word, b"helo") {
+    } else if is_same_name(word, b"helo") {
         Verb::Helo
-    } else if is_word(word, b"mail") {
+    } else if is_same_name(word, b"mail") {
         Verb::Mail
-    } else if is_word(word, b"rcpt") {
+    } else if is_same_name(word, b"rcpt") {
         Verb::Rcpt
-    } else if is_word(word, b"data") {
+    } else if is_same_name(word, b"data") {
         Verb::Data
-    } else if is_word(word, b"rset") {
+    } else if is_same_name(word, b"rset") {
         Verb::Rset
-    } else if is_word(word, b"noop") {
+    } else if is_same_name(word, b"noop") {
         Verb::Noop
-    } else if is_word(word, b"vrfy") {
+    } else if is_same_name(word, b"vrfy") {
         Verb::Vrfy
-    } else if is_word(word, b"quit") {
+    } else if is_same_name(word, b"quit") {
         Verb::Quit
     } else {
         Verb::Other
@@ -179,7 +170,7 @@ fn stands_plain(wanted: u8, place: Place, octet: u8) -> bool
     matches!(place, Place::Plain) && octet == wanted
 }
 
-/// How long the path is that a text begins with.
+// How long the path is that a text begins with.
 fn path_len(text: &[u8]) -> Option<usize>
     ensures bound { IfSome result (λ len. len ≤ length text.now) }
     ensures len { result ≡ path_len Plain text.now }
@@ -206,7 +197,7 @@ pub struct PathAndRest<'a> {
     pub rest: &'a [u8],
 }
 
-/// The text without one space in front, if there is one.
+// The text without one space in front, if there is one.
 fn behind_space(text: &[u8]) -> &[u8]
     ensures { result.now ≡ behind_space text.now }
 {
@@ -216,7 +207,7 @@ fn behind_space(text: &[u8]) -> &[u8]
     }
 }
 
-/// What follows a word and one space, if there is one.
+// What follows a word and one space, if there is one.
 fn behind_word<'a>(word: &[u8], text: &'a [u8]) -> Option<&'a [u8]>
     ensures { option_copied result ≡ behind_word word.now text.now }
 {
@@ -327,11 +318,11 @@ fn read_parameter(word: &[u8]) -> Parameter
 {
     let keyword = keyword_of(word);
     let value = value_of(word);
-    if is_word(keyword, b"size") {
+    if is_same_name(keyword, b"size") {
         read_size(value)
-    } else if is_word(keyword, b"body") {
+    } else if is_same_name(keyword, b"body") {
         read_body(value)
-    } else if is_word(keyword, b"smtputf8") {
+    } else if is_same_name(keyword, b"smtputf8") {
         match value {
             Some(_) => Parameter::Malformed,
             None => Parameter::Smtputf8,
@@ -362,7 +353,7 @@ fn announced(parameter: Parameter) -> u64
 }
 
 impl Parameters {
-    /// Takes one more parameter in, whose keyword is new or not.
+    // Takes one more parameter in, whose keyword is new or not.
     fn add(&mut self, parameter: Parameter, is_new: bool)
         ensures malformed { self.new.malformed ≡ (self.old.malformed || (is_malformed parameter || not is_new)) }
         ensures unknown { self.new.unknown ≡ (self.old.unknown || is_unknown parameter) }

@@ -2,12 +2,11 @@
 ghost use Rattle.std.specs.Prelude.{◌≡◌, ◌+◌, ◌<◌, ◌≤◌, ◌++◌, None, Some, MatchOption, IfOk, IfSome, OnOk, length, take, drop};
 ghost use Rattle.smtp_session.specs.Data.{end_cut, received, return_path as return_path_of};
 ghost use Rattle.mail_wire.specs.Dots.{unstuffed, unstuffed_line};
-ghost use Rattle.address_lists.specs.Paths.{ComesInPath};
+ghost use Rattle.address_grammar.specs.Paths.{ComesInPath};
 
-use address_lists::Address;
-use mail_store::changing::path_text;
-use mail_wire::text::lines;
-use mail_wire::values::{Memory, Octets};
+use address_grammar::Address;
+use mail_store::path_text;
+use mail_wire::{Memory, Octets, lines};
 use memchr::memmem;
 use std::alloc::Global;
 

@@ -1,9 +1,8 @@
 //! The rows of commands: a reply, and the state behind it.
 ghost use Rattle.std.specs.Prelude.{◌≡◌, ◌==◌, ◌≤◌, ◌<◌, ◌++◌, ◌∷◌, [], true, false, IfOk, IfSome, MatchOption, None, length, Some, option_and_then, not, nat_le, nat_lt, codes};
-ghost use Rattle.std.specs.List.{All, list_any, list_all};
-ghost use Rattle.address_lists.specs.Addresses.{address_text};
-ghost use Rattle.address_lists.specs.Paths.{ComesInPath};
-ghost use Rattle.mail_wire.specs.Octets.{is_white};
+ghost use Rattle.std.specs.List.{All, list_any};
+ghost use Rattle.address_grammar.specs.Addresses.{address_text};
+ghost use Rattle.address_grammar.specs.Paths.{ComesInPath};
 ghost use Rattle.mail_store.specs.Addresses.{WithPaths};
 ghost use Rattle.mail_store.specs.Changing.{IsSendable};
 ghost use Rattle.mail_store.specs.Kept.{name_of};
@@ -15,11 +14,9 @@ ghost use Rattle.smtp_session.specs.Session.{Knows, KnowsState, WithReadings, re
 use crate::command::{PathAndRest, Verb, is_client, path_behind, read_command, read_parameters};
 use crate::states::{Client, Envelope, Greeted, Mail, Smtp, SmtpState};
 use ace_domains::same;
-use address_lists::{Address, AddressFault, read_path, write_address};
-use mail_store::limits::{RECIPIENTS_MAX, TEXT_MAX};
-use mail_store::storing::Store;
-use mail_wire::text::{is_ascii, is_white};
-use mail_wire::values::{Memory, Octets};
+use address_grammar::{Address, AddressFault, read_path, write_address};
+use mail_store::{RECIPIENTS_MAX, Store, TEXT_MAX};
+use mail_wire::{Memory, Octets, is_ascii, is_white_text};
 use std::alloc::Global;
 
 /// A reply of whole lines, and the state after it; none where the session has ended.
@@ -368,12 +365,6 @@ fn rcpt_address(
     says(alloc, RECIPIENT_OK, SmtpState::Mail(next))
 }
 
-fn is_blank(text: &[u8]) -> bool
-    ensures { result ≡ list_all is_white text.now }
-{
-    text.iter().all(|octet| is_white(*octet))
-}
-
 // RCPT with an address that was read.
 fn rcpt_path(
     alloc: Global,
@@ -412,7 +403,7 @@ fn lone_path<'a>(word: &[u8], argument: &'a [u8]) -> Option<PathAndRest<'a>>
         (λ found. alone (path_behind_of word.now argument.now) ≡ Some (record { path = found.path.now; rest = found.rest.now })) }
 {
     let given = path_behind(word, argument)?;
-    if is_blank(given.rest) {
+    if is_white_text(given.rest) {
         Some(given)
     } else {
         None

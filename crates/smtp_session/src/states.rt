@@ -3,10 +3,9 @@ ghost use Rattle.std.specs.Prelude.{◌≡◌, ◌++◌, ◌∷◌, [], IfOk, tr
 ghost use Rattle.smtp_session.specs.Session.{state_of};
 ghost use Rattle.smtp_session.specs.Machine.{greeted, reset, State};
 
-use address_lists::Address;
-use mail_store::delivery::Addresses;
-use mail_store::kept::Numbers;
-use mail_wire::values::{Memory, Octets};
+use address_grammar::Address;
+use mail_store::{Addresses, Numbers};
+use mail_wire::{Memory, Octets};
 use std::alloc::Global;
 
 /// The name that a client says of itself, and whether it greeted with EHLO.

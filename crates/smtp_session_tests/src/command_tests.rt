@@ -1,7 +1,5 @@
 //! Commands, paths and parameters, each public call with ample memory and a row or two for each rule.
-use smtp_session::command::{
-    Parameters, Verb, is_client, path_behind, read_command, read_parameters,
-};
+use smtp_session::{Parameters, Verb, is_client, path_behind, read_command, read_parameters};
 use std::alloc::Global;
 use std::test::Fail;
 

@@ -1,7 +1,7 @@
 //! The end of the data, the data without their dots, and the fields that are put before them.
-use address_lists::read_path;
-use mail_wire::values::Octets;
-use smtp_session::data::{find_data_end, push_unstuffed, received_field, return_path_field};
+use address_grammar::read_path;
+use mail_wire::Octets;
+use smtp_session::{find_data_end, push_unstuffed, received_field, return_path_field};
 use std::test::Fail;
 
 // Looks at the first of the octets, so many, and then at all.

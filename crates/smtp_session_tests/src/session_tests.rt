@@ -5,15 +5,9 @@ ghost use Rattle.mail_store.specs.Kept.{name_of};
 ghost use Rattle.smtp_session.specs.Session.{IsName};
 
 use ace_domains::normal;
-use mail_store::records::Record;
-use mail_store::storing::Store;
-use mail_store::writing::push_record;
-use mail_wire::clock::FixedClock;
-use mail_wire::in_memory::{Failure, MemWire};
-use mail_wire::mem_keeper::MemKeeper;
-use mail_wire::outside::{Entry, Fault};
-use mail_wire::values::{Memory, Octets};
-use smtp_session::session::SmtpSession;
+use mail_store::{Record, Store, push_record};
+use mail_wire::{Entry, Failure, Fault, FixedClock, MemKeeper, MemWire, Memory, Octets};
+use smtp_session::SmtpSession;
 use std::alloc::Global;
 use std::test::Fail;
 

@@ -1,7 +1,7 @@
 -- The two modes of a session, and what is served in them (RFC 6855 and 6856; RFC 6857 for surrogates).
 use Rattle.std.specs.Prelude.{◌≡◌, ℕ, List, Bool, true, false, Option}
-use Rattle.address_lists.specs.declared.Address.{Address}
-use Rattle.address_lists.specs.Paths.{ReadsPaths}
+use Rattle.address_grammar.specs.declared.Address.{Address}
+use Rattle.address_grammar.specs.Paths.{ReadsPaths}
 use Rattle.surrogate_rope.specs.Layout.{HasSurrogate, HasAsciiBlocks}
 use Rattle.surrogate_rope.specs.declared.shown.Shown.{Shown}
 use Rattle.surrogate_rope.specs.declared.shown.Shown.TheVariants.{Whole, Rope}

@@ -1,6 +1,9 @@
 //! What a session is shown of a message: the message itself, or its surrogate (RFC 6857).
 #![tactic(auto)]
 
-pub mod cache;
+mod cache;
 pub mod laws;
-pub mod view;
+mod view;
+
+pub use cache::Cache;
+pub use view::{Enabled, Legacy, View};

@@ -5,11 +5,10 @@ ghost use Rattle.surrogate_rope.specs.Served.{IsShownOf, shown_octets};
 ghost use Rattle.surrogate_cache.specs.Served.{Mode, legacy, enabled, is_enabled, IsServed, IsShownBy, HasServedHeaders};
 
 use crate::cache::Cache;
-use mail_wire::values::Memory;
-use mime_tree::entity::Tree;
+use mail_wire::Memory;
+use mime_tree::Tree;
 use std::alloc::Global;
-use surrogate_rope::rope::Rope;
-use surrogate_rope::shown::Shown;
+use surrogate_rope::{Rope, Shown};
 
 /// A kind of session.
 pub trait View {

@@ -1,13 +1,12 @@
 //! What is shown of a message, in both kinds.
 ghost use Rattle.surrogate_rope.specs.Served.{IsShownOf};
 
-use mail_wire::values::{Memory, Octets};
-use mime_tree::reading::read_tree;
+use mail_wire::{Memory, Octets};
+use mime_tree::read_tree;
 use std::alloc::Global;
 use std::test::Fail;
-use surrogate_cache::cache::Cache;
-use surrogate_cache::view::{Enabled, Legacy, View};
-use surrogate_rope::shown::Shown;
+use surrogate_cache::{Cache, Enabled, Legacy, View};
+use surrogate_rope::Shown;
 
 // All that is shown, read in pieces of seven octets.
 fn all_of(alloc: Global, shown: &Shown, msg: &[u8]) -> Result<Octets, Memory>

@@ -16,7 +16,7 @@ use Rattle.mime_tree.proofs.TreeFields.{tree_fields}
 use Rattle.surrogate_rope.specs.declared.building.Made.{Made}
 use Rattle.surrogate_rope.specs.Layout.{InEntity}
 use Rattle.surrogate_rope.specs.Ropes.{changed, CountsChanged}
-use Rattle.surrogate_rope.specs.Building.{IsFew, Copies, AddsBlock, HasServedBlocks}
+use Rattle.surrogate_rope.specs.private.Building.{IsFew, Copies, AddsBlock, HasServedBlocks}
 use Rattle.surrogate_rope.proofs.AddedFields.{block_few, copies_few}
 
 -- entities in order end no earlier than they begin

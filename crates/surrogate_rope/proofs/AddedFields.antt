@@ -13,12 +13,12 @@ use Rattle.utf8_fields.specs.Parts.{FieldParts}
 use Rattle.field_downgrade.specs.declared.field.Rewrite.{Rewrite}
 use Rattle.field_downgrade.specs.declared.field.Rewrite.TheVariants.{Keep, New}
 use Rattle.field_downgrade.specs.Message.{IsServed}
-use Rattle.field_downgrade.specs.Views.{made_from, IsKeep}
+use Rattle.field_downgrade.specs.private.Views.{made_from, IsKeep}
 use Rattle.mime_tree.specs.declared.entity.Entity.{Entity}
 use Rattle.surrogate_rope.specs.declared.building.Made.{Made}
 use Rattle.surrogate_rope.specs.Layout.{IsOpenGlobal, InEntity}
 use Rattle.surrogate_rope.specs.Ropes.{changed}
-use Rattle.surrogate_rope.specs.Building.{IsFew, Copies, AddsField, AddsBlock}
+use Rattle.surrogate_rope.specs.private.Building.{IsFew, Copies, AddsField, AddsBlock}
 
 not_same : (raw made : List ℕ) → made ≢ raw → bytes_eq raw made ≡ false
 not_same raw made differs = elim (cases_Bool (bytes_eq raw made)) [

@@ -9,7 +9,7 @@ use Rattle.mime_tree.proofs.KeptTrees.{trees_are_kept}
 use Rattle.field_downgrade.specs.Stands.{HasFieldLayout}
 use Rattle.field_downgrade.specs.Message.{IsServed}
 use Rattle.surrogate_rope.specs.declared.building.Made.{Made}
-use Rattle.surrogate_rope.specs.Building.{HasServedBlocks}
+use Rattle.surrogate_rope.specs.private.Building.{HasServedBlocks}
 use Rattle.surrogate_rope.specs.Layout.{HasLayout, InEntity, IsSurrogate, StandsInAscii}
 use Rattle.surrogate_rope.specs.Ropes.{Piece, IsRopeOf, CountsChanged}
 use Rattle.surrogate_rope.proofs.ServedLines.{served_keeps_trees}

@@ -5,8 +5,8 @@ use Rattle.std.proofs.lemmas.Slice.Eq.{bytes_eq-Decides}
 use Rattle.std.specs.Str.{str_to_ascii_lowercase}
 use Rattle.mail_wire.specs.Octets.{same_name}
 use Rattle.field_tokens.specs.Comments.{CommentValue}
-use Rattle.param_2231.specs.declared.ParamKind.TheVariants.{Content}
-use Rattle.param_2231.specs.Joining.{ParamValue}
+use Rattle.param_grammar.specs.declared.ParamKind.TheVariants.{Content}
+use Rattle.param_grammar.specs.Joining.{ParamValue}
 use Rattle.utf8_fields.specs.Parts.{FieldParts}
 use Rattle.field_downgrade.specs.declared.kind.Kind.TheVariants.{Params, Plain}
 use Rattle.field_downgrade.specs.Kinds.{kind_named, is_address_name, is_originator_name, is_destination_name, is_resent_originator_name, is_resent_destination_name, is_id_name, is_plain_name}

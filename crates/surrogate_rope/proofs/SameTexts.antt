@@ -5,8 +5,8 @@ use Rattle.std.specs.Str.{bytes_eq}
 use Rattle.mail_wire.specs.Octets.{same_name}
 use Rattle.utf8_fields.specs.Parts.{FieldParts, HasValue}
 use Rattle.field_tokens.specs.Comments.{CommentValue}
-use Rattle.param_2231.specs.declared.ParamKind.TheVariants.{Content}
-use Rattle.param_2231.specs.Joining.{ParamValue, SaysParams}
+use Rattle.param_grammar.specs.declared.ParamKind.TheVariants.{Content}
+use Rattle.param_grammar.specs.Joining.{ParamValue, SaysParams}
 use Rattle.param_2231.specs.ParamsReadBack.{served_main}
 use Rattle.param_2231.proofs.ParamsOnce.{SaysParams-once}
 use Rattle.field_downgrade.specs.declared.kind.Kind.{Kind}

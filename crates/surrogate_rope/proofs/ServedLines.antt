@@ -6,7 +6,7 @@ use Rattle.std.proofs.lemmas.Bool.Decides.{nat_tests}
 use Rattle.mail_wire.specs.Message.{IsNul}
 use Rattle.mail_wire.specs.Octets.{is_ascii}
 use Rattle.utf8_fields.specs.Parts.{FieldParts, field_octets}
-use Rattle.param_2231.specs.declared.ParamKind.TheVariants.{Content}
+use Rattle.param_grammar.specs.declared.ParamKind.TheVariants.{Content}
 use Rattle.field_downgrade.specs.declared.kind.Kind.{Kind}
 use Rattle.field_downgrade.specs.declared.kind.Kind.TheVariants.{Unstructured, Params}
 use Rattle.field_downgrade.specs.Stands.{BeginsHyphen, HasFieldLayout, Copied, Changed, Made, NamesMessage, with_body}

@@ -1,4 +1,4 @@
 pub mod Layout
 pub mod Ropes
-pub mod Building
 pub mod Served
+pub mod private

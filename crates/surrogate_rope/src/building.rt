@@ -5,13 +5,12 @@ ghost use Rattle.field_downgrade.specs.Message.{IsServed};
 ghost use Rattle.mime_tree.specs.Openings.{AreFieldsWithin};
 ghost use Rattle.mime_tree.specs.Tree.{HasTree, raws_of};
 ghost use Rattle.surrogate_rope.specs.Layout.{IsOpenGlobal, InEntity};
-ghost use Rattle.surrogate_rope.specs.Building.{IsFew, Copies, AddsField, AddsBlock, HasServedBlocks};
+ghost use Rattle.surrogate_rope.specs.private.Building.{IsFew, Copies, AddsField, AddsBlock, HasServedBlocks};
 
-use field_downgrade::field::{Rewrite, downgrade_field};
-use mail_wire::values::{Memory, Octets};
-use mime_tree::entity::{Entity, Shape, Tree};
-use mime_tree::openings::first_value;
-use param_2231::global_types::find_global;
+use field_downgrade::{Rewrite, downgrade_field};
+use mail_wire::{Memory, Octets};
+use mime_tree::{Entity, Shape, Tree, first_value};
+use param_2231::find_global;
 use std::alloc::Global;
 
 /// The octets of a surrogate, and how many of its fields were made anew.

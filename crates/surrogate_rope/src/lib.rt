@@ -3,5 +3,8 @@
 
 mod building;
 pub mod laws;
-pub mod rope;
-pub mod shown;
+mod rope;
+mod shown;
+
+pub use rope::Rope;
+pub use shown::Shown;

@@ -7,10 +7,8 @@ ghost use Rattle.mime_tree.specs.Tree.{HasTree};
 ghost use Rattle.surrogate_rope.specs.Ropes.{RopeValue, Piece, IsRopeOf, octets_of, size_of};
 
 use crate::building::make_surrogate;
-use mail_wire::values::{Memory, Octets, Span};
-use mime_tree::entity::{Tree, TreeFault};
-use mime_tree::reading::read_sound_tree;
-use mime_tree::sections::Part;
+use mail_wire::{Memory, Octets, Span};
+use mime_tree::{Part, Tree, TreeFault, read_sound_tree};
 use std::alloc::Global;
 use std::marker::Model;
 

@@ -4,9 +4,8 @@ ghost use Rattle.mime_tree.specs.Sections.{section};
 ghost use Rattle.surrogate_rope.specs.Served.{IsShownOf, shown_octets, shown_outlines};
 
 use crate::rope::{Rope, copy_from};
-use mail_wire::values::Span;
-use mime_tree::entity::Tree;
-use mime_tree::sections::Part;
+use mail_wire::Span;
+use mime_tree::{Part, Tree};
 
 /// The message itself, with its tree, or its surrogate.
 #[derive(Drop)]

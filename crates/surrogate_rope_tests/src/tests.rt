@@ -3,13 +3,11 @@ ghost use Rattle.std.specs.Prelude.{IfSome};
 ghost use Rattle.surrogate_rope.specs.Ropes.{IsRopeOf};
 ghost use Rattle.surrogate_rope.specs.Served.{IsShownOf};
 
-use mail_wire::values::{Memory, Octets, Span};
-use mime_tree::reading::read_tree;
-use mime_tree::sections::Part;
+use mail_wire::{Memory, Octets, Span};
+use mime_tree::{Part, read_tree};
 use std::alloc::Global;
 use std::test::Fail;
-use surrogate_rope::rope::Rope;
-use surrogate_rope::shown::Shown;
+use surrogate_rope::{Rope, Shown};
 
 // A section by its path and what is asked, and the octets that stand there.
 type Row<'a> = (&'a [u32], Part, Option<&'a str>);

@@ -12,7 +12,7 @@ use Rattle.mail_wire.specs.Message.{Stands, IsFaulty, IsSound}
 use Rattle.utf8_fields.specs.declared.block.Field.{Field}
 use Rattle.utf8_fields.specs.Lines.{is_name_octet, BeginsField, BeginsWhite}
 use Rattle.utf8_fields.specs.Block.{IsFieldAt, AreFields, HasBlockIn, HasBlock}
-use Rattle.utf8_fields.specs.Steps.{BeginsColon, EndsField}
+use Rattle.utf8_fields.specs.private.Steps.{BeginsColon, EndsField}
 use Rattle.utf8_fields.proofs.AllSpans.{span_of}
 use Rattle.utf8_fields.proofs.Names.{name_stands, name_passes}
 use Rattle.utf8_fields.proofs.FirstField.{field_of}

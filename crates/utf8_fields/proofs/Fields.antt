@@ -7,7 +7,7 @@ use Rattle.utf8_fields.specs.declared.block.FieldFault.TheVariants.{NotField, No
 use Rattle.utf8_fields.specs.Lines.{BeginsField, BeginsWhite}
 use Rattle.utf8_fields.specs.Block.{IsFieldAt, AreFields, EndsBlock, HasBlockIn}
 use Rattle.utf8_fields.specs.Faults.{IsFieldLine, ComesAfter, IsFaultIn}
-use Rattle.utf8_fields.specs.Steps.{IsNextField, HasRead}
+use Rattle.utf8_fields.specs.private.Steps.{IsNextField, HasRead}
 
 -- fields after fields
 pub AreFields-append : (before lines : List (List ℕ)) (start at end : ℕ) (fields more : List Field) → AreFields before start fields at → AreFields lines at more end

@@ -12,7 +12,7 @@ use Rattle.utf8_fields.specs.declared.block.FieldFault.TheVariants.{NotField}
 use Rattle.utf8_fields.specs.Lines.{BeginsField, BeginsWhite}
 use Rattle.utf8_fields.specs.Block.{IsFieldAt, EndsBlock}
 use Rattle.utf8_fields.specs.Faults.{ComesAfter, IsFaultIn}
-use Rattle.utf8_fields.specs.Steps.{IsBadLine, AreFurther, IsBadFurther, EndsField, IsNextField}
+use Rattle.utf8_fields.specs.private.Steps.{IsBadLine, AreFurther, IsBadFurther, EndsField, IsNextField}
 use Rattle.utf8_fields.proofs.Heads.{lines_of-nil}
 use Rattle.utf8_fields.proofs.Fields.{AreFields-one, white_differs}
 

@@ -11,7 +11,7 @@ use Rattle.mail_wire.specs.Message.{IsSound}
 use Rattle.mail_wire.proofs.LineLemmas.{HasFirstSpan, first_span}
 use Rattle.utf8_fields.specs.declared.block.FieldFault.{FieldFault}
 use Rattle.utf8_fields.specs.Lines.{BeginsWhite}
-use Rattle.utf8_fields.specs.Steps.{AreFurther, IsBadFurther, IsBadLine, EndsField}
+use Rattle.utf8_fields.specs.private.Steps.{AreFurther, IsBadFurther, IsBadLine, EndsField}
 
 -- the span that the loop is given is that of the line after the further lines so far
 pub at_line : (octets : List ℕ) (spans : List Span) (len : ℕ) (line : Span) (left : List Span) → spans ≡ spans_from len (lines_of (drop len octets)) → spans ≡ line ∷ left

@@ -8,7 +8,7 @@ use Rattle.mail_wire.specs.Octets.{is_white}
 use Rattle.mail_wire.specs.Spans.{Stops, IsSpan}
 use Rattle.mail_wire.proofs.SpanLemmas.{Opposite, span_once}
 use Rattle.utf8_fields.specs.Lines.{is_name_octet, BeginsField, BeginsWhite}
-use Rattle.utf8_fields.specs.Steps.{BeginsColon}
+use Rattle.utf8_fields.specs.private.Steps.{BeginsColon}
 
 not_not : (b : Bool) → b ≡ not (not b)
 not_not true = refl

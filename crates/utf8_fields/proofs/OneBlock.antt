@@ -7,7 +7,7 @@ use Rattle.mail_wire.specs.Lines.{crlf}
 use Rattle.utf8_fields.specs.declared.block.Field.{Field}
 use Rattle.utf8_fields.specs.Lines.{is_name_octet, BeginsField, BeginsWhite}
 use Rattle.utf8_fields.specs.Block.{IsFieldAt, AreFields, EndsBlock, HasBlockIn}
-use Rattle.utf8_fields.specs.Steps.{EndsField}
+use Rattle.utf8_fields.specs.private.Steps.{EndsField}
 use Rattle.utf8_fields.proofs.Names.{field_not_white, one_name}
 use Rattle.utf8_fields.proofs.Fields.{white_differs}
 

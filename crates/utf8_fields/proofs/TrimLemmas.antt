@@ -5,7 +5,7 @@ use Rattle.std.proofs.lemmas.List.{append_assoc, append-nil}
 use Rattle.std.specs.List.{list_all}
 use Rattle.mail_wire.specs.Octets.{is_white}
 use Rattle.mail_wire.specs.Spans.{Stops, StopsBehind, IsSpan, IsTrimmed}
-use Rattle.utf8_fields.specs.Steps.{TrimsEnd}
+use Rattle.utf8_fields.specs.private.Steps.{TrimsEnd}
 
 -- white alone was cut off so far
 pub record TrimsTo (octets rest : List ℕ) : Type 0 where

@@ -3,5 +3,4 @@ pub mod Parts
 pub mod Block
 pub mod Named
 pub mod Faults
-pub mod Steps
-pub mod Views
+pub mod private

@@ -1,10 +1,9 @@
 //! Fields and blocks.
-ghost use Rattle.std.specs.Prelude.{◌≡◌, ◌↔◌, [], ◌∷◌, ◌++◌, length, IsTrue, OnOk, OnErr, Err};
+ghost use Rattle.std.specs.Prelude.{◌≡◌};
 ghost use Rattle.utf8_fields.specs.declared.block.FieldFault.TheVariants.{Memory};
 
-use mail_wire::values::Span;
-use std::alloc::{AllocError, AllocFailed, Global};
-use std::marker::Model;
+use mail_wire::{Items, Memory as OutOfMemory, Span};
+use std::alloc::AllocFailed;
 
 /// A header field: where its name and where all of it stands.
 #[derive(Clone, Copy, Debug, PartialEq, Eq)]
@@ -14,71 +13,7 @@ pub struct Field {
 }
 
 /// A list of fields.
-#[derive(Debug, Drop)]
-pub struct Fields {
-    fields: Vec<Field>,
-}
-
-impl Model for Fields {
-    ghost use Rattle.std.specs.Prelude.{List};
-    ghost use Rattle.utf8_fields.specs.declared.block.Field.{Field};
-
-    ghost Value = { List Field };
-
-    ghost view = { λ a. a.fields.items };
-}
-
-impl Fields {
-    /// No fields.
-    pub fn new(alloc: Global) -> Self
-        ensures { result ≡ [] }
-    {
-        Fields {
-            fields: Vec::new(alloc),
-        }
-    }
-
-    /// The fields of a `Vec`, which is taken over as it is.
-    pub fn from_vec(fields: Vec<Field>) -> Self
-        ensures { result ≡ fields.items }
-    {
-        Fields { fields }
-    }
-
-    /// Gives the `Vec` back.
-    pub fn into_vec(self) -> Vec<Field>
-        ensures { result.items ≡ self }
-    {
-        self.fields
-    }
-
-    pub fn as_slice(&self) -> &[Field]
-        ensures { result.now ≡ self.now }
-    {
-        &self.fields
-    }
-
-    pub fn len(&self) -> usize
-        ensures { result ≡ length self.now }
-    {
-        self.fields.len()
-    }
-
-    pub fn is_empty(&self) -> bool
-        ensures { IsTrue result ↔ (self.now ≡ []) }
-    {
-        self.fields.is_empty()
-    }
-
-    /// Puts a field last.
-    pub fn push(&mut self, field: Field) -> Result<(), FieldFault>
-        ensures ok { OnOk result (self.new ≡ self.old ++ field ∷ []) }
-        ensures err { OnErr result ((self.new ≡ self.old) × (result ≡ Err Memory)) }
-    {
-        self.fields.push(field)?;
-        Ok(())
-    }
-}
+pub type Fields = Items<Field>;
 
 /// A header block: its fields, and the place after the last one.
 #[derive(Debug, Drop)]
@@ -97,10 +32,10 @@ pub enum FieldFault {
     Memory,
 }
 
-impl From<AllocError> for FieldFault {
+impl From<OutOfMemory> for FieldFault {
     ghost from_gives = { λ _ fault. fault ≡ Memory };
 
-    fn from(_error: AllocError) -> FieldFault {
+    fn from(_memory: OutOfMemory) -> FieldFault {
         FieldFault::Memory
     }
 }

@@ -1,8 +1,13 @@
 //! Header blocks whose fields are UTF-8.
 #![tactic(auto)]
 
-pub mod block;
+mod block;
 pub mod laws;
-pub mod parts;
-pub mod reading;
-pub mod values;
+mod parts;
+mod reading;
+mod values;
+
+pub use block::{Block, Field, FieldFault, Fields};
+pub use parts::{Parts, split_ending, split_field};
+pub use reading::{read_block, read_block_at, write_block};
+pub use values::{trim, value_of};

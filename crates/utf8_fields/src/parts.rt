@@ -3,9 +3,9 @@ ghost use Rattle.std.specs.Prelude.{◌≡◌, not, position};
 ghost use Rattle.mail_wire.specs.Spans.{IsSpan};
 ghost use Rattle.utf8_fields.specs.Lines.{is_name_octet};
 ghost use Rattle.utf8_fields.specs.Parts.{FieldParts, HasParts, IsField, SplitsEnding};
-ghost use Rattle.utf8_fields.specs.Views.{parts_of};
+ghost use Rattle.utf8_fields.specs.private.Views.{parts_of};
 
-use mail_wire::text::split_white;
+use mail_wire::split_white;
 
 /// The parts of a field. The ending is CRLF, or nothing.
 #[derive(Clone, Copy)]

@@ -10,13 +10,11 @@ ghost use Rattle.utf8_fields.specs.Parts.{IsField};
 ghost use Rattle.utf8_fields.specs.Block.{EndsBlock, HasBlock, HasBlockIn, raw_of};
 ghost use Rattle.utf8_fields.specs.Named.{HasFieldName};
 ghost use Rattle.utf8_fields.specs.Faults.{IsFault, IsFaultIn};
-ghost use Rattle.utf8_fields.specs.Steps.{BeginsColon, IsBadLine, AreFurther, IsBadFurther, EndsField, IsNextField};
+ghost use Rattle.utf8_fields.specs.private.Steps.{BeginsColon, IsBadLine, AreFurther, IsBadFurther, EndsField, IsNextField};
 
 use crate::block::{Block, Field, FieldFault, Fields};
 use crate::parts::split_name;
-use mail_wire::message::first_faulty;
-use mail_wire::text::{is_white, line_len, lines, split_white};
-use mail_wire::values::{Memory, Octets, Span};
+use mail_wire::{Memory, Octets, Span, first_faulty, is_white, line_len, lines, split_white};
 use std::alloc::Global;
 
 // Whether a colon comes first.

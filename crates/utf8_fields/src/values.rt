@@ -3,10 +3,9 @@ ghost use Rattle.std.specs.Prelude.{IfOk};
 ghost use Rattle.mail_wire.specs.Octets.{is_white};
 ghost use Rattle.mail_wire.specs.Spans.{IsTrimmed};
 ghost use Rattle.utf8_fields.specs.Parts.{HasValue};
-ghost use Rattle.utf8_fields.specs.Steps.{TrimsEnd};
+ghost use Rattle.utf8_fields.specs.private.Steps.{TrimsEnd};
 
-use mail_wire::text::{is_white, split_white, unfold};
-use mail_wire::values::{Memory, Octets};
+use mail_wire::{Memory, Octets, is_white, split_white, unfold};
 use std::alloc::Global;
 
 // The octets without the white at their end.

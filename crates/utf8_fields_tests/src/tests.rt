@@ -1,10 +1,9 @@
 //! The worked rows, by the public calls.
-use mail_wire::values::Span;
+use mail_wire::Span;
 use std::test::Fail;
-use utf8_fields::block::{Field, FieldFault, Fields};
-use utf8_fields::parts::{Parts, split_field};
-use utf8_fields::reading::{read_block, read_block_at, write_block};
-use utf8_fields::values::value_of;
+use utf8_fields::{
+    Field, FieldFault, Fields, Parts, read_block, read_block_at, split_field, value_of, write_block,
+};
 
 fn field(at: usize, name: usize, raw: usize) -> Field {
     Field {

@@ -1,5 +1,5 @@
 use Rattle.std.proofs.lemmas.Result.{on_ok_weaker}
-use Rattle.address_lists.specs.ListViews.{mailbox_value}
+use Rattle.address_grammar.specs.private.ListViews.{mailbox_value}
 use Rattle.address_lists.proofs.UnitsOnto.{display_spaced}
 use Rattle.address_lists.proofs.emptied.push_display.Goals as goal
 

@@ -1,5 +1,5 @@
 use Rattle.std.proofs.lemmas.Result.{on_ok_weaker}
-use Rattle.address_lists.specs.ListViews.{mailbox_value, mailbox_values}
+use Rattle.address_grammar.specs.private.ListViews.{mailbox_value, mailbox_values}
 use Rattle.address_lists.proofs.UnitsOnto.{members_all}
 use Rattle.address_lists.proofs.emptied.push_members.Goals as goal
 

@@ -1,7 +1,7 @@
 use Rattle.std.proofs.Common.{arith}
 use Rattle.std.proofs.lemmas.List.{take_all}
-use Rattle.address_lists.specs.ListViews.{mailbox_value}
-use Rattle.address_lists.specs.ListWriting.{IsWritableMailbox}
+use Rattle.address_grammar.specs.private.ListViews.{mailbox_value}
+use Rattle.address_lists.specs.private.ListWriting.{IsWritableMailbox}
 use Rattle.address_lists.proofs.AddedPieces.{item_at, items_more}
 use Rattle.address_lists.proofs.UnitsOnto.{takes_none, others_turn}
 use Rattle.address_lists.proofs.emptied.push_others.Goals as goal

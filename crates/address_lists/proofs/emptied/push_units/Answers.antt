@@ -1,6 +1,6 @@
 use Rattle.std.proofs.Common.{arith}
 use Rattle.std.proofs.lemmas.List.{take_all}
-use Rattle.encoded_words.specs.Values.{value_of}
+use Rattle.encoded_words.specs.private.Values.{value_of}
 use Rattle.encoded_words.specs.Written.{IsWritable}
 use Rattle.address_lists.proofs.AddedPieces.{item_at, items_more}
 use Rattle.address_lists.proofs.UnitsOnto.{takes_none, takes_append}

@@ -1,4 +1,4 @@
-use Rattle.address_lists.proofs.WholeLists.{elements_once, comments_once}
+use Rattle.address_grammar.proofs.WholeLists.{elements_once, comments_once}
 use Rattle.address_lists.proofs.laws.lists_are_one.Goals as goal
 
 pub returns-clause-elements : goal.returns-clause-elements

@@ -1,4 +1,4 @@
-use Rattle.address_lists.specs.Views.{values_of}
+use Rattle.address_grammar.specs.private.Views.{values_of}
 use Rattle.address_lists.proofs.SoundPhrases.{text_items, text_comments}
 use Rattle.address_lists.proofs.PhraseListLemmas.{phrases_of}
 use Rattle.address_lists.proofs.phrase_lists.rewrite_phrases.Goals as goal

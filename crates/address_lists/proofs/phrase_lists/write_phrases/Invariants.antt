@@ -1,5 +1,5 @@
 use Rattle.std.proofs.Common.{◌≤◌, ◌-◌, length, drop}
-use Rattle.address_lists.specs.Views.{values_of}
+use Rattle.address_grammar.specs.private.Views.{values_of}
 use Rattle.address_lists.proofs.PhraseListLemmas.{WritesPhrases}
 use Rattle.address_lists.proofs.phrase_lists.write_phrases.Given as goal
 

@@ -1,6 +1,6 @@
 use Rattle.std.proofs.Common.{sym, ◌∙◌}
-use Rattle.address_lists.specs.ListWriting.{is_element_token}
-use Rattle.address_lists.specs.Views.{value_of}
+use Rattle.address_lists.specs.private.ListWriting.{is_element_token}
+use Rattle.address_grammar.specs.private.Views.{value_of}
 use Rattle.address_lists.proofs.ListRewriting.{list_any-map}
 use Rattle.address_lists.proofs.rewriting.is_followed.Goals as goal
 

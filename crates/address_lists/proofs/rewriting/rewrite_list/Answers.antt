@@ -1,5 +1,5 @@
 use Rattle.std.proofs.lemmas.Result.{IfOk-weaker}
-use Rattle.address_lists.specs.Views.{values_of}
+use Rattle.address_grammar.specs.private.Views.{values_of}
 use Rattle.address_lists.proofs.WritableTokens.{text_can}
 use Rattle.address_lists.proofs.ListRewriting.{list_pieces, says_elements}
 use Rattle.address_lists.proofs.rewriting.rewrite_list.Goals as goal

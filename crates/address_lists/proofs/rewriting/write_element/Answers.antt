@@ -1,6 +1,6 @@
 use Rattle.std.proofs.Common.{sym, ◌∙◌}
 use Rattle.std.proofs.lemmas.Result.{on_ok_weaker}
-use Rattle.address_lists.specs.ListViews.{element_value}
+use Rattle.address_grammar.specs.private.ListViews.{element_value}
 use Rattle.address_lists.proofs.ListRewriting.{element_blank, ascii_element, mailbox_element, group_element}
 use Rattle.address_lists.proofs.rewriting.write_element.Goals as goal
 

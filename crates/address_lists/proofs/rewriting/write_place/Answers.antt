@@ -1,5 +1,5 @@
 use Rattle.std.proofs.Common.{sym, ◌∙◌}
-use Rattle.address_lists.specs.ListViews.{element_value}
+use Rattle.address_grammar.specs.private.ListViews.{element_value}
 use Rattle.address_lists.proofs.ListRewriting.{element_place}
 use Rattle.address_lists.proofs.rewriting.write_place.Goals as goal
 

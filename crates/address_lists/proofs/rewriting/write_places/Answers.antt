@@ -1,9 +1,9 @@
 use Rattle.std.proofs.Common.{◌≡◌, ◌+◌, ◌<◌, drop, length, Err, ap, arith}
 use Rattle.std.proofs.lemmas.List.{take_rest, drop-drop, length-drop}
 use Rattle.std.proofs.lemmas.Result.{err_from_is_err_and}
-use Rattle.address_lists.specs.Views.{values_of}
-use Rattle.address_lists.specs.declared.AddressFault.TheVariants.{Malformed}
-use Rattle.address_lists.proofs.PathLemmas.{fault_is}
+use Rattle.address_grammar.specs.private.Views.{values_of}
+use Rattle.address_grammar.specs.declared.AddressFault.TheVariants.{Malformed}
+use Rattle.address_grammar.proofs.PathLemmas.{fault_is}
 use Rattle.address_lists.proofs.ListRewriting.{places_start, place_can, places_turn, places_end, places_stuck, places_stuck_last}
 use Rattle.address_lists.proofs.rewriting.write_places.Goals as goal
 

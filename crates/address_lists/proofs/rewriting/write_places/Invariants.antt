@@ -1,5 +1,5 @@
 use Rattle.std.proofs.Common.{◌≤◌, ◌-◌, length, drop}
-use Rattle.address_lists.specs.Views.{values_of}
+use Rattle.address_grammar.specs.private.Views.{values_of}
 use Rattle.address_lists.proofs.ListRewriting.{WritesPlaces}
 use Rattle.address_lists.proofs.rewriting.write_places.Given as goal
 

@@ -1,7 +1,7 @@
 use Rattle.std.proofs.Common.{is_some, not, sym, ap, ◌∙◌}
 use Rattle.address_lists.specs.ListPieces.{is_plain}
-use Rattle.address_lists.specs.ListViews.{mailbox_value}
-use Rattle.address_lists.specs.ListWriting.{IsWritableMailbox}
+use Rattle.address_grammar.specs.private.ListViews.{mailbox_value}
+use Rattle.address_lists.specs.private.ListWriting.{IsWritableMailbox}
 use Rattle.address_lists.proofs.AddedPieces.{item_at}
 use Rattle.address_lists.proofs.ServedMailboxes.{plain_stop}
 use Rattle.address_lists.proofs.served.are_plain.Goals as goal

@@ -1,7 +1,7 @@
 use Rattle.std.proofs.Common.{◌≡◌, true, take}
 use Rattle.std.specs.List.{list_all}
 use Rattle.address_lists.specs.ListPieces.{is_plain}
-use Rattle.address_lists.specs.ListViews.{mailbox_values}
+use Rattle.address_grammar.specs.private.ListViews.{mailbox_values}
 use Rattle.address_lists.proofs.served.are_plain.Given as goal
 
 abbrev pub invariant-loop-member : goal.invariant-loop-member

@@ -1,7 +1,7 @@
 use Rattle.encoded_words.proofs.WritableUnits.{HasPhraseUnits-writable}
-use Rattle.address_lists.specs.Phrases.{phrase_items}
-use Rattle.address_lists.specs.Views.{values_of}
-use Rattle.address_lists.specs.ListViews.{unit_values}
+use Rattle.address_grammar.specs.Phrases.{phrase_items}
+use Rattle.address_grammar.specs.private.Views.{values_of}
+use Rattle.address_grammar.specs.private.ListViews.{unit_values}
 use Rattle.address_lists.proofs.writing.push_said.Goals as goal
 
 pub push_units-requires : goal.push_units-requires

@@ -1,6 +1,6 @@
 use Rattle.std.proofs.Common.{sym, ◌∙◌}
 use Rattle.std.proofs.lemmas.Result.{on_ok_weaker}
-use Rattle.address_lists.specs.ListViews.{unit_values, mailbox_values}
+use Rattle.address_grammar.specs.private.ListViews.{unit_values, mailbox_values}
 use Rattle.address_lists.proofs.AddedPieces.{weaker_pieces}
 use Rattle.address_lists.proofs.UnitsOnto.{group_units_writable}
 use Rattle.address_lists.proofs.WritableTokens.{group_writable}

@@ -1,7 +1,7 @@
 use Rattle.std.proofs.Common.{◌+◌, ◌<◌, drop, length, arith}
 use Rattle.std.proofs.lemmas.List.{take_rest, drop-drop, length-drop}
 use Rattle.std.proofs.lemmas.Result.{on_ok_weaker}
-use Rattle.address_lists.specs.Views.{values_of}
+use Rattle.address_grammar.specs.private.Views.{values_of}
 use Rattle.address_lists.proofs.KeptGroups.{members_start, member_can, member_known, last_known, members_turn, members_end}
 use Rattle.address_lists.proofs.written_groups.write_members.Goals as goal
 

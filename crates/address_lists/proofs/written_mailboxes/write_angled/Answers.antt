@@ -1,5 +1,5 @@
 use Rattle.std.proofs.lemmas.Result.{on_ok_weaker}
-use Rattle.address_lists.specs.ListViews.{mailbox_value}
+use Rattle.address_grammar.specs.private.ListViews.{mailbox_value}
 use Rattle.address_lists.proofs.AddedPieces.{weaker_pieces}
 use Rattle.address_lists.proofs.WritableTokens.{before_can, behind_can}
 use Rattle.address_lists.proofs.ServedMailboxes.{not_open, named_phrase, angled_adds, named_pieces}

@@ -1,7 +1,7 @@
 use Rattle.std.proofs.Common.{◌≡◌, None, sym, ◌∙◌}
 use Rattle.std.proofs.lemmas.Result.{on_ok_weaker}
 use Rattle.address_lists.specs.ListPieces.{served_address}
-use Rattle.address_lists.specs.ListViews.{mailbox_value}
+use Rattle.address_grammar.specs.private.ListViews.{mailbox_value}
 use Rattle.address_lists.proofs.AddedPieces.{weaker_pieces}
 use Rattle.address_lists.proofs.UnitsOnto.{mailbox_units_writable}
 use Rattle.address_lists.proofs.WritableTokens.{mailbox_writable}

@@ -1,5 +1,5 @@
 use Rattle.std.proofs.lemmas.Result.{on_ok_weaker}
-use Rattle.address_lists.specs.ListViews.{mailbox_value}
+use Rattle.address_grammar.specs.private.ListViews.{mailbox_value}
 use Rattle.address_lists.proofs.ServedMailboxes.{is_bare, is_named, bare_adds}
 use Rattle.address_lists.proofs.written_mailboxes.write_served.Goals as goal
 

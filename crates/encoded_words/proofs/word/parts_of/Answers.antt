@@ -1,5 +1,5 @@
 use Rattle.std.proofs.Common.{subst, ◌≡◌, ◌∷◌, true}
-use Rattle.encoded_words.specs.Parts.{lacks}
+use Rattle.encoded_words.specs.private.Parts.{lacks}
 use Rattle.encoded_words.proofs.Cuts.{inner_is, inner_of, wrapped_word, name_is, name_of, named_from, not_lacking}
 use Rattle.encoded_words.proofs.word.parts_of.Goals as goal
 

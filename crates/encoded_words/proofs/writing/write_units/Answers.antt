@@ -1,5 +1,5 @@
 use Rattle.std.proofs.Common.{◌∷◌, [], subst, arith}
-use Rattle.encoded_words.specs.Values.{value_of}
+use Rattle.encoded_words.specs.private.Values.{value_of}
 use Rattle.encoded_words.specs.Written.{AddsUnits}
 use Rattle.encoded_words.proofs.AddedUnits.{writes_turn, writes_all}
 use Rattle.encoded_words.proofs.writing.write_units.Goals as goal

@@ -1,4 +1,4 @@
-use Rattle.utf8_fields.specs.Views.{parts_of}
+use Rattle.utf8_fields.specs.private.Views.{parts_of}
 use Rattle.field_downgrade.proofs.NamingLemmas.{not_named}
 use Rattle.field_downgrade.proofs.field.named_message.Goals as goal
 

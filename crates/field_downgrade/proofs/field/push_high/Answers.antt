@@ -1,5 +1,5 @@
 use Rattle.std.proofs.lemmas.Bool.{iff_false}
-use Rattle.utf8_fields.specs.Views.{parts_of}
+use Rattle.utf8_fields.specs.private.Views.{parts_of}
 use Rattle.field_downgrade.proofs.Rewriting.{Adds-served, Adds-words, CanRewrite-structured}
 use Rattle.field_downgrade.proofs.Writing.{OnOk-then}
 use Rattle.field_downgrade.proofs.field.push_high.Goals as goal

@@ -1,7 +1,7 @@
 use Rattle.std.proofs.Common.{refl, ◌∙◌}
-use Rattle.field_downgrade.specs.Views.{words_of}
-use Rattle.utf8_fields.specs.Views.{parts_of}
-use Rattle.field_downgrade.specs.Steps.{WritesWords}
+use Rattle.field_downgrade.specs.private.Views.{words_of}
+use Rattle.utf8_fields.specs.private.Views.{parts_of}
+use Rattle.field_downgrade.specs.private.Steps.{WritesWords}
 use Rattle.field_downgrade.proofs.Rewriting.{Adds-unstructured}
 use Rattle.field_downgrade.proofs.Writing.{OnOk-then}
 use Rattle.field_downgrade.proofs.field.push_unstructured.Goals as goal

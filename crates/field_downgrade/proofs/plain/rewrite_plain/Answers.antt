@@ -5,7 +5,7 @@ use Rattle.mail_wire.specs.Octets.{is_ascii}
 use Rattle.field_tokens.specs.Tokens.{HasTokens}
 use Rattle.field_tokens.proofs.Joined.{all_stand}
 use Rattle.field_downgrade.specs.PlainTexts.{style_where}
-use Rattle.field_downgrade.specs.PlainSteps.{IsOneAtom}
+use Rattle.field_downgrade.specs.private.PlainSteps.{IsOneAtom}
 use Rattle.field_downgrade.proofs.PlainReading.{plain_pieces_are, no_tokens, not_ascii, not_atom}
 use Rattle.field_downgrade.proofs.plain.rewrite_plain.Goals.{else-is_encoding-via-then-is_encoding+else-not-is_one_atom, else-is_encoding-via-else-is_encoding}
 use Rattle.field_downgrade.proofs.plain.rewrite_plain.Goals as goal

@@ -1,7 +1,7 @@
 use Rattle.std.proofs.Common.{refl, ◌∙◌, ◌++◌, ◌≡◌, List, ℕ}
 use Rattle.field_downgrade.specs.Words.{last_run, plain_text}
 use Rattle.field_downgrade.specs.Layout.{last_side, first_side}
-use Rattle.field_downgrade.specs.Views.{words_of}
+use Rattle.field_downgrade.specs.private.Views.{words_of}
 use Rattle.field_downgrade.proofs.Writing.{needs_left, needs_right, text_utf8, WritesSegment-from, CutsLeft-at, CutsRight-at, OnOk-then}
 use Rattle.field_downgrade.proofs.segments.write_segment.Goals as goal
 

@@ -1,5 +1,5 @@
 use Rattle.std.proofs.Common.{ap, subst, ◌++◌, ◌∙◌}
-use Rattle.utf8_fields.specs.Views.{parts_of}
+use Rattle.utf8_fields.specs.private.Views.{parts_of}
 use Rattle.utf8_fields.specs.Parts.{SplitsEnding}
 use Rattle.field_downgrade.proofs.StructuredWriting.{AddsWordField-encapsulated}
 use Rattle.field_downgrade.proofs.Writing.{OnOk-then}

@@ -1,4 +1,4 @@
-use Rattle.utf8_fields.specs.Views.{parts_of}
+use Rattle.utf8_fields.specs.private.Views.{parts_of}
 use Rattle.field_downgrade.proofs.StructuredFields.{body_some, body_utf8}
 use Rattle.field_downgrade.proofs.StructuredWriting.{Adds-pieces}
 use Rattle.field_downgrade.proofs.Writing.{OnOk-then}

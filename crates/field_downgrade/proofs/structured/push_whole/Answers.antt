@@ -1,5 +1,5 @@
 use Rattle.std.proofs.Common.{sym, ◌∙◌}
-use Rattle.utf8_fields.specs.Views.{parts_of}
+use Rattle.utf8_fields.specs.private.Views.{parts_of}
 use Rattle.field_downgrade.proofs.StructuredWriting.{Adds-kept, Adds-encapsulated}
 use Rattle.field_downgrade.proofs.Writing.{OnOk-then}
 use Rattle.field_downgrade.proofs.structured.push_whole.Goals as goal

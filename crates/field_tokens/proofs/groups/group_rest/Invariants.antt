@@ -1,5 +1,5 @@
 use Rattle.std.proofs.Common.{length, ◌≤◌}
-use Rattle.field_tokens.specs.Levels.{Step}
+use Rattle.field_tokens.specs.private.Levels.{Step}
 use Rattle.field_tokens.proofs.groups.group_rest.Given as goal
 
 abbrev pub invariant-loop-depth : goal.invariant-loop-depth

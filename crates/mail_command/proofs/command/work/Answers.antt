@@ -2,8 +2,8 @@ use Rattle.std.proofs.Common.{List, ℕ, subst}
 use Rattle.std.specs.Prelude.{IfSome, string_bytes}
 use Rattle.std.proofs.lemmas.Result.{err_from_is_err_and}
 use Rattle.ace_domains.specs.Domains.{compared_form}
-use Rattle.address_lists.specs.Addresses.{address_text}
-use Rattle.address_lists.specs.declared.Address.{Address}
+use Rattle.address_grammar.specs.Addresses.{address_text}
+use Rattle.address_grammar.specs.declared.Address.{Address}
 use Rattle.mail_store.specs.Changing.{account_refusal, domain_refusal}
 use Rattle.mail_store.specs.declared.records.Record.TheVariants as records
 use Rattle.setup_command.specs.AddingRuns.{RunsAdding, IsExactAdding}

@@ -1,5 +1,5 @@
 use Rattle.std.proofs.Common.{rules, ◌≡◌, ℕ, List, Some, Err, ap, sym, subst}
-use Rattle.address_lists.specs.Paths.{HasPath, in_angles}
+use Rattle.address_grammar.specs.Paths.{HasPath, in_angles}
 use Rattle.mail_store.proofs.AddressLemmas.{none_found}
 use Rattle.mail_store.proofs.addresses.read_text.Goals as goal
 

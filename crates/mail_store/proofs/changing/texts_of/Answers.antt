@@ -1,6 +1,6 @@
 use Rattle.std.proofs.Common.{sym, subst}
 use Rattle.std.proofs.lemmas.List.Elements.{All-get_or}
-use Rattle.address_lists.specs.Paths.{ComesInPath}
+use Rattle.address_grammar.specs.Paths.{ComesInPath}
 use Rattle.mail_store.proofs.changing.texts_of.Goals as goal
 
 pub write_address-requires : goal.write_address-requires

@@ -1,5 +1,5 @@
 use Rattle.std.proofs.Common.{◌≡◌, map, take}
-use Rattle.address_lists.specs.Addresses.{address_text}
+use Rattle.address_grammar.specs.Addresses.{address_text}
 use Rattle.mail_store.proofs.changing.texts_of.Given as goal
 
 abbrev pub invariant-loop-address : goal.invariant-loop-address

@@ -1,6 +1,6 @@
 use Rattle.std.proofs.Common.{ap}
 use Rattle.std.specs.Prelude.{is_some}
-use Rattle.mail_store.specs.Names.{number_of, PutsName}
+use Rattle.mail_store.specs.private.Names.{number_of, PutsName}
 use Rattle.mail_store.proofs.DomainLemmas.{name_back}
 use Rattle.mail_store.proofs.changing.write_named.Goals as goal
 

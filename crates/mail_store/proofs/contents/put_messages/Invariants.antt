@@ -1,5 +1,5 @@
 use Rattle.std.proofs.Common.{◌≡◌, ◌++◌, ◌≤◌, length, vec_capacity}
-use Rattle.mail_store.specs.Chains.{AreChained}
+use Rattle.mail_store.specs.private.Chains.{AreChained}
 use Rattle.mail_store.proofs.contents.put_messages.Given as goal
 
 abbrev pub invariant-loop-message : goal.invariant-loop-message

@@ -1,5 +1,5 @@
 use Rattle.std.proofs.Common.{sym, ◌∙◌, subst, List, ℕ, ◌≡◌}
-use Rattle.mail_store.specs.Names.{number_of, kept_first}
+use Rattle.mail_store.specs.private.Names.{number_of, kept_first}
 use Rattle.mail_store.proofs.NameLemmas.{puts_first}
 use Rattle.mail_store.proofs.names.put_first.Goals as goal
 

@@ -1,5 +1,5 @@
 use Rattle.std.proofs.Common.{◌-◌}
-use Rattle.mail_store.specs.Replaying.{IsGoing}
+use Rattle.mail_store.specs.private.Replaying.{IsGoing}
 use Rattle.mail_store.proofs.opening.replay.Given as goal
 
 abbrev pub invariant-loop-len : goal.invariant-loop-len

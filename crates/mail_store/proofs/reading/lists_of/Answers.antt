@@ -1,5 +1,5 @@
 use Rattle.std.proofs.lemmas.Result.{err_from_is_err_and}
-use Rattle.mail_store.specs.Reading.{lists_at}
+use Rattle.mail_store.specs.private.Reading.{lists_at}
 use Rattle.mail_store.proofs.ListsLoop.{goes_on, ends, is_done}
 use Rattle.mail_store.proofs.reading.lists_of.Goals as goal
 

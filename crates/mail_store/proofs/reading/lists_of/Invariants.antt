@@ -1,5 +1,5 @@
 use Rattle.std.proofs.Common.{◌≡◌, ◌-◌}
-use Rattle.mail_store.specs.Reading.{lists_at}
+use Rattle.mail_store.specs.private.Reading.{lists_at}
 use Rattle.mail_store.proofs.ListsLoop.{with_front}
 use Rattle.mail_store.proofs.reading.lists_of.Given as goal
 

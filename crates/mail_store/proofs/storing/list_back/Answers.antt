@@ -1,5 +1,5 @@
 use Rattle.std.proofs.Common.{◌≡◌, ◌+◌, ◌-◌, ℕ, suc, Option, subst, arith}
-use Rattle.mail_store.specs.Chains.{chain}
+use Rattle.mail_store.specs.private.Chains.{chain}
 use Rattle.mail_store.proofs.Answering.{IsBack, IsBack-within, IsBack-push, IsBack-skip, IsBack-none, IsBack-zero, listed_back, listed_from_back}
 use Rattle.mail_store.proofs.storing.list_back.Goals.{in-Some-listed_one+in_ok-push, in_default-listed_one, else-loop-back-test, then-loop-back-test+in_default}
 use Rattle.mail_store.proofs.storing.list_back.Goals as goal

@@ -1,5 +1,5 @@
 use Rattle.std.proofs.Common.{◌-◌}
-use Rattle.mail_store.specs.Chains.{chain}
+use Rattle.mail_store.specs.private.Chains.{chain}
 use Rattle.mail_store.proofs.Answering.{IsBack, listed_back}
 use Rattle.mail_store.proofs.storing.list_back.Given as goal
 

@@ -1,5 +1,5 @@
 use Rattle.std.proofs.Common.{◌+◌, ◌∙◌, sym, refl}
-use Rattle.mime_tree.specs.Open.{is_marked_text}
+use Rattle.mime_tree.specs.private.Open.{is_marked_text}
 use Rattle.mime_tree.proofs.Padded.{unmarked_plain, one_more_boundary, marked_longer}
 use Rattle.mime_tree.proofs.marks.is_marked.Goals as goal
 

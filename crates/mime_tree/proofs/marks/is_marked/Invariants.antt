@@ -1,5 +1,5 @@
 use Rattle.std.proofs.Common.{◌≡◌, false, take}
-use Rattle.mime_tree.specs.Open.{is_marked_text}
+use Rattle.mime_tree.specs.private.Open.{is_marked_text}
 use Rattle.mime_tree.proofs.marks.is_marked.Given as goal
 
 abbrev pub invariant-loop-boundary : goal.invariant-loop-boundary

@@ -1,9 +1,9 @@
 use Rattle.std.proofs.Common.{◌≡◌, [], ◌∷◌, ◌++◌, length, arith, refl, sym, ap, ◌∙◌, length-append}
 use Rattle.std.proofs.lemmas.Result.{err_from_is_err_and}
 use Rattle.mime_tree.specs.Parts.{parts_of}
-use Rattle.mime_tree.specs.Reading.{region_at}
+use Rattle.mime_tree.specs.private.Reading.{region_at}
 use Rattle.mime_tree.proofs.Dividing.{Dividing-none, Dividing-more, Dividing-end, Dividing-fault, memory_fault, IsStart-with, last_once}
-use Rattle.mime_tree.proofs.Entities.{has_end, stop_from, entity_read, fault_head, fault_memory, fault_inside, stop_none}
+use Rattle.mime_tree.proofs.EntityLemmas.{has_end, stop_from, entity_read, fault_head, fault_memory, fault_inside, stop_none}
 use Rattle.mime_tree.proofs.reading.+tree.Goals as goal
 
 pub read_entity-returns-in_err-head-clause-fault : goal.read_entity-returns-in_err-head-clause-fault

@@ -1,6 +1,6 @@
 use Rattle.std.proofs.Common.{◌≡◌, ◌+◌, ◌*◌, length}
 use Rattle.mime_tree.specs.Parts.{parts_of}
-use Rattle.mime_tree.specs.Reading.{region_at}
+use Rattle.mime_tree.specs.private.Reading.{region_at}
 use Rattle.mime_tree.proofs.Dividing.{Dividing, next_left}
 use Rattle.mime_tree.proofs.reading.+tree.Given as goal
 

@@ -1,7 +1,7 @@
 use Rattle.std.proofs.Common.{sym, ◌++◌, ◌≡◌, true, false}
 use Rattle.mime_tree.specs.Marks.{dashes, is_padded}
 use Rattle.mime_tree.specs.Parts.{parts_of}
-use Rattle.mime_tree.specs.Open.{lines_at, region}
+use Rattle.mime_tree.specs.private.Open.{lines_at, region}
 use Rattle.mime_tree.proofs.LinesAt.{HasLine-from, more_left}
 use Rattle.mime_tree.proofs.NextParts.{IsPreamble-none, IsPreamble-more, first-marked, first-end, first-part}
 use Rattle.mime_tree.proofs.reading.first_part.Goals as goal

@@ -1,6 +1,6 @@
 use Rattle.std.proofs.Common.{length, ◌-◌}
 use Rattle.mime_tree.specs.Parts.{parts_of}
-use Rattle.mime_tree.specs.Open.{lines_at, region}
+use Rattle.mime_tree.specs.private.Open.{lines_at, region}
 use Rattle.mime_tree.proofs.NextParts.{IsPreamble}
 use Rattle.mime_tree.proofs.reading.first_part.Given as goal
 

@@ -1,4 +1,4 @@
-use Rattle.param_2231.specs.declared.ParamKind.TheVariants.{Content}
+use Rattle.param_grammar.specs.declared.ParamKind.TheVariants.{Content}
 use Rattle.param_2231.proofs.SaidTrees.{HasParams-says, SaysParams-trees}
 use Rattle.param_2231.proofs.global_types.read_type.Goals as goal
 

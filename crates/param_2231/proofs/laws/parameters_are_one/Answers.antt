@@ -1,4 +1,4 @@
-use Rattle.param_2231.proofs.BodyLemmas.{HasBody-once, HasParams-once}
+use Rattle.param_grammar.proofs.BodyLemmas.{HasBody-once, HasParams-once}
 use Rattle.param_2231.proofs.laws.parameters_are_one.Goals as goal
 
 pub returns-clause-pieces : goal.returns-clause-pieces

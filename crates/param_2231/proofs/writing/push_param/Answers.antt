@@ -1,6 +1,6 @@
 use Rattle.std.proofs.Common.{sym, ◌∙◌}
 use Rattle.std.proofs.lemmas.Result.{on_ok_weaker}
-use Rattle.encoded_words.specs.Values.{value_of}
+use Rattle.encoded_words.specs.private.Values.{value_of}
 use Rattle.param_2231.specs.Layout.{is_short}
 use Rattle.param_2231.proofs.ParamWriting.{no_whole, adds_whole}
 use Rattle.param_2231.proofs.writing.push_param.Goals as goal

@@ -1,6 +1,6 @@
 use Rattle.std.proofs.Common.{◌≡◌, length, sym, ◌∙◌, arith}
 use Rattle.std.proofs.lemmas.Bool.Decides.{nat_tests}
-use Rattle.encoded_words.specs.Values.{value_of}
+use Rattle.encoded_words.specs.private.Values.{value_of}
 use Rattle.param_2231.proofs.PartLemmas.{part_shortens}
 use Rattle.param_2231.proofs.ParamWriting.{WritesParts-first, WritesParts-more, WritesParts-end}
 use Rattle.param_2231.proofs.writing.push_parts.Goals as goal

@@ -1,5 +1,5 @@
 use Rattle.std.proofs.Common.{length}
-use Rattle.encoded_words.specs.Values.{value_of}
+use Rattle.encoded_words.specs.private.Values.{value_of}
 use Rattle.param_2231.proofs.ParamWriting.{WritesParts}
 use Rattle.param_2231.proofs.writing.push_parts.Given as goal
 

@@ -1,4 +1,4 @@
-use Rattle.encoded_words.specs.Values.{value_of}
+use Rattle.encoded_words.specs.private.Values.{value_of}
 use Rattle.param_2231.proofs.PartLemmas.{IsPartOf-cut, IsCuttable-drop}
 use Rattle.param_2231.proofs.writing.split_part.Goals as goal
 

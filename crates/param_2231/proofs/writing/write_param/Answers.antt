@@ -1,5 +1,5 @@
 use Rattle.std.proofs.lemmas.Result.{on_ok_weaker}
-use Rattle.encoded_words.specs.Values.{value_of}
+use Rattle.encoded_words.specs.private.Values.{value_of}
 use Rattle.param_2231.proofs.WrittenParamLemmas.{ComesInParams-writable, AddsPieces-reads}
 use Rattle.param_2231.proofs.writing.write_param.Goals as goal
 

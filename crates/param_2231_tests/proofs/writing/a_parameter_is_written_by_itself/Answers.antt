@@ -1,5 +1,5 @@
 use Rattle.std.proofs.Common.{sym, subst}
-use Rattle.encoded_words.specs.Values.{value_of}
+use Rattle.encoded_words.specs.private.Values.{value_of}
 use Rattle.param_2231.specs.WrittenParam.{ComesInParams}
 use Rattle.param_2231.proofs.WrittenParamLemmas.{ComesInParams-first}
 use Rattle.param_2231_tests.proofs.writing.a_parameter_is_written_by_itself.Goals as goal

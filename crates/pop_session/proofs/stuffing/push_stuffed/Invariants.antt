@@ -1,5 +1,5 @@
 use Rattle.std.proofs.Common.{◌≡◌, ◌++◌, drop}
-use Rattle.pop_session.specs.Stuffing.{place_after, stuffed_from}
+use Rattle.pop_session.specs.private.Stuffing.{place_after, stuffed_from}
 use Rattle.pop_session.proofs.stuffing.push_stuffed.Given as goal
 
 abbrev pub invariant-loop-octet : goal.invariant-loop-octet

@@ -1,5 +1,5 @@
 use Rattle.std.proofs.Common.{ℕ}
-use Rattle.address_lists.specs.Addresses.{address_text}
+use Rattle.address_grammar.specs.Addresses.{address_text}
 use Rattle.address_lists.proofs.PathPiecesLemmas.{paths_read}
 use Rattle.mail_store.specs.Changing.{account_refusal}
 use Rattle.mail_store.specs.Kept.{Kept}

@@ -1,5 +1,5 @@
 use Rattle.std.proofs.Common.{sym, subst}
-use Rattle.address_lists.specs.Paths.{ComesInPath}
+use Rattle.address_grammar.specs.Paths.{ComesInPath}
 use Rattle.smtp_session.proofs.rows.has_remote.Goals as goal
 
 pub is_same_remote-requires-clause-a : goal.is_same_remote-requires-clause-a

@@ -4,7 +4,7 @@ use Rattle.mail_store.proofs.DoingLemmas.{StopsIn-none}
 use Rattle.mail_store.specs.Acts.{acts_of}
 use Rattle.smtp_session.specs.Machine.{end_by}
 use Rattle.smtp_session.specs.Session.{line_octets}
-use Rattle.smtp_session.specs.Steps.{content_of}
+use Rattle.smtp_session.specs.private.Steps.{content_of}
 use Rattle.smtp_session.proofs.EndLemmas.{Makes-fails, delivered_name, found_stored}
 use Rattle.smtp_session.proofs.session.deliver.Goals as goal
 

@@ -8,7 +8,7 @@ use Rattle.smtp_session.specs.declared.states.Smtp.{Smtp}
 use Rattle.mail_wire.specs.Dots.{unstuffed}
 use Rattle.smtp_session.specs.Machine.{Step, acts_in, end_data}
 use Rattle.smtp_session.specs.Session.{line_octets}
-use Rattle.smtp_session.specs.Steps.{content_of, moment_of}
+use Rattle.smtp_session.specs.private.Steps.{content_of, moment_of}
 use Rattle.smtp_session.proofs.EndLemmas.{Does-refused, dropped_is, end_deliverable, end_is}
 use Rattle.smtp_session.proofs.session.end_data.Goals as goal
 

@@ -3,7 +3,7 @@ use Rattle.std.proofs.lemmas.Result.{err_from_is_err_and}
 use Rattle.smtp_session.specs.declared.states.Greeted.{Greeted}
 use Rattle.smtp_session.specs.declared.states.Smtp.{Smtp}
 use Rattle.smtp_session.specs.Machine.{end_by}
-use Rattle.smtp_session.specs.Steps.{content_of}
+use Rattle.smtp_session.specs.private.Steps.{content_of}
 use Rattle.smtp_session.proofs.EndLemmas.{Does-answered, Does-undelivered}
 use Rattle.smtp_session.proofs.session.finish_data.Goals as goal
 

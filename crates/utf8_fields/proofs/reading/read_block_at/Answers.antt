@@ -5,7 +5,7 @@ use Rattle.std.proofs.lemmas.Slice.{between_to_end}
 use Rattle.std.proofs.lemmas.Result.{err_from_is_err_and}
 use Rattle.mail_wire.specs.Lines.{lines_of}
 use Rattle.utf8_fields.specs.Block.{EndsBlock, HasBlockIn}
-use Rattle.utf8_fields.specs.Steps.{HasRead}
+use Rattle.utf8_fields.specs.private.Steps.{HasRead}
 use Rattle.utf8_fields.proofs.OneBlock.{same_block}
 use Rattle.utf8_fields.proofs.NoFault.{no_fault}
 use Rattle.utf8_fields.proofs.OneFault.{found_or_memory}

@@ -1,16 +1,16 @@
 use Rattle.std.proofs.Common.{◌≡◌, ℕ, ◌∷◌, [], Some, None, Err, length, sym, ap, ap₂, subst, ◌∙◌}
 use Rattle.std.specs.Prelude.{is_some}
 use Rattle.std.proofs.lemmas.Result.{err_from_is_err_and}
-use Rattle.address_lists.specs.Addresses.{address_text}
-use Rattle.address_lists.proofs.WritingLemmas.{path_again}
+use Rattle.address_grammar.specs.Addresses.{address_text}
+use Rattle.address_grammar.proofs.WritingLemmas.{path_again}
 use Rattle.mail_store.specs.declared.changing.NewAccount.{NewAccount}
 use Rattle.mail_store.specs.declared.changing.StoreFault.TheVariants as faults
 use Rattle.mail_store.specs.declared.records.Record.TheVariants as records
 use Rattle.mail_store.specs.Addresses.{IsTextOf}
 use Rattle.mail_store.specs.Changing.{account_refusal, IsRefusedAs}
-use Rattle.mail_store.specs.Delivering.{room_refusal}
-use Rattle.mail_store.specs.Names.{number_of, PutsName}
-use Rattle.mail_store.specs.Store.{kept_of, indexes_of, state_of}
+use Rattle.mail_store.specs.private.Delivering.{room_refusal}
+use Rattle.mail_store.specs.private.Names.{number_of, PutsName}
+use Rattle.mail_store.specs.private.Store.{kept_of, indexes_of, state_of}
 use Rattle.mail_store.specs.StoreState.{StoreState}
 use Rattle.mail_store.proofs.ChangeLemmas.{changes-unwritten, refused-unwritten, changes-written, text-one}
 use Rattle.mail_store.proofs.DomainLemmas.{AreIndexes-same_mailboxes}

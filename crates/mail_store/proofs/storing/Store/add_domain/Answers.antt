@@ -4,8 +4,8 @@ use Rattle.mail_store.specs.declared.changing.Named.{Named}
 use Rattle.mail_store.specs.declared.records.Record.TheVariants as records
 use Rattle.mail_store.specs.Addresses.{IsDomainText}
 use Rattle.mail_store.specs.Changing.{domain_refusal}
-use Rattle.mail_store.specs.Names.{number_of, PutsName}
-use Rattle.mail_store.specs.Store.{kept_of, indexes_of, state_of}
+use Rattle.mail_store.specs.private.Names.{number_of, PutsName}
+use Rattle.mail_store.specs.private.Store.{kept_of, indexes_of, state_of}
 use Rattle.mail_store.specs.StoreState.{StoreState}
 use Rattle.std.proofs.lemmas.Result.{err_from_is_err_and}
 use Rattle.mail_store.proofs.AccountLemmas.{refused_as}

@@ -1,6 +1,6 @@
 use Rattle.std.proofs.Common.{arith, ◌<◌, length}
 use Rattle.mail_store.specs.declared.limits.TheConstants.{THINGS_MAX}
-use Rattle.mail_store.specs.Store.{kept_of, indexes_of}
+use Rattle.mail_store.specs.private.Store.{kept_of, indexes_of}
 use Rattle.mail_store.proofs.IndexLemmas.{AreIndexes-folder}
 use Rattle.mail_store.proofs.storing.Store.add_folder_record.Goals as goal
 

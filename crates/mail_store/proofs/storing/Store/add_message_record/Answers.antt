@@ -3,8 +3,8 @@ use Rattle.std.specs.List.{All}
 use Rattle.std.proofs.lemmas.List.Elements.{All-push, All-nil}
 use Rattle.mail_store.specs.declared.kept.Message.{Message}
 use Rattle.mail_store.specs.declared.limits.TheConstants.{THINGS_MAX}
-use Rattle.mail_store.specs.Chains.{AreChained}
-use Rattle.mail_store.specs.Store.{kept_of, indexes_of}
+use Rattle.mail_store.specs.private.Chains.{AreChained}
+use Rattle.mail_store.specs.private.Store.{kept_of, indexes_of}
 use Rattle.mail_store.specs.Stored.{IsStored}
 use Rattle.mail_store.proofs.IndexLemmas.{AreIndexes-messages}
 use Rattle.mail_store.proofs.storing.Store.add_message_record.Goals as goal

@@ -4,7 +4,7 @@ use Rattle.mail_store.specs.declared.records.Record.TheVariants as records
 use Rattle.mail_store.specs.Records.{IsAddress, IsInOrder, HasRoom, recipient_count}
 use Rattle.mail_store.specs.Stored.{IsStored}
 use Rattle.mail_store.specs.StoreState.{StoreState, with_record}
-use Rattle.mail_store.specs.Store.{kept_of}
+use Rattle.mail_store.specs.private.Store.{kept_of}
 use Rattle.mail_store.proofs.QueueLemmas.{refutes, too_many, few_enough}
 use Rattle.mail_store.proofs.storing.Store.add_queue_record.Goals.{then-not-has_room-via-then-not-has_room, then-not-has_room-via-else-not-has_room+then-are_too_many, then-not-has_room-via-else-not-has_room+else-are_too_many+in_ok-is_path_text+then-not-branch, then-not-has_room-via-else-not-has_room+else-are_too_many+in_ok-is_path_text+else-not-branch+in_ok-are_addresses+then-not-branch-2}
 use Rattle.mail_store.proofs.storing.Store.add_queue_record.Goals as goal

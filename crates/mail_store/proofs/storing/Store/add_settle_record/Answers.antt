@@ -1,4 +1,4 @@
-use Rattle.mail_store.specs.Store.{kept_of, indexes_of}
+use Rattle.mail_store.specs.private.Store.{kept_of, indexes_of}
 use Rattle.mail_store.proofs.IndexLemmas.{AreIndexes-settled}
 use Rattle.mail_store.proofs.storing.Store.add_settle_record.Goals as goal
 

@@ -7,11 +7,11 @@ use Rattle.mail_store.specs.declared.kept.Entry.{Entry}
 use Rattle.mail_store.specs.declared.kept.Message.{Message}
 use Rattle.mail_store.specs.declared.limits.TheConstants.{THINGS_MAX}
 use Rattle.mail_store.specs.Changing.{inboxes_of, IsDeliverable, delivered, delivery_refusal}
-use Rattle.mail_store.specs.Delivering.{copied}
+use Rattle.mail_store.specs.private.Delivering.{copied}
 use Rattle.mail_store.specs.Kept.{after_all}
 use Rattle.mail_store.specs.Records.{AreRecords}
 use Rattle.mail_store.specs.Spelling.{record_text}
-use Rattle.mail_store.specs.Store.{kept_of, indexes_of, state_of}
+use Rattle.mail_store.specs.private.Store.{kept_of, indexes_of, state_of}
 use Rattle.mail_store.specs.StoreState.{StoreState}
 use Rattle.mail_store.proofs.AccountLemmas.{refused_as}
 use Rattle.mail_store.proofs.ChangeLemmas.{changes-unwritten, changes-written, refused-unwritten}

@@ -2,7 +2,7 @@ use Rattle.std.proofs.Common.{◌≡◌, ℕ, true, false, eqb, List, length, re
 use Rattle.std.proofs.lemmas.Result.{err_from_is_err_and}
 use Rattle.std.specs.List.{list_all}
 use Rattle.mail_store.specs.Changing.{is_live, expunged}
-use Rattle.mail_store.specs.Store.{kept_of, state_of}
+use Rattle.mail_store.specs.private.Store.{kept_of, state_of}
 use Rattle.mail_store.proofs.ChangeLemmas.{changes-unwritten, changes-written}
 use Rattle.mail_store.proofs.ExpungeLemmas.{all_within, AreRecords-expunged, none_expunged}
 use Rattle.mail_store.proofs.storing.Store.expunge.Goals as goal

@@ -1,7 +1,7 @@
 use Rattle.std.proofs.Common.{◌≡◌, ◌∙◌, ◌<◌, length, subst, IfSome}
 use Rattle.mail_store.specs.Addresses.{WithPaths}
 use Rattle.mail_store.specs.Kept.{find_account}
-use Rattle.mail_store.specs.Store.{kept_of, indexes_of}
+use Rattle.mail_store.specs.private.Store.{kept_of, indexes_of}
 use Rattle.mail_store.specs.StoreState.{StoreState}
 use Rattle.mail_store.proofs.MailboxLemmas.{found_is, found_known}
 use Rattle.mail_store.proofs.storing.Store.find_account.Goals as goal

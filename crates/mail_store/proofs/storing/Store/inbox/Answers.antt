@@ -1,6 +1,6 @@
 use Rattle.std.proofs.Common.{arith, refl, sym, ◌∙◌, ◌<◌, length, subst}
 use Rattle.std.proofs.lemmas.Option.{slice_get_read}
-use Rattle.mail_store.specs.Store.{kept_of}
+use Rattle.mail_store.specs.private.Store.{kept_of}
 use Rattle.mail_store.specs.StoreState.{StoreState}
 use Rattle.mail_store.proofs.IndexLemmas.{first_folder_within}
 use Rattle.mail_store.proofs.storing.Store.inbox.Goals as goal

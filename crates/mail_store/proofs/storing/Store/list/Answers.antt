@@ -1,4 +1,4 @@
-use Rattle.mail_store.specs.Store.{kept_of, indexes_of}
+use Rattle.mail_store.specs.private.Store.{kept_of, indexes_of}
 use Rattle.mail_store.proofs.Answering.{folder_chain}
 use Rattle.mail_store.proofs.storing.Store.list.Goals as goal
 

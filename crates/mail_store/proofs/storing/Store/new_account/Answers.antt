@@ -3,7 +3,7 @@ use Rattle.std.proofs.lemmas.Result.{err_from_is_err_and}
 use Rattle.address_lists.proofs.PathPiecesLemmas.{path_parts}
 use Rattle.mail_store.specs.declared.changing.NewAccount.{NewAccount}
 use Rattle.mail_store.specs.Changing.{IsRefusedAs}
-use Rattle.mail_store.specs.Delivering.{room_refusal}
+use Rattle.mail_store.specs.private.Delivering.{room_refusal}
 use Rattle.mail_store.proofs.AccountLemmas.{refused_as}
 use Rattle.mail_store.proofs.storing.Store.new_account.Goals as goal
 

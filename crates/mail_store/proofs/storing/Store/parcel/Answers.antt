@@ -2,7 +2,7 @@ use Rattle.std.proofs.Common.{◌≡◌, ◌||◌, false, true, Some, None, sym,
 use Rattle.std.specs.Option.{option_to_list}
 use Rattle.mail_store.specs.declared.changing.StoreFault.TheVariants as faults
 use Rattle.mail_store.specs.Changing.{IsDeliverable, delivery_refusal}
-use Rattle.mail_store.specs.Store.{state_of}
+use Rattle.mail_store.specs.private.Store.{state_of}
 use Rattle.mail_store.proofs.DeliveryLemmas.{delivered-text, queued-writable, delivery_large, delivery_taken, delivery_free}
 use Rattle.mail_store.proofs.storing.Store.parcel.Goals as goal
 

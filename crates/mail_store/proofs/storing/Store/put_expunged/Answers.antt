@@ -1,5 +1,5 @@
 use Rattle.mail_store.specs.Kept.{change_at, gone}
-use Rattle.mail_store.specs.Store.{kept_of, indexes_of}
+use Rattle.mail_store.specs.private.Store.{kept_of, indexes_of}
 use Rattle.mail_store.proofs.SameMessages.{AreSameMessages-gone}
 use Rattle.mail_store.proofs.IndexLemmas.{AreIndexes-changed}
 use Rattle.mail_store.proofs.storing.Store.put_expunged.Goals as goal

@@ -1,5 +1,5 @@
 use Rattle.std.proofs.Common.{◌≡◌, ◌≤◌, ◌+◌, drop}
-use Rattle.pop_session.specs.Top.{all_behind, count_from}
+use Rattle.pop_session.specs.private.Top.{all_behind, count_from}
 use Rattle.pop_session.proofs.top.Scan.read_piece.Given as goal
 
 abbrev pub invariant-loop-octet : goal.invariant-loop-octet

@@ -4,7 +4,7 @@ use Rattle.utf8_fields.specs.Block.{raw_of}
 use Rattle.field_downgrade.specs.Message.{IsServed}
 use Rattle.field_downgrade.proofs.BlockFields.{no_field}
 use Rattle.surrogate_rope.specs.Layout.{InEntity}
-use Rattle.surrogate_rope.specs.Building.{AddsField, AddsBlock}
+use Rattle.surrogate_rope.specs.private.Building.{AddsField, AddsBlock}
 use Rattle.surrogate_rope.proofs.AddedFields.{no_fields, field_more, in_entity, block_few}
 use Rattle.surrogate_rope.proofs.building.Made.push_block.Goals as goal
 

@@ -2,7 +2,7 @@ use Rattle.std.proofs.Common.{take, map}
 use Rattle.utf8_fields.specs.Block.{raw_of}
 use Rattle.field_downgrade.specs.Message.{IsServed}
 use Rattle.surrogate_rope.specs.Layout.{InEntity}
-use Rattle.surrogate_rope.specs.Building.{AddsBlock}
+use Rattle.surrogate_rope.specs.private.Building.{AddsBlock}
 use Rattle.surrogate_rope.proofs.building.Made.push_block.Given as goal
 
 abbrev pub invariant-loop-field : goal.invariant-loop-field

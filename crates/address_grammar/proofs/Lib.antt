@@ -1,0 +1,16 @@
+pub mod Positions
+pub mod LexemeLemmas
+pub mod DottedLemmas
+pub mod ContentLemmas
+pub mod AddressLemmas
+pub mod PathLemmas
+pub mod Utf8Lemmas
+pub mod SoundLemmas
+pub mod WritingLemmas
+pub mod PhraseReading
+pub mod WalkLemmas
+pub mod MailboxLemmas
+pub mod DividedLemmas
+pub mod ListLemmas
+pub mod ListSaying
+pub mod WholeLists

@@ -1,0 +1,57 @@
+-- One address, and its text (RFC 5322, 3.4.1; RFC 6532, 3.2).
+use Rattle.std.specs.Prelude.{◌≡◌, ℕ, ◌==◌, Bool, true, false, ◌||◌, if◌then◌else◌, List, [], ◌∷◌, ◌++◌}
+use Rattle.std.specs.List.{flat_map, list_all, slice_split}
+use Rattle.field_tokens.specs.declared.Style.TheVariants.{Mail}
+use Rattle.field_tokens.specs.Tokens.{TokenValue}
+use Rattle.field_tokens.specs.TokenOctets.{is_atom_octet}
+use Rattle.address_grammar.specs.declared.Address.{Address}
+use Rattle.address_grammar.specs.private.Lexemes.{is_mark, is_part, is_literal_kind, words_of, contents, are_dotted}
+
+-- atoms and quoted strings divided by dots
+abbrev pub IsLocal : List TokenValue → Type 0
+IsLocal tokens = are_dotted (is_part true) (words_of tokens) ≡ true
+
+abbrev pub is_one_literal : List TokenValue → Bool
+is_one_literal [] = false
+is_one_literal (word ∷ []) = is_literal_kind word.kind
+is_one_literal (word ∷ next ∷ words) = false
+
+-- atoms divided by dots, or a literal
+abbrev pub is_domain : List TokenValue → Bool
+is_domain tokens = are_dotted (is_part false) (words_of tokens) || is_one_literal (words_of tokens)
+
+-- a local part, `@` and a domain, and what they say
+pub record IsAddress (tokens : List TokenValue) (address : Address) : Type 0 where
+  pub local : List TokenValue
+  pub at : TokenValue
+  pub domain : List TokenValue
+  pub whole : tokens ≡ local ++ at ∷ domain
+  pub is_at : is_mark 64 at ≡ true
+  pub is_local : IsLocal local
+  pub is_domain : is_domain domain ≡ true
+  pub local_says : address.local ≡ contents local
+  pub domain_says : address.domain ≡ contents domain
+
+-- ---- the text of an address
+
+abbrev pub is_some_atom : List ℕ → Bool
+is_some_atom [] = false
+is_some_atom (x ∷ octets) = list_all (is_atom_octet Mail) (x ∷ octets)
+
+-- atoms divided by dots (RFC 5322, 3.2.3, dot-atom-text)
+abbrev pub is_dot_atom : List ℕ → Bool
+is_dot_atom octets = list_all is_some_atom (slice_split (λ x. x == 46) octets)
+
+-- an octet of a quoted string's content: a quote and a backslash are quoted
+abbrev pub quoted_octet : ℕ → List ℕ
+quoted_octet x = if (x == 34) || (x == 92) then 92 ∷ x ∷ [] else x ∷ []
+
+abbrev pub quoted_string : List ℕ → List ℕ
+quoted_string content = 34 ∷ (flat_map quoted_octet content ++ 34 ∷ [])
+
+-- a local part as it stands where it is atoms divided by dots, and else as a quoted string
+abbrev pub local_text : List ℕ → List ℕ
+local_text local = if is_dot_atom local then local else quoted_string local
+
+abbrev pub address_text : Address → List ℕ
+address_text address = local_text address.local ++ 64 ∷ address.domain

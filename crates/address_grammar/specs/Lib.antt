@@ -1,0 +1,5 @@
+pub mod Addresses
+pub mod Paths
+pub mod Phrases
+pub mod AddressLists
+pub mod private

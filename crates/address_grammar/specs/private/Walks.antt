@@ -1,0 +1,36 @@
+-- Where a list's places end: at a comma outside angle brackets and groups.
+use Rattle.std.specs.Prelude.{◌≡◌, ◌≢◌, ℕ, ◌+◌, ◌<◌, true, if◌then◌else◌, List, [], ◌∷◌, ◌++◌, length, take, drop, Option, Some, None}
+use Rattle.field_tokens.specs.Tokens.{TokenValue}
+use Rattle.address_grammar.specs.declared.lexemes.Lexeme.{Lexeme}
+use Rattle.address_grammar.specs.private.Lexemes.{is_mark}
+use Rattle.address_grammar.specs.private.Views.{values_of}
+
+-- what is awaited behind a token: where nothing is, `>` behind `<` and `;` behind `:`. A comma ends the place.
+abbrev pub awaited_behind : Option ℕ → TokenValue → Option (Option ℕ)
+awaited_behind None t = if is_mark 44 t then None else (if is_mark 60 t then Some (Some 62) else (if is_mark 58 t then Some (Some 59) else Some None))
+awaited_behind (Some mark) t = if is_mark mark t then Some None else Some (Some mark)
+
+abbrev pub and_then : Option (Option ℕ) → (Option ℕ → Option (Option ℕ)) → Option (Option ℕ)
+and_then None f = None
+and_then (Some awaited) f = f awaited
+
+-- what is awaited behind tokens, or nothing where the place ends within them
+abbrev pub walk : Option ℕ → List TokenValue → Option (Option ℕ)
+walk awaited [] = Some awaited
+walk awaited (t ∷ tokens) = and_then (awaited_behind awaited t) (λ next. walk next tokens)
+
+-- the tokens are a place, a comma and rest
+pub record SplitsPlace (tokens place rest : List TokenValue) : Type 0 where
+  pub comma : TokenValue
+  pub whole : tokens ≡ place ++ comma ∷ rest
+  pub is_comma : is_mark 44 comma ≡ true
+  pub walked : walk None place ≡ Some None
+
+-- no place ends within the tokens
+abbrev pub IsLastPlace : List TokenValue → Type 0
+IsLastPlace tokens = walk None tokens ≢ None
+
+-- the first place of a list ends at the comma there
+pub record EndsAt (lexemes : List Lexeme) (at : ℕ) : Type 0 where
+  pub within : at < length lexemes
+  pub splits : SplitsPlace (values_of lexemes) (values_of (take at lexemes)) (values_of (drop (at + 1) lexemes))

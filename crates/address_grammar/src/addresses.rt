@@ -1,0 +1,109 @@
+//! One address.
+ghost use Rattle.std.specs.Prelude.{◌≡◌, ◌<◌, length, IfOk, IfSome, IfNone};
+ghost use Rattle.address_grammar.specs.private.Lexemes.{words_of, is_mark as is_mark_of, is_part as is_part_of, BeginsSo, BeginsOther, are_dotted as are_dotted_of};
+ghost use Rattle.address_grammar.specs.private.Views.{value_of, values_of};
+ghost use Rattle.address_grammar.specs.Addresses.{is_one_literal as is_one_literal_of, is_domain as is_domain_of, IsAddress};
+ghost use Rattle.address_grammar.specs.declared.Address.{Address};
+
+use crate::lexemes::{
+    Lexeme, are_blank, contents, first_word, is_atom, is_mark, is_word, split_at_mark,
+};
+use crate::{Address, AddressFault};
+use field_tokens::TokenKind;
+use std::alloc::Global;
+
+// What may stand between dots: an atom, or where it is allowed a quoted string.
+fn is_part(lexeme: Lexeme<'_>, allows_quoted: bool) -> bool
+    ensures { result ≡ is_part_of allows_quoted (value_of lexeme.entry) }
+{
+    if allows_quoted {
+        is_word(lexeme)
+    } else {
+        is_atom(lexeme)
+    }
+}
+
+// What stands behind the first word, where that may stand between dots.
+fn part_rest<'a, 'b>(lexemes: &'b [Lexeme<'a>], allows_quoted: bool) -> Option<&'b [Lexeme<'a>]>
+    ensures found { IfSome result (λ rest. BeginsSo (is_part_of allows_quoted) (values_of lexemes.now) (values_of rest.now)) }
+    ensures shorter { IfSome result (λ rest. length rest.now < length lexemes.now) }
+    ensures none { IfNone result (BeginsOther (is_part_of allows_quoted) (values_of lexemes.now)) }
+{
+    let Some((word, rest)) = first_word(lexemes) else {
+        return None;
+    };
+    if is_part(word, allows_quoted) {
+        Some(rest)
+    } else {
+        None
+    }
+}
+
+// What stands behind the first word, where that is a dot.
+fn dot_rest<'a, 'b>(lexemes: &'b [Lexeme<'a>]) -> Option<&'b [Lexeme<'a>]>
+    ensures found { IfSome result (λ rest. BeginsSo (is_mark_of 46) (values_of lexemes.now) (values_of rest.now)) }
+    ensures shorter { IfSome result (λ rest. length rest.now < length lexemes.now) }
+    ensures none { IfNone result (BeginsOther (is_mark_of 46) (values_of lexemes.now)) }
+{
+    let Some((word, rest)) = first_word(lexemes) else {
+        return None;
+    };
+    if is_mark(word, b'.') {
+        Some(rest)
+    } else {
+        None
+    }
+}
+
+fn are_dotted(lexemes: &[Lexeme<'_>], allows_quoted: bool) -> bool
+    ensures { result ≡ are_dotted_of (is_part_of allows_quoted) (words_of (values_of lexemes.now)) }
+{
+    let Some(mut rest) = part_rest(lexemes, allows_quoted) else {
+        return false;
+    };
+    while let Some(behind) = dot_rest(rest) {
+        let Some(after) = part_rest(behind, allows_quoted) else {
+            return false;
+        };
+        rest = after;
+    }
+    are_blank(rest)
+}
+
+fn is_one_literal(lexemes: &[Lexeme<'_>]) -> bool
+    ensures { result ≡ is_one_literal_of (words_of (values_of lexemes.now)) }
+{
+    let Some((word, after)) = first_word(lexemes) else {
+        return false;
+    };
+    matches!(word.kind, TokenKind::Literal) && first_word(after).is_none()
+}
+
+pub fn is_domain(lexemes: &[Lexeme<'_>]) -> bool
+    ensures { result ≡ is_domain_of (values_of lexemes.now) }
+{
+    are_dotted(lexemes, false) || is_one_literal(lexemes)
+}
+
+/// The address that tokens are.
+pub fn read_address(alloc: Global, lexemes: &[Lexeme<'_>]) -> Result<Address, AddressFault>
+    ensures ok { IfOk result (IsAddress (values_of lexemes.now)) }
+    ensures malformed { result ≡ Err AddressFault.Malformed → (address : Address) → ¬ IsAddress (values_of lexemes.now) address }
+{
+    let Some((local, domain)) = split_at_mark(lexemes, b'@') else {
+        return Err(AddressFault::Malformed);
+    };
+    if !are_dotted(local, true) {
+        return Err(AddressFault::Malformed);
+    }
+    if !is_domain(domain) {
+        return Err(AddressFault::Malformed);
+    }
+    let Ok(local) = contents(alloc, local) else {
+        return Err(AddressFault::Memory);
+    };
+    let Ok(domain) = contents(alloc, domain) else {
+        return Err(AddressFault::Memory);
+    };
+    Ok(Address { local, domain })
+}

@@ -1,0 +1,220 @@
+//! Lists of addresses.
+ghost use Rattle.std.specs.Prelude.{◌≡◌, List, IfOk, IfSome, IfNone, OnOk, MatchResult};
+ghost use Rattle.field_tokens.specs.declared.Style.TheVariants.{Mail};
+ghost use Rattle.field_tokens.specs.Tokens.{TokenValue, HasTokens, IsTokenOf};
+ghost use Rattle.field_tokens.specs.Trees.{Tree};
+ghost use Rattle.address_grammar.specs.AddressLists.{MailboxValue, ElementValue, IsMailbox, AreDivided, IsOneMailbox, AreMembers, IsElement, SaysPlace, HaveTrees, comments_of, HasAddresses};
+ghost use Rattle.address_grammar.specs.private.ListSteps.{AddsMailbox, AddsPlace, AddsTree, SplitsName, SaysGroup, SaysSingle, IsListOf};
+ghost use Rattle.address_grammar.specs.private.Views.{values_of};
+ghost use Rattle.address_grammar.specs.private.ListViews.{mailbox_values, element_value, element_values, trees_of};
+
+use crate::lexemes::{Lexeme, are_blank, lacks_mark, lexemes_of, mail_tokens, split_at_mark};
+use crate::mailboxes::read_mailbox;
+use crate::phrases::{is_phrase, read_phrase};
+use crate::places::find_comma;
+use crate::{AddressFault, AddressList, Element, Elements, Mailbox, Mailboxes, Units};
+use field_tokens::{Comment, Token, TokenKind, comment_tree};
+use mail_wire::Memory;
+use std::alloc::Global;
+
+fn push_mailbox(
+    alloc: Global,
+    made: &mut Vec<Mailbox>,
+    lexemes: &[Lexeme<'_>],
+) -> Result<(), AddressFault>
+    ensures ok { OnOk result (AddsMailbox (values_of lexemes.now) made.old.items made.new.items) }
+    ensures malformed { result ≡ Err AddressFault.Malformed → (ms : List MailboxValue) → ¬ IsOneMailbox (values_of lexemes.now) ms }
+{
+    let mailbox = read_mailbox(alloc, lexemes)?;
+    let Ok(()) = made.push(mailbox) else {
+        return Err(AddressFault::Memory);
+    };
+    Ok(())
+}
+
+// Mailboxes divided by commas.
+fn read_mailboxes(alloc: Global, lexemes: &[Lexeme<'_>]) -> Result<Vec<Mailbox>, AddressFault>
+    ensures ok { IfOk result (λ made. AreDivided IsOneMailbox (values_of lexemes.now) (mailbox_values made.items)) }
+    ensures malformed { result ≡ Err AddressFault.Malformed → (ms : List MailboxValue) → ¬ AreDivided IsOneMailbox (values_of lexemes.now) ms }
+{
+    let mut made = Vec::new(alloc);
+    let mut start = 0;
+    loop {
+        let rest = &lexemes[start..];
+        let Some(at) = find_comma(rest) else {
+            push_mailbox(alloc, &mut made, rest)?;
+            return Ok(made);
+        };
+        let (part, _) = rest.split_at(at);
+        push_mailbox(alloc, &mut made, part)?;
+        start += at + 1;
+    }
+}
+
+// The members of a group.
+fn read_members(alloc: Global, lexemes: &[Lexeme<'_>]) -> Result<Mailboxes, AddressFault>
+    ensures ok { IfOk result (λ made. AreMembers (values_of lexemes.now) (mailbox_values made)) }
+    ensures malformed { result ≡ Err AddressFault.Malformed → (ms : List MailboxValue) → ¬ AreMembers (values_of lexemes.now) ms }
+{
+    if are_blank(lexemes) {
+        return Ok(Mailboxes::from_vec(Vec::new(alloc)));
+    }
+    let members = read_mailboxes(alloc, lexemes)?;
+    Ok(Mailboxes::from_vec(members))
+}
+
+// What stands before the first colon, and what stands behind it, where no angle bracket opens before it: a group's name,
+// and its members.
+fn split_name<'a, 'b>(lexemes: &'b [Lexeme<'a>]) -> Option<(&'b [Lexeme<'a>], &'b [Lexeme<'a>])>
+    ensures found { IfSome result (λ x. SplitsName (values_of lexemes.now) (values_of x.0.now) (values_of x.1.now)) }
+    ensures none { IfNone result ((before behind : List TokenValue) → ¬ SplitsName (values_of lexemes.now) before behind) }
+{
+    let Some((before, behind)) = split_at_mark(lexemes, b':') else {
+        return None;
+    };
+    if lacks_mark(before, b'<') {
+        Some((before, behind))
+    } else {
+        None
+    }
+}
+
+// The group of this name, of what stands behind its colon.
+fn read_group(
+    alloc: Global,
+    name: &[Lexeme<'_>],
+    behind: &[Lexeme<'_>],
+) -> Result<Element, AddressFault>
+    ensures ok { IfOk result (λ e. SaysGroup (values_of name.now) (values_of behind.now) (element_value e)) }
+    ensures malformed { result ≡ Err AddressFault.Malformed → (e : ElementValue) → ¬ SaysGroup (values_of name.now) (values_of behind.now) e }
+{
+    let Some((inner, after)) = split_at_mark(behind, b';') else {
+        return Err(AddressFault::Malformed);
+    };
+    if !are_blank(after) {
+        return Err(AddressFault::Malformed);
+    }
+    if !is_phrase(name) {
+        return Err(AddressFault::Malformed);
+    }
+    let members = read_members(alloc, inner)?;
+    let Ok(name) = read_phrase(alloc, name) else {
+        return Err(AddressFault::Memory);
+    };
+    Ok(Element::Group {
+        name: Units::from_vec(name),
+        members,
+    })
+}
+
+fn read_single(alloc: Global, lexemes: &[Lexeme<'_>]) -> Result<Element, AddressFault>
+    ensures ok { IfOk result (λ e. SaysSingle (values_of lexemes.now) (element_value e)) }
+    ensures malformed { result ≡ Err AddressFault.Malformed → (m : MailboxValue) → ¬ IsMailbox (values_of lexemes.now) m }
+{
+    let mailbox = read_mailbox(alloc, lexemes)?;
+    Ok(Element::Mailbox(mailbox))
+}
+
+pub fn read_element(alloc: Global, lexemes: &[Lexeme<'_>]) -> Result<Element, AddressFault>
+    ensures ok { IfOk result (λ e. IsElement (values_of lexemes.now) (element_value e)) }
+    ensures malformed { result ≡ Err AddressFault.Malformed → (e : ElementValue) → ¬ IsElement (values_of lexemes.now) e }
+{
+    match split_name(lexemes) {
+        Some((name, behind)) => read_group(alloc, name, behind),
+        None => read_single(alloc, lexemes),
+    }
+}
+
+// Puts the element of a place last, if it has one.
+fn push_place(
+    alloc: Global,
+    made: &mut Vec<Element>,
+    lexemes: &[Lexeme<'_>],
+) -> Result<(), AddressFault>
+    ensures ok { OnOk result (AddsPlace (values_of lexemes.now) made.old.items made.new.items) }
+    ensures malformed { result ≡ Err AddressFault.Malformed → (es : List ElementValue) → ¬ SaysPlace (values_of lexemes.now) es }
+{
+    if are_blank(lexemes) {
+        return Ok(());
+    }
+    let element = read_element(alloc, lexemes)?;
+    let Ok(()) = made.push(element) else {
+        return Err(AddressFault::Memory);
+    };
+    Ok(())
+}
+
+// Places divided by commas.
+fn read_elements(alloc: Global, lexemes: &[Lexeme<'_>]) -> Result<Vec<Element>, AddressFault>
+    ensures ok { IfOk result (λ made. AreDivided SaysPlace (values_of lexemes.now) (element_values made.items)) }
+    ensures malformed { result ≡ Err AddressFault.Malformed → (es : List ElementValue) → ¬ AreDivided SaysPlace (values_of lexemes.now) es }
+{
+    let mut made = Vec::new(alloc);
+    let mut start = 0;
+    loop {
+        let rest = &lexemes[start..];
+        let Some(at) = find_comma(rest) else {
+            push_place(alloc, &mut made, rest)?;
+            return Ok(made);
+        };
+        let (place, _) = rest.split_at(at);
+        push_place(alloc, &mut made, place)?;
+        start += at + 1;
+    }
+}
+
+fn push_comment(
+    alloc: Global,
+    made: &mut Vec<Comment>,
+    text: &[u8],
+    token: &Token,
+) -> Result<(), Memory>
+    requires { IsTokenOf text.now token.now }
+    ensures { OnOk result (AddsTree text.now token.now made.old.items made.new.items) }
+{
+    match token.kind {
+        TokenKind::Comment => {
+            let comment = comment_tree(alloc, text, token)?;
+            made.push(comment)?;
+            Ok(())
+        }
+        TokenKind::Atom
+        | TokenKind::Quoted
+        | TokenKind::Literal
+        | TokenKind::Special
+        | TokenKind::Gap => Ok(()),
+    }
+}
+
+// The comments among tokens.
+fn read_comments(alloc: Global, text: &[u8], tokens: &[Token]) -> Result<Vec<Comment>, Memory>
+    requires { HasTokens Mail text.now tokens.now }
+    ensures { IfOk result (λ made. HaveTrees text.now (comments_of tokens.now) (trees_of made.items)) }
+{
+    let mut made = Vec::new(alloc);
+    for token in tokens {
+        push_comment(alloc, &mut made, text, token)?;
+    }
+    Ok(made)
+}
+
+/// The elements of a list of addresses, and its comments. The time is linear in the text's length, whatever it holds.
+pub fn read_list(alloc: Global, text: &[u8]) -> Result<AddressList, AddressFault>
+    ensures ok { IfOk result (λ list. HasAddresses text.now (element_values list.elements) (trees_of list.comments.items)) }
+    ensures malformed { result ≡ Err AddressFault.Malformed → (elements : List ElementValue) (comments : List Tree) → ¬ HasAddresses text.now elements comments }
+    ensures exact { (elements : List ElementValue) (comments : List Tree) → HasAddresses text.now elements comments
+        → MatchResult result (IsListOf elements comments) (λ fault. fault ≡ AddressFault.Memory) }
+{
+    let found = mail_tokens(alloc, text)?;
+    let Ok(lexemes) = lexemes_of(alloc, text, &found) else {
+        return Err(AddressFault::Memory);
+    };
+    let elements = read_elements(alloc, &lexemes)?;
+    let Ok(comments) = read_comments(alloc, text, &found) else {
+        return Err(AddressFault::Memory);
+    };
+    Ok(AddressList {
+        elements: Elements::from_vec(elements),
+        comments,
+    })
+}

@@ -1,0 +1,153 @@
+//! Phrases.
+ghost use Rattle.std.specs.Prelude.{◌≡◌, ◌&&◌, not, [], ◌∷◌, true, if◌then◌else◌, IfOk, OnOk, IsTrue, ◌↔◌};
+ghost use Rattle.std.specs.List.{list_all};
+ghost use Rattle.encoded_words.specs.private.Merging.{units_then};
+ghost use Rattle.encoded_words.specs.PhraseUnits.{HasPhraseUnits, begins_free as begins_free_of};
+ghost use Rattle.address_grammar.specs.private.Lexemes.{is_atom as is_atom_of};
+ghost use Rattle.address_grammar.specs.Phrases.{may_stand_in_phrase as may_stand_of, IsPhrase, phrase_items};
+ghost use Rattle.address_grammar.specs.private.PhraseSteps.{TakesPart, IsFreshReader, TakesToken};
+ghost use Rattle.address_grammar.specs.private.Views.{value_of, values_of};
+ghost use Rattle.address_grammar.specs.private.ListViews.{unit_values};
+
+use crate::lexemes::{Lexeme, are_blank, content, is_atom, is_blank, is_mark, is_word};
+use encoded_words::{Merging, Unit};
+use mail_wire::Memory;
+use std::alloc::Global;
+
+// Words, dots, gaps and comments.
+fn may_stand_in_phrase(lexeme: Lexeme<'_>) -> bool
+    ensures { result ≡ may_stand_of (value_of lexeme.entry) }
+{
+    is_blank(lexeme) || is_word(lexeme) || is_mark(lexeme, b'.')
+}
+
+fn all_stand_in_phrase(lexemes: &[Lexeme<'_>]) -> bool
+    ensures { result ≡ list_all (λ l. may_stand_of (value_of l)) lexemes.now }
+{
+    lexemes.iter().all(|lexeme| may_stand_in_phrase(*lexeme))
+}
+
+pub fn is_phrase(lexemes: &[Lexeme<'_>]) -> bool
+    ensures { IsTrue result ↔ IsPhrase (values_of lexemes.now) }
+{
+    !are_blank(lexemes) && all_stand_in_phrase(lexemes)
+}
+
+// One space where words stand apart.
+fn space(is_apart: bool) -> &'static [u8]
+    ensures { result.now ≡ (if is_apart then 32 ∷ [] else []) }
+{
+    if is_apart { b" " } else { b"" }
+}
+
+// Takes a word and the run before it, and answers whether it is an encoded word.
+fn push_part(
+    alloc: Global,
+    units: &mut Merging,
+    run: &[u8],
+    after_encoded: bool,
+    word: &[u8],
+    may_be_encoded: bool,
+) -> Result<bool, Memory>
+    ensures { IfOk result (TakesPart units.old units.new run.now after_encoded word.now may_be_encoded) }
+{
+    if may_be_encoded {
+        return units.push_word(alloc, run, after_encoded, word);
+    }
+    units.push_text(run)?;
+    units.push_text(word)?;
+    Ok(false)
+}
+
+// The reader of the units of a phrase: whether a separator stands behind the last word, or nothing was read, and whether
+// that word was an encoded word.
+#[derive(Drop)]
+struct PhraseReader {
+    units: Merging,
+    is_first: bool,
+    is_free: bool,
+    after_encoded: bool,
+}
+
+impl PhraseReader {
+    fn new(alloc: Global) -> Self
+        ensures { IsFreshReader result }
+    {
+        PhraseReader {
+            units: Merging::new(alloc),
+            is_first: true,
+            is_free: true,
+            after_encoded: false,
+        }
+    }
+
+    // Whether a space stands before the next word.
+    fn is_apart(&self) -> bool
+        ensures { result ≡ (self.now.is_free && not self.now.is_first) }
+    {
+        self.is_free && !self.is_first
+    }
+
+    // Whether the next word, before which the reader stands, may be an encoded word.
+    fn may_be_encoded(&self, lexeme: Lexeme<'_>, is_next_free: bool) -> bool
+        ensures { result ≡ ((self.now.is_free && is_next_free) && is_atom_of (value_of lexeme.entry)) }
+    {
+        self.is_free && is_next_free && is_atom(lexeme)
+    }
+
+    // Takes the next token.
+    fn take(&mut self, alloc: Global, lexeme: Lexeme<'_>, is_next_free: bool) -> Result<(), Memory>
+        requires { may_stand_of (value_of lexeme) ≡ true }
+        ensures { OnOk result (TakesToken self.old self.new (value_of lexeme.entry) is_next_free) }
+    {
+        if is_blank(lexeme) {
+            self.is_free = true;
+            return Ok(());
+        }
+        let word = content(alloc, lexeme)?;
+        let run = space(self.is_apart());
+        let may_be_encoded = self.may_be_encoded(lexeme, is_next_free);
+        self.after_encoded = push_part(
+            alloc,
+            &mut self.units,
+            run,
+            self.after_encoded,
+            word.as_slice(),
+            may_be_encoded,
+        )?;
+        self.is_first = false;
+        self.is_free = false;
+        Ok(())
+    }
+
+    // The units that were read.
+    fn finish(self, alloc: Global) -> Result<Vec<Unit>, Memory>
+        ensures { IfOk result (λ made. unit_values made.items ≡ units_then self.units []) }
+    {
+        let mut units = self.units;
+        units.end_text(alloc)?;
+        Ok(units.into_done())
+    }
+}
+
+// Whether the tokens begin with a gap or a comment, or there are none.
+fn begins_free(lexemes: &[Lexeme<'_>]) -> bool
+    ensures { result ≡ begins_free_of (phrase_items (values_of lexemes.now)) }
+{
+    match lexemes {
+        [lexeme, ..] => is_blank(*lexeme),
+        [] => true,
+    }
+}
+
+/// What a phrase says.
+pub fn read_phrase(alloc: Global, lexemes: &[Lexeme<'_>]) -> Result<Vec<Unit>, Memory>
+    requires { IsPhrase (values_of lexemes.now) }
+    ensures { IfOk result (λ units. HasPhraseUnits (phrase_items (values_of lexemes.now)) (unit_values units.items)) }
+{
+    let mut reader = PhraseReader::new(alloc);
+    for (at, lexeme) in lexemes.iter().enumerate() {
+        reader.take(alloc, *lexeme, begins_free(&lexemes[at + 1..]))?;
+    }
+    reader.finish(alloc)
+}

@@ -1,8 +1,0 @@
-use Rattle.std.proofs.Common.{not, sym, ◌∙◌}
-use Rattle.std.proofs.lemmas.List.Folds.{list_all-map}
-use Rattle.address_lists.specs.Lexemes.{is_mark}
-use Rattle.address_lists.specs.Views.{value_of}
-use Rattle.address_lists.proofs.lexemes.lacks_mark.Goals as goal
-
-pub returns : goal.returns
-returns c = c.all_other.ensures ∙ sym (list_all-map (λ t. not (is_mark c.args.mark t)) value_of c.args.lexemes.now)

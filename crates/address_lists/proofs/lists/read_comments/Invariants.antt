@@ -1,7 +1,0 @@
-use Rattle.std.proofs.Common.{take}
-use Rattle.address_lists.specs.AddressLists.{comments_of, HaveTrees}
-use Rattle.address_lists.specs.ListViews.{trees_of}
-use Rattle.address_lists.proofs.lists.read_comments.Given as goal
-
-abbrev pub invariant-loop-token : goal.invariant-loop-token
-invariant-loop-token l = HaveTrees l.text (comments_of (take l.token-index l.tokens)) (trees_of l.made.items)

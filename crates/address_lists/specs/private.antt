@@ -1,0 +1,4 @@
+-- What private functions answer.
+pub mod PhraseReadBack
+pub mod PhraseListSteps
+pub mod ListWriting

@@ -1,0 +1,154 @@
+-- How the writer of lists goes on.
+use Rattle.std.specs.Prelude.{◌≡◌, ℕ, Bool, not, ◌&&◌, ◌||◌, List, [], ◌∷◌, ◌++◌, IsUtf8, codes, true, false, if◌then◌else◌}
+use Rattle.std.specs.List.{AllByRecursion, list_all, list_any, flat_map}
+use Rattle.mail_wire.specs.Octets.{is_ascii}
+use Rattle.encoded_words.specs.declared.units.Merging.{Merging}
+use Rattle.encoded_words.specs.Words.{UnitValue, Text}
+use Rattle.encoded_words.specs.private.Merging.{units_then, onto}
+use Rattle.encoded_words.specs.PhraseUnits.{IsUtf8Item}
+use Rattle.encoded_words.specs.Written.{AreWritable, WriteAll}
+use Rattle.field_tokens.specs.Tokens.{TokenValue}
+use Rattle.field_tokens.specs.Squeezed.{is_gap, octets_of, comments_of}
+use Rattle.field_tokens.specs.Comments.{AreWritableComments, CommentsPieces}
+use Rattle.address_grammar.specs.private.Lexemes.{is_mark, is_blank_token, are_blank, content}
+use Rattle.address_grammar.specs.Addresses.{address_text}
+use Rattle.address_grammar.specs.Phrases.{phrase_items}
+use Rattle.address_grammar.specs.Paths.{in_angles}
+use Rattle.address_lists.specs.PhrasePieces.{PhrasePieces, HasCore}
+use Rattle.address_grammar.specs.AddressLists.{MailboxValue, IsMailbox, IsOneMailbox, AreMembers, IsGroup, ElementValue, AreDivided, SaysPlace}
+use Rattle.address_lists.specs.ListPieces.{is_plain, member_units, no_members, HasText, with_comma, MemberPieces, MembersPieces, PlaceOfListPieces, PlacesPieces}
+
+-- ---- what can be written
+
+abbrev pub SaysUtf8 : TokenValue → Type 0
+SaysUtf8 t = IsUtf8 (content t)
+
+-- what stands in a text can be written
+pub record CanBeWritten (tokens : List TokenValue) : Type 0 where
+  pub items : AllByRecursion IsUtf8Item (phrase_items tokens)
+  pub comments : AreWritableComments (comments_of tokens)
+  pub says : AllByRecursion SaysUtf8 tokens
+
+-- a mailbox of UTF-8
+pub record IsWritableMailbox (m : MailboxValue) : Type 0 where
+  pub display : AreWritable m.display
+  pub text : IsUtf8 (address_text m.address)
+  pub domain : IsUtf8 m.address.domain
+
+abbrev pub AreWritableMailboxes : List MailboxValue → Type 0
+AreWritableMailboxes ms = AllByRecursion IsWritableMailbox ms
+
+-- ---- units
+
+-- units before units: text that touches text is one
+abbrev pub all_onto : List UnitValue → List UnitValue → List UnitValue
+all_onto [] us = us
+all_onto (u ∷ added) us = onto u (all_onto added us)
+
+-- these units were taken
+pub record TakesUnits (old new : Merging) (added : List UnitValue) : Type 0 where
+  pub units : (us : List UnitValue) → units_then new us ≡ units_then old (all_onto added us)
+
+-- the phrase of a mailbox, and a space
+abbrev pub display_units : MailboxValue → List UnitValue
+display_units m = m.display ++ (if m.phrase then Text (32 ∷ []) ∷ [] else [])
+
+-- members behind the first one
+abbrev pub other_units : List MailboxValue → List UnitValue
+other_units ms = flat_map (λ m. Text (codes ", ") ∷ member_units m) ms
+
+-- ---- pieces
+
+-- one piece, without the gaps at both ends
+abbrev pub AsciiPieces : List TokenValue → List (List ℕ) → Type 0
+AsciiPieces tokens pieces = (text : List TokenValue) × HasText tokens text × (pieces ≡ octets_of text ∷ [])
+
+-- the pieces of units, a group without members, and then all comments
+pub record EmptiedPieces (units : List UnitValue) (tokens : List TokenValue) (pieces : List (List ℕ)) : Type 0 where
+  pub words : List (List ℕ)
+  pub comments : List (List ℕ)
+  pub write : WriteAll units words
+  pub comments_are : CommentsPieces (comments_of tokens) comments
+  pub pieces_are : pieces ≡ words ++ no_members ∷ comments
+
+-- the pieces of a phrase, an address in angle brackets, and then the other comments
+pub record NamedPieces (before behind : List TokenValue) (address : List ℕ) (pieces : List (List ℕ)) : Type 0 where
+  pub core : List TokenValue
+  pub trail : List TokenValue
+  pub has_core : HasCore before core trail
+  pub first : List (List ℕ)
+  pub comments : List (List ℕ)
+  pub phrase : PhrasePieces (list_all is_ascii (octets_of core)) core first
+  pub comments_are : CommentsPieces (comments_of (trail ++ behind)) comments
+  pub pieces_are : pieces ≡ first ++ in_angles address ∷ comments
+
+abbrev pub EndsNoGap : List TokenValue → Type 0
+EndsNoGap [] = Unit {0}
+EndsNoGap (t ∷ []) = is_gap t.kind ≡ false
+EndsNoGap (t ∷ next ∷ tokens) = EndsNoGap (next ∷ tokens)
+
+-- front goes to the last token that is no gap
+pub record SplitsGaps (tokens front : List TokenValue) : Type 0 where
+  pub trail : List TokenValue
+  pub whole : tokens ≡ front ++ trail
+  pub ends : EndsNoGap front
+  pub gaps : list_all (λ t. is_gap t.kind) trail ≡ true
+
+-- a token of an element, which no empty place has
+abbrev pub is_element_token : TokenValue → Bool
+is_element_token t = not (is_blank_token t || is_mark 44 t)
+
+-- a group all of whose addresses can be served
+pub record IsPlainGroup (tokens : List TokenValue) : Type 0 where
+  pub name : List UnitValue
+  pub members : List MailboxValue
+  pub group : IsGroup tokens name members
+  pub plain : list_all is_plain members ≡ true
+
+-- ---- what is known to be read
+
+-- the tokens are a mailbox
+abbrev pub IsSomeMailbox : List TokenValue → Type 0
+IsSomeMailbox tokens = (m : MailboxValue) × IsMailbox tokens m
+
+-- the tokens are mailboxes divided by commas
+abbrev pub AreSomeMailboxes : List TokenValue → Type 0
+AreSomeMailboxes tokens = (ms : List MailboxValue) × AreDivided IsOneMailbox tokens ms
+
+-- the tokens are the members of a group
+abbrev pub AreSomeMembers : List TokenValue → Type 0
+AreSomeMembers tokens = (ms : List MailboxValue) × AreMembers tokens ms
+
+-- ---- what was written
+
+-- the tokens are a member, with these pieces
+pub record GivesMember (tokens : List TokenValue) (pieces : List (List ℕ)) : Type 0 where
+  pub member : MailboxValue
+  pub says : IsMailbox tokens member
+  pub gives : MemberPieces (list_all is_ascii (octets_of tokens)) tokens pieces
+
+-- the tokens are members, with these pieces
+pub record GivesMembers (tokens : List TokenValue) (pieces : List (List ℕ)) : Type 0 where
+  pub members : List MailboxValue
+  pub are_members : AreDivided IsOneMailbox tokens members
+  pub pieces_are : MembersPieces are_members.parts pieces
+
+-- the tokens are a place, with these pieces
+pub record GivesPlace (tokens : List TokenValue) (pieces : List (List ℕ)) : Type 0 where
+  pub elements : List ElementValue
+  pub says : SaysPlace tokens elements
+  pub gives : PlaceOfListPieces (are_blank tokens) tokens pieces
+
+-- and behind it stand these tokens
+pub record GivesFollowed (place behind : List TokenValue) (pieces : List (List ℕ)) : Type 0 where
+  pub elements : List ElementValue
+  pub says : SaysPlace place elements
+  pub first : List (List ℕ)
+  pub gives : PlaceOfListPieces (are_blank place) place first
+  pub pieces_are : pieces ≡ (if not (are_blank place) && list_any is_element_token behind then with_comma first else first)
+
+-- the tokens are a list, with these pieces
+pub record GivesPlaces (tokens : List TokenValue) (pieces : List (List ℕ)) : Type 0 where
+  pub elements : List ElementValue
+  pub are_elements : AreDivided SaysPlace tokens elements
+  pub pieces_are : PlacesPieces are_elements.parts pieces

@@ -1,0 +1,5 @@
+-- What private functions answer.
+pub mod CommentReading
+pub mod Parts
+pub mod Values
+pub mod Merging

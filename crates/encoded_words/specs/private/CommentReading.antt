@@ -1,0 +1,53 @@
+-- How the reader takes the text of a comment.
+use Rattle.std.specs.Prelude.{◌≡◌, ℕ, Bool, true, ◌&&◌, not, if◌then◌else◌, List, [], ◌∷◌, ◌++◌, map, Option, is_some}
+use Rattle.std.specs.List.{flat_map, list_all, list_any}
+use Rattle.mail_wire.specs.Octets.{is_black}
+use Rattle.mail_wire.specs.Spans.{Stops}
+use Rattle.encoded_words.specs.declared.units.Merging.{Merging}
+use Rattle.encoded_words.specs.Words.{UnitValue, SaysWhere}
+use Rattle.encoded_words.specs.Units.{with_text, word_unit}
+use Rattle.encoded_words.specs.CommentUnits.{TextItem, AreTextItems, item_spelling, item_octet, has_backslash, is_white_item}
+use Rattle.encoded_words.specs.private.Merging.{units_then, onto}
+
+-- the text begins with items, rest follows them, and whatever items rest has, they go on with it
+pub record BeginsWith (text : List ℕ) (items : List TextItem) (rest : List ℕ) : Type 0 where
+  pub whole : text ≡ flat_map item_spelling items ++ rest
+  pub onward : (more : List TextItem) → AreTextItems more → rest ≡ flat_map item_spelling more → AreTextItems (items ++ more)
+
+-- an item that gives this octet comes first
+pub record BeginsItem (text : List ℕ) (octet : ℕ) (rest : List ℕ) : Type 0 where
+  pub item : TextItem
+  pub begins : BeginsWith text (item ∷ []) rest
+  pub octet_is : octet ≡ item_octet item
+
+-- an item comes first that isn't white
+pub record BeginsBlack (text rest : List ℕ) : Type 0 where
+  pub item : TextItem
+  pub begins : BeginsWith text (item ∷ []) rest
+  pub black : not (is_white_item item) ≡ true
+
+-- the word is the longest front of items that aren't white, and after follows it
+pub record SplitsWord (text word after : List ℕ) : Type 0 where
+  pub items : List TextItem
+  pub begins : BeginsWith text items after
+  pub spelled : word ≡ flat_map item_spelling items
+  pub black : list_all (λ i. not (is_white_item i)) items ≡ true
+  pub stops : Stops is_black after
+
+-- the text is spelled by items that give these octets
+pub record GivesOctets (text octets : List ℕ) : Type 0 where
+  pub items : List TextItem
+  pub are : AreTextItems items
+  pub spelled : text ≡ flat_map item_spelling items
+  pub octets_are : octets ≡ map item_octet items
+
+-- a word was taken, and the run of white before it: it is an encoded word or not
+pub record TakesCommentWord (old new : Merging) (run : List ℕ) (after_encoded : Bool) (word : List ℕ) (encoded : Bool) : Type 0 where
+  pub items : List TextItem
+  pub are : AreTextItems items
+  pub spelled : word ≡ flat_map item_spelling items
+  pub says : Option UnitValue
+  pub says_is : SaysWhere (not (list_any has_backslash items)) (map item_octet items) says
+  pub encoded_is : encoded ≡ is_some says
+  pub units : (us : List UnitValue) → units_then new us
+      ≡ units_then old (with_text (if after_encoded && encoded then [] else run) (onto (word_unit says (map item_octet items)) us))

@@ -1,0 +1,5 @@
+-- What private functions answer.
+pub mod PlainSteps
+pub mod ReceivedSteps
+pub mod Views
+pub mod Steps

@@ -1,0 +1,34 @@
+-- How a store stands for what it keeps.
+use Rattle.std.specs.Prelude.{◌≤◌}
+use Rattle.mail_store.specs.declared.limits.TheConstants.{MESSAGE_MAX}
+use Rattle.mail_store.specs.declared.storing.Store.TheInside.{Inside}
+use Rattle.mail_store.specs.Kept.{Kept}
+use Rattle.mail_store.specs.private.Names.{number_of}
+use Rattle.mail_store.specs.StoreState.{StoreState, Indexes, AreIndexes}
+
+abbrev pub kept_of : Inside → Kept
+kept_of a = record {
+  accounts = a.accounts.items;
+  domains = a.domains.items;
+  folders = a.folders.items;
+  messages = a.messages.items;
+  entries = a.entries.items;
+}
+
+abbrev pub indexes_of : Inside → Indexes
+indexes_of a = record {
+  contents = a.contents.items;
+  previous = a.previous.items;
+  inboxes = a.inboxes.items;
+  mailboxes = number_of a.mailboxes;
+  locals = number_of a.locals;
+  recipients = a.recipients;
+}
+
+abbrev pub state_of : Inside → StoreState
+state_of a = record { kept = kept_of a; message_max = a.message_max; failed = a.failed }
+
+-- the indexes are right, and the limit of a message is within what a record can have
+pub record IsIndexed (a : Inside) : Type 0 where
+  pub indexes : AreIndexes (kept_of a) (indexes_of a)
+  pub message_bound : a.message_max ≤ MESSAGE_MAX

@@ -1,6 +1,0 @@
-use Rattle.std.proofs.Common.{◌≡◌, ◌++◌, drop}
-use Rattle.param_2231.specs.Escapes.{escaped}
-use Rattle.param_2231.proofs.escapes.push_escaped.Given as goal
-
-abbrev pub invariant-loop-octet : goal.invariant-loop-octet
-invariant-loop-octet l = l.made ++ escaped (drop l.octet-index l.octets) ≡ l.initial.made ++ escaped l.octets

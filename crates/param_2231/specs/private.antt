@@ -1,0 +1,3 @@
+-- What private functions answer.
+pub mod Parts
+pub mod Given

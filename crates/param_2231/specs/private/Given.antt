@@ -1,0 +1,35 @@
+-- What the steps of the rewriting give.
+use Rattle.std.specs.Prelude.{◌≡◌, ℕ, Bool, true, false, if◌then◌else◌, List, [], ◌∷◌, ◌++◌}
+use Rattle.std.specs.Str.{str_to_ascii_lowercase}
+use Rattle.encoded_words.specs.Words.{Text}
+use Rattle.encoded_words.specs.private.Values.{value_of}
+use Rattle.field_tokens.specs.declared.Style.TheVariants.{Mime}
+use Rattle.field_tokens.specs.declared.Token.{Token}
+use Rattle.field_tokens.specs.Tokens.{HasTokens}
+use Rattle.field_tokens.specs.Squeezed.{comments_of, run_octets}
+use Rattle.field_tokens.specs.Comments.{CommentsPieces}
+use Rattle.param_grammar.specs.declared.ParamKind.{ParamKind}
+use Rattle.param_grammar.specs.declared.Piece.{Piece}
+use Rattle.param_grammar.specs.declared.role.Role.{Role}
+use Rattle.param_grammar.specs.declared.role.Role.TheVariants.{GoesOn, Begins}
+use Rattle.param_grammar.specs.Bodies.{solid, IsBody}
+use Rattle.param_2231.specs.Layout.{GivesWhere}
+use Rattle.param_2231.specs.private.Parts.{IsWritableUnit}
+
+-- what a piece of this role gives
+abbrev pub RoleGives : Piece → Role → List (List ℕ) → Type 0
+RoleGives piece (GoesOn is_ascii) pieces = GivesWhere is_ascii true false piece.written piece.base (Text []) pieces
+RoleGives piece (Begins unit is_ascii is_doubled) pieces = GivesWhere is_ascii false is_doubled piece.written piece.base (value_of unit) pieces
+
+-- the unit of a parameter that begins can be written
+abbrev pub IsWritableRole : Role → Type 0
+IsWritableRole (GoesOn is_ascii) = IsWritableUnit (Text [])
+IsWritableRole (Begins unit is_ascii is_doubled) = IsWritableUnit (value_of unit)
+
+-- a piece, with a semicolon where it isn't the last one
+abbrev pub ended : Bool → List ℕ → List ℕ
+ended is_last piece = if is_last then piece else piece ++ 59 ∷ []
+
+-- these are the pieces of the comments among the tokens of the text
+abbrev pub GiveComments : List ℕ → List Token → List (List ℕ) → Type 0
+GiveComments text tokens pieces = (has : HasTokens Mime text tokens) → CommentsPieces (comments_of has.values) pieces

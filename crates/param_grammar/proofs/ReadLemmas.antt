@@ -1,0 +1,124 @@
+-- Values, parameters and bodies are read.
+use Rattle.std.proofs.Common.{◌≡◌, ◌≢◌, ℕ, ◌==◌, Bool, true, false, List, [], ◌∷◌, ◌++◌, length, filter, refl, sym, ap, ◌∙◌, subst, arith}
+use Rattle.std.proofs.lemmas.Bool.{cond-true, cond-false, true≢false}
+use Rattle.std.proofs.lemmas.Bool.Decides.{nat_tests}
+use Rattle.std.proofs.lemmas.List.{append-nil}
+use Rattle.field_tokens.specs.declared.Style.TheVariants.{Mime}
+use Rattle.field_tokens.specs.declared.Token.{Token}
+use Rattle.std.specs.Str.{str_to_ascii_lowercase}
+use Rattle.field_tokens.specs.Squeezed.{is_comment, run_octets}
+use Rattle.field_tokens.specs.Tokens.{HasTokens}
+use Rattle.field_tokens.specs.Trees.{Tree}
+use Rattle.field_tokens.proofs.TokenLists.{HasTokens-once}
+use Rattle.param_grammar.specs.declared.ParamKind.{ParamKind}
+use Rattle.param_grammar.specs.declared.Piece.{Piece}
+use Rattle.param_grammar.specs.Escapes.{IsEscaped}
+use Rattle.param_grammar.specs.Extended.{IsExtended}
+use Rattle.param_grammar.specs.Names.{NameParts, HasNameParts}
+use Rattle.param_grammar.specs.Bodies.{unquoted, is_main, is_filled, HaveComments, IsBody, sections_of, solid, content_of, is_first, SaysOctets, SplitsSection, IsParameterOf, IsPieceOf, IsPiece, ArePieces, HasBody, WritesBody}
+use Rattle.param_grammar.proofs.ExtendedLemmas.{IsExtended-once}
+use Rattle.param_grammar.proofs.NameLemmas.{HasNameParts-once}
+use Rattle.param_grammar.proofs.BodyLemmas.{piece_moved}
+
+-- quoted pairs
+pub unquoted_other : (octets after : List ℕ) (first : ℕ) → octets ≡ first ∷ after → first ≢ 92 → unquoted octets ≡ first ∷ unquoted after
+unfolding unquoted
+unquoted_other octets [] first e other = rw e refl
+unquoted_other octets (y ∷ rest) first e other =
+    let test : (first == 92) ≡ false = grind (arith, nat_tests) in
+    rw e (cond-false _ _ _ test)
+
+pub unquoted_last : (octets after : List ℕ) (first : ℕ) → octets ≡ first ∷ after → length after ≡ 0 → unquoted octets ≡ first ∷ unquoted after
+unfolding unquoted
+unquoted_last octets [] first e end = rw e refl
+unquoted_last octets (y ∷ rest) first e end = absurd (let never : ⊥ = omega (arith, end) in never)
+
+pub unquoted_pair : (octets after rest : List ℕ) (first y : ℕ) → octets ≡ first ∷ after → first ≡ 92 → after ≡ y ∷ rest → unquoted octets ≡ y ∷ unquoted rest
+unfolding unquoted
+unquoted_pair octets after rest first y e is f = ap unquoted (e ∙ ap (λ r. first ∷ r) f) ∙ cond-true _ _ _ (let test : (first == 92) ≡ true = grind (arith, nat_tests) in test)
+
+pub unquoted_end : (made octets rest : List ℕ) → length rest ≡ 0 → made ++ unquoted rest ≡ unquoted octets → made ≡ unquoted octets
+unfolding unquoted
+unquoted_end made octets [] end e = sym (append-nil made) ∙ e
+unquoted_end made octets (x ∷ rest) end e = absurd (let never : ⊥ = omega (arith, end) in never)
+
+-- values
+pub not-SaysOctets-text : (content charset text : List ℕ) → IsExtended content charset text → ((octets : List ℕ) → IsEscaped text octets → ⊥)
+    → (other octets : List ℕ) → SaysOctets true true content other octets → ⊥
+not-SaysOctets-text content charset text is none other octets says =
+    none octets (subst (λ t. IsEscaped t octets) (IsExtended-once content other says.0 charset text says.1 is).1 says.2)
+
+pub not-SaysOctets-more : (extended first : Bool) (content : List ℕ) → extended ≡ true → first ≡ false → ((octets : List ℕ) → IsEscaped content octets → ⊥)
+    → (charset octets : List ℕ) → SaysOctets extended first content charset octets → ⊥
+not-SaysOctets-more true false content e f none charset octets says = none octets says.1
+not-SaysOctets-more false first content e f none charset octets says = absurd (true≢false (sym e))
+not-SaysOctets-more true true content e f none charset octets says = absurd (true≢false f)
+
+pub not-IsPieceOf-octets : (text name : List ℕ) (value : List Token) (p : NameParts) → HasNameParts name p
+    → ((charset octets : List ℕ) → SaysOctets p.is_extended (is_first p.number) (content_of text value) charset octets → ⊥) → (piece : Piece) → IsPieceOf text name value piece → ⊥
+not-IsPieceOf-octets text name value p has none piece is =
+    let parts = HasNameParts-once name is.parts p is.has_parts has in
+    none piece.charset piece.octets (subst (λ (n : NameParts). SaysOctets n.is_extended (is_first n.number) (content_of text value) piece.charset piece.octets) parts is.says)
+
+pub not-IsPiece-parameter : (text : List ℕ) (section solids : List Token) → solids ≡ solid section → ((name : List ℕ) (value : List Token) → IsParameterOf text solids name value → ⊥)
+    → (piece : Piece) → IsPiece text section piece → ⊥
+not-IsPiece-parameter text section solids e none piece is = none is.name is.value (subst (λ s. IsParameterOf text s is.name is.value) (sym e) is.is_parameter)
+
+pub not-IsPiece-piece : (text : List ℕ) (section solids : List Token) (name : List ℕ) (value : List Token) → solids ≡ solid section → IsParameterOf text solids name value
+    → ((piece : Piece) → IsPieceOf text name value piece → ⊥) → (piece : Piece) → IsPiece text section piece → ⊥
+not-IsPiece-piece text section solids name value e is none piece has =
+    none piece (piece_moved text section name value piece (subst (λ s. IsParameterOf text s name value) e is) has)
+
+-- bodies
+abbrev filled : List ℕ → List Token → List (List Token)
+filled text tokens = filter is_filled (sections_of text tokens)
+
+pub not-HasBody-tokens : (kind : ParamKind) (text : List ℕ) → ((tokens : List Token) → HasTokens Mime text tokens → ⊥)
+    → (main : List ℕ) (pieces : List Piece) (trees : List Tree) → HasBody kind text main pieces trees → ⊥
+not-HasBody-tokens kind text none main pieces trees b = none b.tokens b.has_tokens
+
+pub not-HasBody-parts : (kind : ParamKind) (text : List ℕ) (tokens : List Token) → HasTokens Mime text tokens → ((main : List ℕ) (pieces : List Piece) → IsBody kind text tokens main pieces → ⊥)
+    → (main : List ℕ) (pieces : List Piece) (trees : List Tree) → HasBody kind text main pieces trees → ⊥
+not-HasBody-parts kind text tokens has none main pieces trees b =
+    none main pieces (subst (λ ts. IsBody kind text ts main pieces) (HasTokens-once Mime text b.tokens tokens b.has_tokens has) b.is_body)
+
+same_sections : (kind : ParamKind) (text : List ℕ) (tokens first behind : List Token) (main : List ℕ) (pieces : List Piece) → (s : SplitsSection text tokens first behind)
+    → (b : IsBody kind text tokens main pieces) → b.first ∷ b.others ≡ first ∷ s.others
+same_sections kind text tokens first behind main pieces s b = sym b.sections ∙ s.first
+
+pub not-IsBody-main : (kind : ParamKind) (text : List ℕ) (tokens first behind solids : List Token) → SplitsSection text tokens first behind → solids ≡ solid first → is_main kind text solids ≡ false
+    → (main : List ℕ) (pieces : List Piece) → IsBody kind text tokens main pieces → ⊥
+not-IsBody-main kind text tokens first behind solids s e none main pieces b =
+    let same = same_sections kind text tokens first behind main pieces s b in
+    let f : b.first ≡ first = cc same in
+    true≢false (sym b.is_main_part ∙ ap (λ m. is_main kind text (solid m)) f ∙ ap (is_main kind text) (sym e) ∙ none)
+
+pub not-IsBody-pieces : (kind : ParamKind) (text : List ℕ) (tokens first behind : List Token) → SplitsSection text tokens first behind
+    → ((pieces : List Piece) → ArePieces text (filled text behind) pieces → ⊥) → (main : List ℕ) (pieces : List Piece) → IsBody kind text tokens main pieces → ⊥
+not-IsBody-pieces kind text tokens first behind s none main pieces b =
+    let same = same_sections kind text tokens first behind main pieces s b in
+    let o : b.others ≡ s.others = cc same in
+    none pieces (subst (λ f. ArePieces text f pieces) (ap (filter is_filled) o ∙ s.same) b.are_pieces)
+
+pub WritesBody-read : (kind : ParamKind) (text : List ℕ) (tokens first behind solids : List Token) (written : List ℕ) (pieces : List Piece) → SplitsSection text tokens first behind → solids ≡ solid first
+    → is_main kind text solids ≡ true → ArePieces text (filled text behind) pieces → written ≡ run_octets text solids → WritesBody kind text tokens written pieces
+WritesBody-read kind text tokens first behind solids written pieces s e main are w = record {
+  body = record {
+    first = first;
+    others = s.others;
+    sections = s.first;
+    is_main_part = sym (ap (is_main kind text) e) ∙ main;
+    main_is = ap str_to_ascii_lowercase (w ∙ ap (run_octets text) e);
+    are_pieces = subst (λ f. ArePieces text f pieces) (sym s.same) are;
+  };
+  written_is = w ∙ ap (run_octets text) e;
+}
+
+pub HasBody-read : (kind : ParamKind) (text written main : List ℕ) (tokens : List Token) (pieces : List Piece) (trees : List Tree) → HasTokens Mime text tokens → WritesBody kind text tokens written pieces
+    → main ≡ str_to_ascii_lowercase written → HaveComments text (filter (λ (token : Token). is_comment token.kind) tokens) trees → HasBody kind text main pieces trees
+HasBody-read kind text written main tokens pieces trees has w e have = record {
+  tokens = tokens;
+  has_tokens = has;
+  is_body = subst (λ m. IsBody kind text tokens m pieces) (sym e) w.body;
+  have_comments = have;
+}

@@ -1,0 +1,5 @@
+-- What private functions answer.
+pub mod Stuffing
+pub mod Top
+pub mod Asked
+pub mod Saturated
