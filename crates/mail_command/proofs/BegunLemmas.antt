@@ -7,7 +7,7 @@ use Rattle.std.proofs.lemmas.List.Concat.{flat_map-cons}
 use Rattle.std.proofs.lemmas.Option.{IfSome_then}
 use Rattle.mail_wire.specs.declared.outside.Fault.{Fault}
 use Rattle.mail_wire.specs.declared.outside.Fault.TheVariants as fault
-use Rattle.mail_store.specs.declared.records.Record.{Record}
+use Rattle.journal_records.specs.declared.records.Record.{Record}
 use Rattle.mail_store.specs.Acts.{Act, changes_in}
 use Rattle.mail_store.specs.Answers.{OpensTo}
 use Rattle.mail_store.specs.Changing.{IsStoreOf, HoldsFirst}
@@ -16,7 +16,7 @@ use Rattle.mail_store.specs.Following.{records_of, Follows}
 use Rattle.mail_store.specs.Kept.{nothing}
 use Rattle.mail_store.specs.Opening.{HasRecords}
 use Rattle.mail_store.specs.Records.{AreRecords}
-use Rattle.mail_store.specs.Spelling.{journal}
+use Rattle.journal_records.specs.Spelling.{journal}
 use Rattle.mail_store.specs.StoreState.{StoreState}
 use Rattle.mail_store.proofs.DoingLemmas.{records_in-append}
 use Rattle.mail_store.proofs.FollowLemmas.{followed, broken}

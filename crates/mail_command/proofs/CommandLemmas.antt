@@ -6,7 +6,7 @@ use Rattle.address_grammar.specs.declared.Address.{Address}
 use Rattle.mail_store.specs.Answers.{LeavesRecords}
 use Rattle.mail_store.specs.Kept.{Kept}
 use Rattle.mail_store.specs.declared.changing.StoreFault.{StoreFault}
-use Rattle.mail_store.specs.declared.records.Record.{Record}
+use Rattle.journal_records.specs.declared.records.Record.{Record}
 use Rattle.setup_command.specs.AddingRuns.{RunsAdding, Broken, InJournal}
 use Rattle.setup_command.specs.WordForms.{IsAccount, IsDomain}
 use Rattle.setup_command.proofs.FormLemmas.{account_once}

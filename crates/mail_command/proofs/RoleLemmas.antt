@@ -21,7 +21,7 @@ use Rattle.pop_session.specs.Replies as pop_replies
 use Rattle.pop_session.specs.Session as pop
 use Rattle.pop_session.specs.declared.session.PopSession.{PopSession}
 use Rattle.pop_session.proofs.FeedLemmas as pop_lemmas
-use Rattle.smtp_session.specs.Data.{Moment}
+use Rattle.smtp_session.specs.Trace.{Moment}
 use Rattle.smtp_session.specs.Machine as smtp_machine
 use Rattle.smtp_session.specs.Session as smtp
 use Rattle.smtp_session.specs.declared.session.SmtpSession.{SmtpSession}

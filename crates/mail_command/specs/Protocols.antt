@@ -6,12 +6,12 @@ use Rattle.mail_store.specs.Acts.{Act, acts_of, changes_in}
 use Rattle.mail_store.specs.Doing.{given_by}
 use Rattle.mail_store.specs.Kept.{name_of}
 use Rattle.mail_store.specs.StoreState.{StoreState}
-use Rattle.mail_store.specs.declared.records.Record.{Record}
+use Rattle.journal_records.specs.declared.records.Record.{Record}
 use Rattle.surrogate_cache.specs.Served.{Meanings, WithMeanings}
 use Rattle.pop_session.specs.Machine as pop_machine
 use Rattle.pop_session.specs.Replies as pop_replies
 use Rattle.pop_session.specs.Session as pop
-use Rattle.smtp_session.specs.Data.{Moment}
+use Rattle.smtp_session.specs.Trace.{Moment}
 use Rattle.smtp_session.specs.Machine as smtp_machine
 use Rattle.smtp_session.specs.Session as smtp
 use Rattle.mail_command.specs.declared.roles.Role.{Role}

@@ -10,7 +10,7 @@ use Rattle.mail_store.specs.StoreState.{StoreState}
 use Rattle.surrogate_cache.specs.Served.{WithMeanings}
 use Rattle.pop_session.specs.Machine as pop_machine
 use Rattle.pop_session.specs.Session as pop
-use Rattle.smtp_session.specs.Data.{Moment}
+use Rattle.smtp_session.specs.Trace.{Moment}
 use Rattle.smtp_session.specs.Machine as smtp_machine
 use Rattle.smtp_session.specs.Session as smtp
 use Rattle.mail_command.specs.declared.roles.Role.{Role}

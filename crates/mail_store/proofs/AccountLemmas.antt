@@ -9,14 +9,16 @@ use Rattle.mail_store.specs.declared.changing.StoreFault.{StoreFault}
 use Rattle.mail_store.specs.declared.changing.StoreFault.TheVariants as faults
 use Rattle.mail_store.specs.declared.kept.Account.{Account}
 use Rattle.mail_store.specs.declared.kept.Folder.{Folder}
-use Rattle.mail_store.specs.declared.limits.TheConstants.{THINGS_MAX, TEXT_MAX}
-use Rattle.mail_store.specs.declared.records.Record.TheVariants as records
-use Rattle.mail_store.specs.Changing.{are_too_many, account_refusal, IsRefusedAs, IsSendable}
+use Rattle.journal_records.specs.declared.limits.TheConstants.{TEXT_MAX}
+use Rattle.mail_store.specs.declared.limits.TheConstants.{THINGS_MAX}
+use Rattle.journal_records.specs.declared.records.Record.TheVariants as records
+use Rattle.journal_records.specs.Addresses.{IsSendable, mailbox_key}
+use Rattle.mail_store.specs.Changing.{are_too_many, account_refusal, IsRefusedAs}
 use Rattle.mail_store.specs.private.Delivering.{room_refusal}
 use Rattle.mail_store.specs.Kept.{Kept, find_account, inbox, is_local}
-use Rattle.mail_store.specs.private.Names.{mailbox_key, first_mailbox}
+use Rattle.mail_store.specs.private.Names.{first_mailbox}
 use Rattle.mail_store.specs.Records.{AreRecords}
-use Rattle.mail_store.specs.Spelling.{octet_list}
+use Rattle.journal_records.specs.Spelling.{octet_list}
 use Rattle.mail_store.specs.StoreState.{StoreState, Indexes, AreIndexes, with_records}
 use Rattle.mail_store.proofs.ChangeLemmas.{has_room}
 use Rattle.mail_store.proofs.MailboxLemmas.{first_of_key}

@@ -12,7 +12,7 @@ use Rattle.mail_store.specs.Acts.{Act, gives, acts_of, changes_in, act_octets, I
 use Rattle.mail_store.specs.Doing.{given_by, Does}
 use Rattle.mail_store.specs.Following.{records_of, Follows}
 use Rattle.mail_store.specs.StoreState.{StoreState}
-use Rattle.mail_store.specs.declared.records.Record.{Record}
+use Rattle.journal_records.specs.declared.records.Record.{Record}
 use Rattle.mail_store.proofs.DoingLemmas.{Does-more, records_in-append, given_by-append}
 use Rattle.mail_store.proofs.FollowLemmas.{Follows-nil, Follows-more}
 

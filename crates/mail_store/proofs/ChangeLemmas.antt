@@ -5,13 +5,13 @@ use Rattle.std.specs.List.{flat_map}
 use Rattle.std.proofs.lemmas.Bool.{ltb-false}
 use Rattle.mail_wire.specs.Keeping.{with_last}
 use Rattle.mail_store.specs.declared.limits.TheConstants.{THINGS_MAX}
-use Rattle.mail_store.specs.declared.records.Record.{Record}
+use Rattle.journal_records.specs.declared.records.Record.{Record}
 use Rattle.mail_store.specs.declared.changing.StoreFault.{StoreFault}
 use Rattle.mail_store.specs.declared.changing.StoreFault.TheVariants as faults
 use Rattle.mail_store.specs.Changing.{Writes, Changes, IsRefusedAs, are_too_many}
 use Rattle.mail_store.specs.Kept.{Kept, after, after_all}
 use Rattle.mail_store.specs.Records.{AreRecords}
-use Rattle.mail_store.specs.Spelling.{record_text}
+use Rattle.journal_records.specs.Spelling.{record_text}
 use Rattle.mail_store.specs.StoreState.{StoreState, with_records}
 
 pub and_left : (a b : Bool) → (a && b) ≡ true → a ≡ true

@@ -12,18 +12,20 @@ use Rattle.std.proofs.lemmas.Option.{slice_get-get_or}
 use Rattle.std.proofs.lemmas.Bool.{ltb-false, cases_Bool, ne_eqb}
 use Rattle.address_grammar.proofs.WritingLemmas.{path_again}
 use Rattle.mail_store.specs.declared.kept.Message.{Message}
-use Rattle.mail_store.specs.declared.records.Record.{Record}
-use Rattle.mail_store.specs.declared.records.Record.TheVariants as records
-use Rattle.mail_store.specs.Changing.{IsDeliverable, IsSendable, delivered, IsWritable, path_text, queued, copy_for, inboxes_of, has_large_octets, has_many_things, are_too_many, delivery_refusal}
+use Rattle.journal_records.specs.declared.records.Record.{Record}
+use Rattle.journal_records.specs.declared.records.Record.TheVariants as records
+use Rattle.journal_records.specs.Addresses.{IsSendable, path_text, IsAddress}
+use Rattle.journal_records.specs.Spelling.{IsWritable, record_text, octet_list, HasLength, number}
+use Rattle.mail_store.specs.Changing.{IsDeliverable, delivered, queued, copy_for, inboxes_of, has_large_octets, has_many_things, are_too_many, delivery_refusal}
 use Rattle.mail_store.specs.declared.changing.StoreFault.TheVariants as faults
 use Rattle.mail_store.specs.private.Delivering.{copied}
 use Rattle.mail_store.specs.Kept.{Kept, after, after_all, inbox_of}
-use Rattle.mail_store.specs.Grammar.{IsDate}
-use Rattle.mail_store.specs.Records.{AreRecords, IsAddress, recipient_count}
-use Rattle.mail_store.specs.Spelling.{record_text, octet_list, HasLength, number}
-use Rattle.mail_store.specs.Stored.{IsStored}
+use Rattle.journal_records.specs.Grammar.{IsDate}
+use Rattle.mail_store.specs.Records.{AreRecords, recipient_count}
+use Rattle.journal_records.specs.Stored.{IsStored}
 use Rattle.mail_store.specs.StoreState.{StoreState, Indexes, AreIndexes}
-use Rattle.mail_store.specs.declared.limits.TheConstants.{THINGS_MAX, MESSAGE_MAX, TEXT_MAX, RECORD_MAX, RECIPIENTS_MAX}
+use Rattle.journal_records.specs.declared.limits.TheConstants.{TEXT_MAX, RECORD_MAX}
+use Rattle.mail_store.specs.declared.limits.TheConstants.{THINGS_MAX, MESSAGE_MAX, RECIPIENTS_MAX}
 use Rattle.mail_store.proofs.AccountLemmas.{or_parts}
 use Rattle.mail_store.proofs.ChangeLemmas.{has_room}
 use Rattle.mail_store.proofs.IndexLemmas.{first_folder_within}

@@ -12,7 +12,7 @@ use Rattle.mail_store.specs.Acts.{Act, gives, changes, acts_of, changes_in, act_
 use Rattle.mail_store.specs.Doing.{given_by, StopsIn, FailsIn, IsDone, Does}
 use Rattle.mail_store.specs.Following.{records_of, Follows, Breaks}
 use Rattle.mail_store.specs.StoreState.{StoreState}
-use Rattle.mail_store.specs.declared.records.Record.{Record}
+use Rattle.journal_records.specs.declared.records.Record.{Record}
 use Rattle.mail_store.proofs.FollowLemmas.{Follows-nil, Follows-more, Breaks-more, records_of-append}
 
 -- ---- acts

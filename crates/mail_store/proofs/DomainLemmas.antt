@@ -8,9 +8,10 @@ use Rattle.ace_domains.specs.Domains.{normal_form, compared_form}
 use Rattle.ace_domains.proofs.FormLemmas.{form_own, form_name}
 use Rattle.mail_store.specs.declared.changing.StoreFault.TheVariants as faults
 use Rattle.mail_store.specs.declared.limits.TheConstants.{THINGS_MAX}
-use Rattle.mail_store.specs.declared.records.Record.TheVariants as records
-use Rattle.mail_store.specs.Addresses.{IsDomainText}
-use Rattle.mail_store.specs.Changing.{are_too_many, domain_refusal, IsWritable}
+use Rattle.journal_records.specs.declared.records.Record.TheVariants as records
+use Rattle.journal_records.specs.Addresses.{IsDomainText}
+use Rattle.journal_records.specs.Spelling.{IsWritable}
+use Rattle.mail_store.specs.Changing.{are_too_many, domain_refusal}
 use Rattle.mail_store.specs.Kept.{Kept, is_local}
 use Rattle.mail_store.specs.private.Names.{first_name, PutsName}
 use Rattle.mail_store.specs.Records.{AreRecords}

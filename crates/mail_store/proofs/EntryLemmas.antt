@@ -13,15 +13,16 @@ use Rattle.mail_store.specs.declared.delivery.Delivery.{Delivery}
 use Rattle.mail_store.specs.declared.kept.Entry.{Entry}
 use Rattle.mail_store.specs.declared.kept.Message.{Message}
 use Rattle.mail_store.specs.declared.limits.TheConstants.{THINGS_MAX}
-use Rattle.mail_store.specs.declared.records.Record.{Record}
-use Rattle.mail_store.specs.declared.records.Record.TheVariants as records
+use Rattle.journal_records.specs.declared.records.Record.{Record}
+use Rattle.journal_records.specs.declared.records.Record.TheVariants as records
 use Rattle.mail_store.specs.private.Chains.{AreChained}
-use Rattle.mail_store.specs.Changing.{delivered, path_text, queued, copy_for, inboxes_of, has_large_octets, has_many_things}
+use Rattle.journal_records.specs.Addresses.{path_text}
+use Rattle.mail_store.specs.Changing.{delivered, queued, copy_for, inboxes_of, has_large_octets, has_many_things}
 use Rattle.mail_store.specs.private.Delivering.{copied, entry_of}
 use Rattle.mail_store.specs.Kept.{Kept, after_all, waiting}
 use Rattle.mail_store.specs.Records.{AreRecords, recipient_count}
-use Rattle.mail_store.specs.Spelling.{record_text}
-use Rattle.mail_store.specs.Stored.{IsStored}
+use Rattle.journal_records.specs.Spelling.{record_text}
+use Rattle.journal_records.specs.Stored.{IsStored}
 use Rattle.mail_store.specs.StoreState.{StoreState, with_records, Indexes, AreIndexes}
 use Rattle.mail_store.proofs.AccountLemmas.{or_parts}
 use Rattle.mail_store.proofs.ChangeLemmas.{after_all-append, with_nothing}

@@ -4,12 +4,12 @@ use Rattle.std.specs.List.{flat_map}
 use Rattle.std.proofs.lemmas.List.Concat.{flat_map-cons, flat_map-append}
 use Rattle.std.proofs.Math.Seq.{take-append-add}
 use Rattle.mail_wire.specs.Keeping.{with_last}
-use Rattle.mail_store.specs.declared.records.Record.{Record}
+use Rattle.journal_records.specs.declared.records.Record.{Record}
 use Rattle.mail_store.specs.Changing.{IsStoreOf, HoldsFirst}
 use Rattle.mail_store.specs.Following.{records_of, Follows, Breaks}
 use Rattle.mail_store.specs.Kept.{Kept}
 use Rattle.mail_store.specs.Records.{AreRecords}
-use Rattle.mail_store.specs.Spelling.{record_text}
+use Rattle.journal_records.specs.Spelling.{record_text}
 use Rattle.mail_store.specs.StoreState.{StoreState, with_records}
 use Rattle.mail_store.proofs.ChangeLemmas.{after_all-append, with_nothing}
 use Rattle.mail_store.proofs.DeliveryLemmas.{AreRecords-append}

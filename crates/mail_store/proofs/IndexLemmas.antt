@@ -17,12 +17,12 @@ use Rattle.mail_store.specs.declared.kept.Folder.{Folder}
 use Rattle.mail_store.specs.declared.kept.Message.{Message}
 use Rattle.mail_store.specs.declared.kept.Account.{Account}
 use Rattle.mail_store.specs.declared.kept.Entry.{Entry}
-use Rattle.mail_store.specs.Addresses.{IsTextOf, IsDomainText, address_of}
+use Rattle.journal_records.specs.Addresses.{IsTextOf, IsDomainText, address_of, mailbox_key}
 use Rattle.mail_store.specs.private.Chains.{empty_content, AreChained}
 use Rattle.mail_store.specs.Kept.{Kept, first_folder, change_at, settled, without}
-use Rattle.mail_store.specs.private.Names.{kept_first, PutsName, first_name, mailbox_key, has_key, first_mailbox}
+use Rattle.mail_store.specs.private.Names.{kept_first, PutsName, first_name, has_key, first_mailbox}
 use Rattle.mail_store.specs.Records.{recipient_count}
-use Rattle.mail_store.specs.Stored.{IsStored}
+use Rattle.journal_records.specs.Stored.{IsStored}
 use Rattle.mail_store.specs.StoreState.{Indexes, AreIndexes}
 use Rattle.mail_store.proofs.ChainLemmas.{AreChained-folder, AreChained-same}
 use Rattle.mail_store.proofs.SameMessages.{AreSameMessages, length-same, stored-same, length-change_at}

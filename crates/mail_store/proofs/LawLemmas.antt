@@ -7,16 +7,16 @@ use Rattle.std.proofs.lemmas.List.{length-take}
 use Rattle.std.proofs.Math.Seq.{take-append-add, take-nil}
 use Rattle.std.proofs.lemmas.Bool.{cases_lt}
 use Rattle.mail_wire.specs.Keeping.{with_last}
-use Rattle.mail_store.specs.declared.records.Record.{Record}
+use Rattle.journal_records.specs.declared.records.Record.{Record}
 use Rattle.mail_store.specs.Changing.{IsStoreOf, Changes, HoldsFirst}
 use Rattle.mail_store.specs.Kept.{Kept, nothing, after, after_all, store_of}
-use Rattle.mail_store.specs.Opening.{IsCutShort}
+use Rattle.journal_records.specs.Frames.{IsCutShort}
 use Rattle.mail_store.specs.Records.{IsRecord, AreRecords}
-use Rattle.mail_store.specs.Spelling.{number, fields_of, record_text, journal, first_octets}
+use Rattle.journal_records.specs.Spelling.{number, fields_of, record_text, journal, first_octets}
 use Rattle.mail_store.specs.StoreState.{StoreState}
 use Rattle.mail_store.proofs.ChangeLemmas.{after_all-append}
 use Rattle.mail_store.proofs.DeliveryLemmas.{AreRecords-append}
-use Rattle.mail_store.proofs.Next.{some_fields}
+use Rattle.journal_records.proofs.RecordLaws.{some_fields}
 use Rattle.mail_store.proofs.Readings.{first_of}
 
 journal-append : (a b : List Record) → journal (a ++ b) ≡ journal a ++ flat_map record_text b

@@ -1,15 +1,8 @@
-pub mod Fields
-pub mod RecordLaws
-pub mod FrameLemmas
-pub mod GrammarLemmas
-pub mod ListsLoop
 pub mod ChainLemmas
 pub mod SameMessages
 pub mod IndexLemmas
 pub mod MailboxLemmas
-pub mod AddressLemmas
 pub mod QueueLemmas
-pub mod AddressTexts
 pub mod Answering
 pub mod NameLemmas
 pub mod Next
@@ -22,7 +15,6 @@ pub mod UidLemmas
 pub mod ActLemmas
 pub mod DoingLemmas
 pub mod ReplayLemmas
-pub mod WritingLemmas
 pub mod ChangeLemmas
 pub mod ExpungeLemmas
 pub mod DomainLemmas

@@ -1,30 +1,15 @@
 -- Octets have their records in one way.
-use Rattle.std.proofs.Common.{◌≡◌, ℕ, ◌≤◌, List, [], ◌∷◌, ◌++◌, length, drop, refl, sym, ap, subst, ◌∙◌, append_assoc, append-nil, arith, inl, inr, ◌⊎◌, length-append}
+use Rattle.std.proofs.Common.{◌≡◌, ℕ, List, [], ◌∷◌, ◌++◌, length, drop, refl, sym, ap, subst, ◌∙◌, append_assoc, append-nil, arith, inl, inr, ◌⊎◌, length-append}
 use Rattle.std.specs.List.{flat_map}
 use Rattle.std.proofs.lemmas.List.Concat.{flat_map-cons}
-use Rattle.mail_store.specs.declared.limits.TheConstants.{RECORD_MAX}
-use Rattle.mail_store.specs.declared.records.Record.{Record}
+use Rattle.journal_records.specs.declared.records.Record.{Record}
 use Rattle.mail_store.specs.Kept.{Kept, nothing, after, after_all, store_of}
-use Rattle.mail_store.specs.Records.{IsRecord, AreRecords}
-use Rattle.mail_store.specs.Spelling.{number, octet_list, fields_of, record_text, journal, first_octets}
-use Rattle.mail_store.specs.private.Reading.{record_at}
-use Rattle.mail_store.specs.Opening.{IsCutShort, IsBeginning, BeginsWith, HasRecords, HasNoRecord, IsBadAt}
-use Rattle.mail_store.proofs.Fields.{some_is}
-use Rattle.mail_store.proofs.FrameLemmas.{number_once, list_once}
-use Rattle.mail_store.proofs.RecordLaws.{record_again}
-
--- a whole list is no prefix of a record
-pub list_no_prefix : (body tail : List ℕ) → length body ≤ RECORD_MAX → IsCutShort (octet_list body ++ tail) → ⊥
-list_no_prefix body tail short (inl few) = omega (arith, few, length-append body tail)
-list_no_prefix body tail short (inr (m, held, some, least, less, text)) =
-    let both = number_once (length body) m (body ++ tail) held (omega arith) (omega arith) (sym (append_assoc (number (length body)) body tail) ∙ text) in
-    omega (arith, both.0, ap length both.1, length-append body tail)
-
--- one record begins octets at most
-record_once : (kept : Kept) (x y : Record) (a b : List ℕ) → IsRecord kept x → IsRecord kept y → record_text x ++ a ≡ record_text y ++ b → (x ≡ y) × (a ≡ b)
-record_once kept x y a b p q e =
-    let both = list_once (fields_of x) (fields_of y) a b (omega (arith, p.short)) (omega (arith, q.short)) e in
-    (some_is x y (sym (record_again x p.fits) ∙ ap record_at both.0 ∙ record_again y q.fits), both.1)
+use Rattle.mail_store.specs.Records.{AreRecords}
+use Rattle.journal_records.specs.Spelling.{fields_of, record_text, journal, first_octets}
+use Rattle.journal_records.specs.Frames.{IsCutShort, IsBeginning}
+use Rattle.mail_store.specs.Opening.{BeginsWith, HasRecords, HasNoRecord, IsBadAt}
+use Rattle.journal_records.proofs.FrameLemmas.{list_no_prefix}
+use Rattle.journal_records.proofs.RecordLaws.{record_once}
 
 -- the text of the first record, and what is behind it
 pub first_of : (x : Record) (a : List Record) (rest : List ℕ) → flat_map record_text (x ∷ a) ++ rest ≡ record_text x ++ (flat_map record_text a ++ rest)
@@ -43,7 +28,7 @@ two_readings : (kept : Kept) (a b : List Record) (r s : List ℕ) → AreRecords
 two_readings kept [] b r s p q e = inl (record { more = b; is = refl; records = q; rest = e })
 two_readings kept (x ∷ a) [] r s p q e = inr (record { more = x ∷ a; is = refl; records = p; rest = sym e })
 two_readings kept (x ∷ a) (y ∷ b) r s p q e =
-    let one = record_once kept x y (flat_map record_text a ++ r) (flat_map record_text b ++ s) p.0 q.0 (sym (first_of x a r) ∙ e ∙ first_of y b s) in
+    let one = record_once x y (flat_map record_text a ++ r) (flat_map record_text b ++ s) (p.0.fits, p.0.short) (q.0.fits, q.0.short) (sym (first_of x a r) ∙ e ∙ first_of y b s) in
     let later = subst (λ (z : Record). AreRecords (after kept z) b) (sym one.0) q.1 in
     elim (two_readings (after kept x) a b r s p.1 later one.1) [
       | inl f ↦ inl (record {

@@ -6,22 +6,22 @@ use Rattle.std.proofs.lemmas.Bool.{cases_lt}
 use Rattle.std.proofs.lemmas.List.{take_all, drop-drop}
 use Rattle.std.proofs.lemmas.List.Concat.{flat_map-cons}
 use Rattle.mail_wire.specs.KeeperTelling.{KeeperTelling}
-use Rattle.mail_store.specs.declared.limits.TheConstants.{RECORD_MAX}
+use Rattle.journal_records.specs.declared.limits.TheConstants.{RECORD_MAX}
 use Rattle.mail_store.specs.declared.opening.OpenFault.{OpenFault}
 use Rattle.mail_store.specs.declared.opening.OpenFault.TheVariants as faults
-use Rattle.mail_store.specs.declared.records.Record.{Record}
+use Rattle.journal_records.specs.declared.records.Record.{Record}
 use Rattle.mail_store.specs.Kept.{Kept, nothing, after, after_all, store_of}
 use Rattle.mail_store.specs.Records.{IsRecord, AreRecords}
-use Rattle.mail_store.specs.Spelling.{octet_list, fields_of, record_text, journal, first_octets}
+use Rattle.journal_records.specs.Spelling.{octet_list, fields_of, record_text, journal, first_octets}
 use Rattle.mail_store.specs.StoreState.{StoreState}
-use Rattle.mail_store.specs.Opening.{IsCutShort, BeginsWith, HasRecords}
+use Rattle.journal_records.specs.Frames.{IsCutShort, IsWhole, IsNoFrame}
+use Rattle.mail_store.specs.Opening.{BeginsWith, HasRecords}
 use Rattle.mail_store.specs.private.Adding.{Added, NotAdded}
 use Rattle.mail_store.specs.Answers.{LeavesRecords}
-use Rattle.mail_store.specs.private.Replaying.{IsWhole, IsNoFrame, IsFieldsFault, Stays, IsSoFar, EndsAt, IsReadingFault, IsHalfRepaired, HalfRepairs, fields_at}
+use Rattle.mail_store.specs.private.Replaying.{IsFieldsFault, Stays, IsSoFar, EndsAt, IsReadingFault, IsHalfRepaired, HalfRepairs, fields_at}
 use Rattle.mail_store.proofs.ChangeLemmas.{after_all-push}
-use Rattle.mail_store.proofs.FrameLemmas.{list_once}
-use Rattle.mail_store.proofs.Next.{some_fields}
-use Rattle.mail_store.proofs.Readings.{list_no_prefix}
+use Rattle.journal_records.proofs.FrameLemmas.{list_once, list_no_prefix}
+use Rattle.journal_records.proofs.RecordLaws.{some_fields}
 
 -- ---- lists of records, one more put last
 

@@ -1,6 +1,6 @@
 -- What a session does: it gives parts of replies, and changes its store.
 use Rattle.std.specs.Prelude.{ℕ, List, [], ◌∷◌, ◌++◌, map}
-use Rattle.mail_store.specs.declared.records.Record.{Record}
+use Rattle.journal_records.specs.declared.records.Record.{Record}
 
 pub data Act (P : Type 0) : Type 0 where
   -- it gives this part of a reply

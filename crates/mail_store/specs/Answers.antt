@@ -4,10 +4,10 @@ use Rattle.mail_wire.specs.declared.outside.Failed.{Failed}
 use Rattle.mail_wire.specs.declared.outside.Failed.TheVariants as outcomes
 use Rattle.mail_store.specs.declared.opening.OpenFault.{OpenFault}
 use Rattle.mail_store.specs.declared.opening.OpenFault.TheVariants as faults
-use Rattle.mail_store.specs.declared.records.Record.{Record}
+use Rattle.journal_records.specs.declared.records.Record.{Record}
 use Rattle.mail_store.specs.Kept.{Kept, nothing, store_of}
 use Rattle.mail_store.specs.Records.{AreRecords}
-use Rattle.mail_store.specs.Spelling.{journal}
+use Rattle.journal_records.specs.Spelling.{journal}
 use Rattle.mail_store.specs.Opening.{HasRecords, IsBadAt}
 
 -- the fault that a refused call of a keeper is

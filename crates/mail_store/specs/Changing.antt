@@ -6,20 +6,20 @@ use Rattle.mail_wire.specs.Keeping.{with_last}
 use Rattle.mail_wire.specs.KeeperTelling.{KeeperTelling}
 use Rattle.address_grammar.specs.declared.Address.{Address}
 use Rattle.address_grammar.specs.Addresses.{address_text}
-use Rattle.address_grammar.specs.Paths.{ComesInPath}
 use Rattle.mail_store.specs.declared.changing.StoreFault.{StoreFault}
 use Rattle.mail_store.specs.declared.changing.StoreFault.TheVariants as faults
 use Rattle.mail_store.specs.declared.delivery.Delivery.{Delivery}
 use Rattle.mail_store.specs.declared.kept.Message.{Message}
-use Rattle.mail_store.specs.declared.limits.TheConstants.{THINGS_MAX, TEXT_MAX, RECORD_MAX, RECIPIENTS_MAX}
-use Rattle.mail_store.specs.declared.records.Record.{Record}
-use Rattle.mail_store.specs.declared.records.Record.TheVariants as records
-use Rattle.mail_store.specs.Grammar.{IsDate}
+use Rattle.mail_store.specs.declared.limits.TheConstants.{THINGS_MAX, RECIPIENTS_MAX}
+use Rattle.journal_records.specs.declared.records.Record.{Record}
+use Rattle.journal_records.specs.declared.records.Record.TheVariants as records
+use Rattle.journal_records.specs.Addresses.{IsSendable, path_text}
+use Rattle.journal_records.specs.Grammar.{IsDate}
 use Rattle.mail_store.specs.Kept.{Kept, nothing, store_of, inbox_of, find_account, is_local}
 use Rattle.mail_store.specs.Opening.{HasRecords}
 use Rattle.mail_store.specs.Records.{AreRecords, recipient_count}
-use Rattle.mail_store.specs.Spelling.{record_text, journal, fields_of, Fits}
-use Rattle.mail_store.specs.Stored.{IsStored}
+use Rattle.journal_records.specs.Spelling.{record_text, journal}
+use Rattle.journal_records.specs.Stored.{IsStored}
 use Rattle.mail_store.specs.StoreState.{StoreState, with_records}
 
 -- ---- every changing call
@@ -60,10 +60,6 @@ Writes old new had has (Err faults.Exists) text = ⊥
 Writes old new had has (Err faults.NoSuch) text = ⊥
 Writes old new had has (Err faults.TooLarge) text = ⊥
 
--- it has a spelling within the limit of a record
-abbrev pub IsWritable : Record → Type 0
-IsWritable one = Fits one × (length (fields_of one) ≤ RECORD_MAX)
-
 -- the store is the fold of these records, and the keeper holds their journal
 pub record IsStoreOf (store : StoreState) (octets : Option (List ℕ)) (all : List Record) : Type 0 where
   pub records : AreRecords nothing all
@@ -100,10 +96,6 @@ account_refusal path_of kept address =
 
 -- ---- deliver
 
--- an address that a path may have, within its limit
-abbrev pub IsSendable : Address → Type 0
-IsSendable address = ComesInPath address × (length (address_text address) ≤ TEXT_MAX)
-
 -- the accounts are there, the date is one, the octets have trees, and the addresses are such and not too many
 pub record IsDeliverable (store : StoreState) (delivery : Delivery) : Type 0 where
   pub known : All (λ account. account < length store.kept.accounts) delivery.local
@@ -120,11 +112,6 @@ copy_for date octets folder = records.Message folder 0 date octets
 
 abbrev pub inboxes_of : Kept → List ℕ → List ℕ
 inboxes_of kept accounts = map (λ account. unwrap_or (inbox_of kept account) 0) accounts
-
--- the text of a path's address; the null path has none
-abbrev pub path_text : Option Address → List ℕ
-path_text None = []
-path_text (Some address) = address_text address
 
 -- a message waits for the remote recipients, where there are any
 abbrev pub queued : Delivery → List Record

@@ -8,7 +8,7 @@ use Rattle.mail_wire.specs.declared.outside.Fault.TheVariants as fault
 use Rattle.mail_store.specs.Acts.{Act, gives, changes, changes_in, act_octets}
 use Rattle.mail_store.specs.Following.{records_of, Follows, Breaks}
 use Rattle.mail_store.specs.StoreState.{StoreState}
-use Rattle.mail_store.specs.declared.records.Record.{Record}
+use Rattle.journal_records.specs.declared.records.Record.{Record}
 
 -- the octets that acts give, where this tells those of a part
 abbrev pub given_by : {P : Type 0} → (P → List ℕ) → List (Act P) → List ℕ

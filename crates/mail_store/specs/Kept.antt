@@ -3,8 +3,8 @@ use Rattle.std.specs.Prelude.{◌≡◌, ◌⊎◌, ◌≤◌, ℕ, zero, suc, �
 use Rattle.std.specs.List.{Any, list_any}
 use Rattle.std.specs.Option.{option_map_or}
 use Rattle.std.specs.Str.{bytes_eq}
-use Rattle.mail_store.specs.declared.records.Record.{Record}
-use Rattle.mail_store.specs.declared.records.Record.TheVariants as records
+use Rattle.journal_records.specs.declared.records.Record.{Record}
+use Rattle.journal_records.specs.declared.records.Record.TheVariants as records
 use Rattle.mail_store.specs.declared.kept.Account.{Account}
 use Rattle.mail_store.specs.declared.kept.Folder.{Folder}
 use Rattle.mail_store.specs.declared.kept.Message.{Message}
@@ -12,7 +12,7 @@ use Rattle.mail_store.specs.declared.kept.Recipient.{Recipient}
 use Rattle.mail_store.specs.declared.kept.Entry.{Entry}
 use Rattle.mail_store.specs.declared.kept.Listed.{Listed}
 use Rattle.address_grammar.specs.declared.Address.{Address}
-use Rattle.mail_store.specs.Addresses.{is_same_mailbox, is_same_domain, address_of}
+use Rattle.journal_records.specs.Addresses.{is_same_mailbox, is_same_domain, address_of}
 
 pub record Kept : Type 0 where
   pub accounts : List Account

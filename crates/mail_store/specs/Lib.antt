@@ -1,7 +1,3 @@
-pub mod Addresses
-pub mod Grammar
-pub mod Stored
-pub mod Spelling
 pub mod Kept
 pub mod Records
 pub mod Opening

@@ -1,26 +1,15 @@
 -- The whole records of a keeper's octets, what is cut behind them, and where a journal is bad.
-use Rattle.std.specs.Prelude.{◌≡◌, ◌≢◌, ◌⊎◌, ℕ, ◌<◌, ◌≤◌, List, [], ◌++◌, length, take}
-use Rattle.mail_store.specs.declared.limits.TheConstants.{RECORD_MAX}
-use Rattle.mail_store.specs.declared.records.Record.{Record}
+use Rattle.std.specs.Prelude.{◌≡◌, ◌≢◌, ◌⊎◌, ℕ, List, [], ◌++◌, length}
+use Rattle.journal_records.specs.declared.records.Record.{Record}
 use Rattle.mail_store.specs.Kept.{Kept, nothing, store_of}
 use Rattle.mail_store.specs.Records.{IsRecord, AreRecords}
-use Rattle.mail_store.specs.Spelling.{number, record_text, journal, first_octets}
-
--- a prefix of a record: fewer than four octets, or a length within the limit and fewer octets than it says
-abbrev pub IsCutShort : List ℕ → Type 0
-IsCutShort octets =
-    (length octets < 4)
-    ⊎ ((n : ℕ) × (held : List ℕ) × (0 < n) × (n ≤ RECORD_MAX) × (length held < n) × (octets ≡ number n ++ held))
+use Rattle.journal_records.specs.Frames.{IsBeginning, IsCutShort}
+use Rattle.journal_records.specs.Spelling.{record_text, journal, first_octets}
 
 -- the octets are a journal of these records and a rest
 pub record BeginsWith (octets : List ℕ) (all : List Record) (rest : List ℕ) : Type 0 where
   pub text : octets ≡ journal all ++ rest
   pub records : AreRecords nothing all
-
--- fewer octets than a journal begins with, and all of them such
-pub record IsBeginning (octets : List ℕ) : Type 0 where
-  pub shorter : length octets < 8
-  pub same : octets ≡ take (length octets) first_octets
 
 -- these are the whole records of the octets, which go on with a prefix of a record, or are a prefix of an empty journal
 abbrev pub HasRecords : List ℕ → List Record → Type 0

@@ -1,20 +1,18 @@
 -- What makes a record one, where this is kept already.
 use Rattle.std.specs.Prelude.{◌≡◌, ◌⊎◌, ℕ, ◌+◌, ◌<◌, ◌≤◌, List, [], ◌∷◌, length, IsTrue, Option, Some, None, slice_get, sum_by}
 use Rattle.std.specs.List.{All}
-use Rattle.mail_store.specs.declared.limits.TheConstants.{THINGS_MAX, TEXT_MAX, RECORD_MAX}
-use Rattle.mail_store.specs.declared.records.Record.{Record}
-use Rattle.mail_store.specs.declared.records.Record.TheVariants as records
+use Rattle.journal_records.specs.declared.limits.TheConstants.{TEXT_MAX, RECORD_MAX}
+use Rattle.mail_store.specs.declared.limits.TheConstants.{THINGS_MAX}
+use Rattle.journal_records.specs.declared.records.Record.{Record}
+use Rattle.journal_records.specs.declared.records.Record.TheVariants as records
 use Rattle.mail_store.specs.declared.kept.Message.{Message}
 use Rattle.mail_store.specs.declared.kept.Recipient.{Recipient}
 use Rattle.mail_store.specs.declared.kept.Entry.{Entry}
-use Rattle.mail_store.specs.Addresses.{IsAddressText, IsDomainText}
-use Rattle.mail_store.specs.Grammar.{IsDate, IsFolderName}
-use Rattle.mail_store.specs.Stored.{IsStored}
+use Rattle.journal_records.specs.Addresses.{IsAddress, IsDomainText}
+use Rattle.journal_records.specs.Grammar.{IsDate, IsFolderName}
+use Rattle.journal_records.specs.Stored.{IsStored}
 use Rattle.mail_store.specs.Kept.{Kept, after}
-use Rattle.mail_store.specs.Spelling.{fields_of, Fits}
-
-abbrev pub IsAddress : List ℕ → Type 0
-IsAddress text = IsAddressText text × (length text ≤ TEXT_MAX)
+use Rattle.journal_records.specs.Spelling.{fields_of, Fits}
 
 -- the message is there and isn't expunged
 abbrev pub IsLive : Option Message → Type 0

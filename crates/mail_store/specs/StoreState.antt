@@ -3,14 +3,14 @@ use Rattle.std.specs.Prelude.{◌≡◌, ℕ, ◌≤◌, List, length, Bool, Opt
 use Rattle.std.specs.List.{All}
 use Rattle.mail_store.specs.declared.contents.Content.{Content}
 use Rattle.mail_store.specs.declared.limits.TheConstants.{THINGS_MAX}
-use Rattle.mail_store.specs.declared.records.Record.{Record}
+use Rattle.journal_records.specs.declared.records.Record.{Record}
 use Rattle.mail_store.specs.declared.kept.Message.{Message}
-use Rattle.mail_store.specs.Addresses.{WithPaths, IsDomainText}
+use Rattle.journal_records.specs.Addresses.{WithPaths, IsDomainText}
 use Rattle.mail_store.specs.private.Chains.{AreChained}
 use Rattle.mail_store.specs.Kept.{Kept, after, after_all, inbox_of}
 use Rattle.mail_store.specs.private.Names.{first_name, first_mailbox}
 use Rattle.mail_store.specs.Records.{recipient_count}
-use Rattle.mail_store.specs.Stored.{IsStored}
+use Rattle.journal_records.specs.Stored.{IsStored}
 
 pub record StoreState : Type 0 where
   -- the fold of the records

@@ -1,5 +1,5 @@
 //! The calls that change a store, and write the change to its keeper.
-ghost use Rattle.std.specs.Prelude.{◌≡◌, ◌≢◌, ◌≤◌, ◌<◌, ◌+◌, ◌==◌, ◌||◌, ◌∷◌, ◌++◌, [], length, vec_len, vec_capacity, IfOk, OnOk, OnErr, List, IfSome, IfNone, IsUtf8, Some, None, Err, false, map, ℕ, slice_get, option_and_then};
+ghost use Rattle.std.specs.Prelude.{◌≡◌, ◌≢◌, ◌≤◌, ◌<◌, ◌+◌, ◌==◌, ◌||◌, ◌∷◌, ◌++◌, [], length, vec_len, vec_capacity, IfOk, OnOk, OnErr, List, IfSome, IsUtf8, Some, None, Err, false, map, ℕ, slice_get, option_and_then};
 ghost use Rattle.std.specs.List.{All, IsDistinct, flat_map, list_all};
 ghost use Rattle.mail_wire.specs.Keeping.{HasKeeperCause};
 ghost use Rattle.std.specs.Option.{option_map_or, option_to_list};
@@ -13,23 +13,25 @@ ghost use Rattle.mail_store.specs.StoreState.{with_record, with_records};
 ghost use Rattle.mail_store.specs.declared.kept.Message.{Message as MessageValue};
 ghost use Rattle.address_grammar.specs.Addresses.{address_text};
 ghost use Rattle.address_grammar.specs.Paths.{ComesInPath};
-ghost use Rattle.mail_store.specs.declared.limits.TheConstants.{TEXT_MAX, THINGS_MAX};
-ghost use Rattle.mail_store.specs.declared.records.Record.TheVariants as records;
-ghost use Rattle.mail_store.specs.Addresses.{WithPaths};
-ghost use Rattle.mail_store.specs.Changing.{Writes, Changes, LeavesAll, IsRefusedAs, IsDeliverable, IsSendable, IsWritable, path_text as path_text_of, queued as queued_of, copy_for, inboxes_of, has_many_things, domain_refusal, account_refusal, delivery_refusal, delivered, expunge_refusal, expunged, has_large_octets as has_large_octets_of};
-ghost use Rattle.mail_store.specs.Spelling.{record_text};
+ghost use Rattle.journal_records.specs.declared.limits.TheConstants.{TEXT_MAX};
+ghost use Rattle.mail_store.specs.declared.limits.TheConstants.{THINGS_MAX};
+ghost use Rattle.journal_records.specs.declared.records.Record.TheVariants as records;
+ghost use Rattle.journal_records.specs.Addresses.{WithPaths, IsSendable};
+ghost use Rattle.journal_records.specs.Spelling.{IsWritable, record_text};
+ghost use Rattle.mail_store.specs.Changing.{Writes, Changes, LeavesAll, IsRefusedAs, IsDeliverable, queued as queued_of, copy_for, inboxes_of, has_many_things, domain_refusal, account_refusal, delivery_refusal, delivered, expunge_refusal, expunged, has_large_octets as has_large_octets_of};
 ghost use Rattle.mail_store.specs.declared.changing.StoreFault.TheVariants as faults;
 
-use crate::addresses::{domain_key, key_of};
 use crate::checks::{are_too_many, is_live};
 use crate::contents::{Content, EMPTY, push_reserved, put_messages};
 use crate::delivery::Delivery;
-use crate::kept::{Account, Entry, Folder, Message, Recipients};
+use crate::kept::{Account, Entry, Folder, Message, waiting_entry};
 use crate::names::{number_of, put_first, take_back};
-use crate::records::{Record, Texts};
 use crate::storing::{Store, take_away};
-use crate::writing::{push_copy, push_record};
 use address_grammar::{Address, write_address};
+use journal_records::{
+    Record, account_text, address_texts, domain_key, domain_text, expunge_text, mailbox_key,
+    path_text, push_copy, push_record,
+};
 use mail_wire::{Failed, Keeper, Memory as OutOfMemory, Octets};
 use std::alloc::{AllocError, AllocFailed, Global};
 use std::collections::BTreeMap;
@@ -126,63 +128,6 @@ fn write_named<J: Keeper>(
     }
 }
 
-// The text of one record.
-fn text_of(alloc: Global, one: &Record) -> Result<Octets, OutOfMemory>
-    requires { IsWritable one.now }
-    ensures { IfOk result (λ text. text ≡ record_text one.now) }
-{
-    let mut text = Octets::new(alloc);
-    push_record(&mut text, one)?;
-    Ok(text)
-}
-
-// The text of a domain's record.
-fn domain_text(alloc: Global, name: &[u8]) -> Result<Octets, OutOfMemory>
-    requires { IsWritable (records.Domain name.now) }
-    ensures { IfOk result (λ text. text ≡ record_text (records.Domain name.now)) }
-{
-    let made = Record::Domain {
-        name: Octets::from_slice(alloc, name)?,
-    };
-    text_of(alloc, &made)
-}
-
-// The address text of each address.
-fn texts_of(alloc: Global, addresses: &[Address]) -> Result<Texts, OutOfMemory>
-    requires { All ComesInPath addresses.now }
-    ensures { IfOk result (λ texts. texts ≡ map address_text addresses.now) }
-{
-    let mut texts = Vec::new(alloc);
-    for address in addresses {
-        texts.push(write_address(alloc, address)?)?;
-    }
-    Ok(Texts::from_vec(texts))
-}
-
-/// The text `local@domain` of a path's address, without angle brackets; the null path `<>` has none (RFC 5321, 4.5.5).
-pub fn path_text(alloc: Global, path: &Option<Address>) -> Result<Octets, OutOfMemory>
-    requires { IfSome path.now ComesInPath }
-    ensures { IfOk result (λ text. text ≡ path_text_of path.now) }
-{
-    match path {
-        Some(address) => write_address(alloc, address),
-        None => Ok(Octets::new(alloc)),
-    }
-}
-
-// The text of an account's record.
-fn account_text(alloc: Global, address: &Address, password: &[u8]) -> Result<Octets, OutOfMemory>
-    requires address { IsSendable address.now }
-    requires password { length password.now ≤ TEXT_MAX }
-    ensures { IfOk result (λ text. text ≡ record_text (records.Account (address_text address.now) password.now)) }
-{
-    let made = Record::Account {
-        address: write_address(alloc, address)?,
-        password: Octets::from_slice(alloc, password)?,
-    };
-    text_of(alloc, &made)
-}
-
 fn account_made(alloc: Global, address: &Address, password: &[u8]) -> Result<Account, OutOfMemory>
     requires { ComesInPath address.now }
     ensures address { IfOk result (λ made. made.address ≡ address_text address.now) }
@@ -264,7 +209,7 @@ fn queued(alloc: Global, delivery: &Delivery) -> Result<Option<Record>, OutOfMem
     }
     Ok(Some(Record::Queue {
         path: path_text(alloc, &delivery.path)?,
-        addresses: texts_of(alloc, delivery.remote.as_slice())?,
+        addresses: address_texts(alloc, delivery.remote.as_slice())?,
         octets: Octets::from_slice(alloc, delivery.remote_octets.as_slice())?,
     }))
 }
@@ -280,11 +225,7 @@ fn entry_of(alloc: Global, queued: Option<Record>) -> Result<Option<Entry>, OutO
                 addresses,
                 octets,
             },
-        ) => Ok(Some(Entry {
-            path,
-            recipients: Recipients::waiting(alloc, addresses)?,
-            octets,
-        })),
+        ) => Ok(Some(waiting_entry(alloc, path, addresses, octets)?)),
         _ => Ok(None),
     }
 }
@@ -310,7 +251,7 @@ fn reserve_delivery(
 }
 
 // Puts an entry last, for which there is room, and counts its recipients.
-fn put_entry(entries: &mut Vec<Entry>, recipients: &mut usize, entry: Option<Entry>)
+pub(crate) fn put_entry(entries: &mut Vec<Entry>, recipients: &mut usize, entry: Option<Entry>)
     requires room { vec_len entries.old < vec_capacity entries.old }
     requires few { recipients.old + recipient_count (option_to_list entry) ≤ THINGS_MAX }
     ensures entries { entries.new.items ≡ entries.old.items ++ option_to_list entry }
@@ -363,17 +304,6 @@ pub fn has_large_octets(delivery: &Delivery, message_max: u32) -> bool
 {
     (delivery.local.len() > 0 && delivery.local_octets.len() > message_max as usize)
         || (delivery.remote.len() > 0 && delivery.remote_octets.len() > message_max as usize)
-}
-
-// The texts of the records that the messages go.
-fn expunge_text(alloc: Global, ids: &[u32]) -> Result<Octets, OutOfMemory>
-    ensures { IfOk result (λ text. text ≡ flat_map record_text (expunged ids.now)) }
-{
-    let mut text = Octets::new(alloc);
-    for id in ids {
-        push_record(&mut text, &Record::Expunge { message: *id })?;
-    }
-    Ok(text)
 }
 
 // Whether each of the messages is there and isn't expunged.
@@ -447,7 +377,7 @@ impl Store {
         ensures refusal { WithPaths (λ path_of. IsRefusedAs result (account_refusal path_of self.old.kept address.now)) }
         ensures cause { HasKeeperCause (J.tells keeper.old) (J.tells keeper.new) result StoreFault.Keeper }
     {
-        let key = key_of(self.alloc, address)?;
+        let key = mailbox_key(self.alloc, address)?;
         if number_of(&self.mailboxes, key.as_slice()).is_some() {
             return Err(StoreFault::Exists);
         }

@@ -1,12 +1,12 @@
 //! Whether a record is in order, but for its addresses, its domain and its message's octets.
-ghost use Rattle.std.specs.Prelude.{◌≡◌, ◌↔◌, ◌≤◌, ◌<◌, ◌+◌, IsTrue, length, slice_get};
+ghost use Rattle.std.specs.Prelude.{◌≡◌, ◌↔◌, ◌≤◌, ◌<◌, IsTrue, length, slice_get};
 ghost use Rattle.mail_store.specs.Changing.{are_too_many};
-ghost use Rattle.mail_store.specs.Grammar.{IsDate};
+ghost use Rattle.journal_records.specs.Grammar.{IsDate};
 ghost use Rattle.mail_store.specs.Records.{HasRoom, IsLive, IsUnsettled};
 
-use crate::grammar::is_date;
 use crate::kept::{Entry, Message};
-use crate::limits::{TEXT_MAX, THINGS_MAX};
+use crate::limits::THINGS_MAX;
+use journal_records::{TEXT_MAX, is_date};
 
 /// Whether one more thing of a kind passes no limit.
 pub fn has_room(count: usize) -> bool

@@ -1,68 +1,12 @@
 //! What stands at a place of a keeper's octets.
-ghost use Rattle.std.specs.Prelude.{◌≡◌, ◌+◌, ◌-◌, ◌≤◌, ℕ, List, length, take, drop, IfOk, OnOk, IfErr, IfSome};
+ghost use Rattle.std.specs.Prelude.{◌≡◌, ◌+◌, ◌-◌, ◌≤◌, length, take, drop, IfOk, OnOk, IfErr, IfSome};
 ghost use Rattle.mail_wire.specs.Keeping.{HasKeeperCause};
-ghost use Rattle.mail_store.specs.private.Replaying.{IsFrame, FitsIn, IsBeginningOf, IsLong, IsOutside};
+ghost use Rattle.journal_records.specs.Frames.{IsFrame, FitsIn, IsBeginningOf, IsLong};
+ghost use Rattle.mail_store.specs.private.Replaying.{IsOutside};
 
-use crate::limits::RECORD_MAX;
 use crate::opening::OpenFault;
+use journal_records::{Beginning, Frame, beginning_of, frame_of};
 use mail_wire::Keeper;
-
-/// What a journal begins with.
-pub const FIRST_OCTETS: [u8; 8] = *b"MAILJNL1";
-
-/// What octets begin with.
-#[derive(Clone, Copy, Debug, PartialEq, Eq)]
-pub enum Frame {
-    /// A prefix of a record.
-    CutShort,
-    /// Neither a record nor a prefix of one.
-    Bad,
-    /// A length, and so many octets.
-    Whole(usize),
-}
-
-/// What the first octets are.
-#[derive(Clone, Copy, Debug, PartialEq, Eq)]
-pub enum Beginning {
-    /// Fewer octets than a journal begins with.
-    Prefix,
-    /// Those of a journal.
-    Journal,
-    Other,
-}
-
-fn frame_of(front: &[u8], left: u64) -> Frame
-    requires four { length front.now ≡ 4 }
-    requires left { 4 ≤ left }
-    ensures frame { (octets : List ℕ) → left ≡ length octets → front.now ≡ take 4 octets → IsFrame result octets }
-    ensures room { FitsIn result left }
-{
-    let len = u32::from_be_bytes([front[0], front[1], front[2], front[3]]) as usize;
-    if len == 0 || len > RECORD_MAX {
-        return Frame::Bad;
-    }
-    if left - 4 < len as u64 {
-        return Frame::CutShort;
-    }
-    Frame::Whole(len)
-}
-
-fn beginning_of(front: &[u8]) -> Beginning
-    ensures beginning { (octets : List ℕ) → front.now ≡ take 8 octets → IsBeginningOf result octets }
-    ensures long { IsLong result (length front.now) }
-{
-    if front.len() < 8 {
-        if front == &FIRST_OCTETS[..front.len()] {
-            Beginning::Prefix
-        } else {
-            Beginning::Other
-        }
-    } else if front == FIRST_OCTETS.as_slice() {
-        Beginning::Journal
-    } else {
-        Beginning::Other
-    }
-}
 
 /// Fills the buffer with the octets at a place.
 pub fn fill<J: Keeper>(

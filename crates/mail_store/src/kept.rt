@@ -3,7 +3,7 @@ ghost use Rattle.std.specs.Prelude.{◌≡◌, ◌<◌, ◌↔◌, IfOk, IsTrue,
 ghost use Rattle.mail_store.specs.Kept.{waiting, change_at, settled};
 ghost use Rattle.mail_store.specs.Records.{IsWaiting};
 
-use crate::records::Texts;
+use journal_records::Texts;
 use mail_wire::{Items, Memory, Octets};
 use std::alloc::Global;
 use std::marker::Model;
@@ -106,6 +106,22 @@ pub struct Entry {
     pub path: Octets,
     pub recipients: Recipients,
     pub octets: Octets,
+}
+
+/// An entry whose recipients at these addresses all wait.
+pub(crate) fn waiting_entry(
+    alloc: Global,
+    path: Octets,
+    addresses: Texts,
+    octets: Octets,
+) -> Result<Entry, Memory>
+    ensures { IfOk result (λ entry. entry ≡ record { path = path; recipients = map waiting addresses; octets = octets }) }
+{
+    Ok(Entry {
+        path,
+        recipients: Recipients::waiting(alloc, addresses)?,
+        octets,
+    })
 }
 
 /// A live message of a folder: its number in the store, its UID in the folder, from 1 on (RFC 3501, 2.3.1.1), and its flags.

@@ -4,7 +4,7 @@ ghost use Rattle.std.specs.List.{AllByRecursion, IsDistinct};
 ghost use Rattle.std.specs.List.Sorted.{IsStrictlyIncreasing};
 ghost use Rattle.mail_store.specs.declared.changing.StoreFault.{StoreFault};
 ghost use Rattle.mail_store.specs.declared.kept.Listed.{Listed as ListedValue};
-ghost use Rattle.mail_store.specs.declared.records.Record.{Record};
+ghost use Rattle.journal_records.specs.declared.records.Record.{Record};
 ghost use Rattle.mail_store.specs.Changing.{IsStoreOf, Changes, HoldsFirst};
 ghost use Rattle.mail_store.specs.Following.{Follows, Breaks};
 ghost use Rattle.mail_store.specs.Kept.{Kept, listed, uid_next, after_all, IsListedOrNew};

@@ -4,13 +4,14 @@ ghost use Rattle.mail_wire.specs.Keeping.{HasKeeperCause};
 ghost use Rattle.mail_store.specs.private.Adding.{AddsNext, Added};
 ghost use Rattle.mail_store.specs.Answers.{open_fault, IsFold, OpensTo, IsJournalFault, LeavesRecords};
 ghost use Rattle.mail_store.specs.Kept.{nothing};
-ghost use Rattle.mail_store.specs.private.Replaying.{IsOutside, IsFieldsFault, fields_at, EndsAt, IsReadingFault, repaired, HalfRepairs, IsBeginningOf};
-ghost use Rattle.mail_store.specs.declared.frames.Beginning.TheVariants as beginnings;
+ghost use Rattle.journal_records.specs.Frames.{IsBeginningOf};
+ghost use Rattle.mail_store.specs.private.Replaying.{IsOutside, IsFieldsFault, fields_at, EndsAt, IsReadingFault, repaired, HalfRepairs};
+ghost use Rattle.journal_records.specs.declared.frames.Beginning.TheVariants as beginnings;
 
-use crate::frames::{Beginning, FIRST_OCTETS, Frame, fill, frame_at, read_beginning};
-use crate::limits::{MESSAGE_MAX, RECORD_MAX};
-use crate::reading::{self, ReadFault};
+use crate::frames::{fill, frame_at, read_beginning};
+use crate::limits::MESSAGE_MAX;
 use crate::storing::Store;
+use journal_records::{Beginning, FIRST_OCTETS, Frame, RECORD_MAX, ReadFault, read_record};
 use mail_wire::{Failed, Keeper};
 use std::alloc::{AllocError, Global};
 use thiserror::Error;
@@ -59,7 +60,7 @@ fn add_next(alloc: Global, store: &mut Store, fields: &[u8]) -> Result<(), ReadF
     requires { length fields.now ≤ RECORD_MAX }
     ensures { AddsNext store.old store.new result fields.now }
 {
-    let one = reading::read(alloc, fields)?;
+    let one = read_record(alloc, fields)?;
     store.add(one)
 }
 

@@ -1,28 +1,26 @@
 //! The store: what is kept, and the indexes beside it.
-ghost use Rattle.std.specs.Prelude.{◌≡◌, ℕ, reverse, ◌⊎◌, ◌↔◌, ◌<◌, ◌≤◌, [], length, IfOk, IfSome, false, slice_get, Some, IsTrue, option_map, IsUtf8};
+ghost use Rattle.std.specs.Prelude.{◌≡◌, ℕ, reverse, ◌↔◌, ◌<◌, ◌≤◌, length, IfOk, IfSome, false, slice_get, Some, IsTrue, option_map, IsUtf8};
 ghost use Rattle.std.specs.List.{All};
 ghost use Rattle.address_grammar.specs.Paths.{ComesInPath};
 ghost use Rattle.mail_store.specs.declared.limits.TheConstants.{MESSAGE_MAX};
-ghost use Rattle.mail_store.specs.declared.records.Record.TheVariants as records;
+ghost use Rattle.journal_records.specs.declared.records.Record.TheVariants as records;
 ghost use Rattle.mail_store.specs.private.Adding.{AddsRecord};
-ghost use Rattle.mail_store.specs.Addresses.{WithPaths};
+ghost use Rattle.journal_records.specs.Addresses.{WithPaths};
 ghost use Rattle.mail_store.specs.private.Chains.{chain};
 ghost use Rattle.mail_store.specs.Kept.{nothing, change_at, with_flags, gone, without, inbox_of, uid_next, listed, listed_one, listed_from, numbers_in, logged_in, find_account, is_local, name_of, has_password};
-ghost use Rattle.mail_store.specs.Records.{IsAddress, IsUnsettled};
-ghost use Rattle.mail_store.specs.Stored.{IsStored};
+ghost use Rattle.mail_store.specs.Records.{IsInOrder, IsUnsettled};
+ghost use Rattle.journal_records.specs.Stored.{IsStored};
 
-use crate::addresses::{domain_key, is_domain_text, key_of, read_text};
-use crate::changing::{put_account, reserve_account};
+use crate::changing::{put_account, put_entry, reserve_account};
 use crate::checks::{self, account_fits, are_too_many, has_room, message_fits};
 use crate::contents::{Content, EMPTY, push_reserved, put_message};
-use crate::grammar::is_folder_name;
-use crate::kept::{Account, Entry, Folder, Listed, Message, Recipients};
-use crate::limits::TEXT_MAX;
+use crate::kept::{Account, Entry, Folder, Listed, Message, waiting_entry};
 use crate::names::{number_of, put_first};
-use crate::reading::ReadFault;
-use crate::records::{Record, Texts};
-use crate::stored::judge;
 use address_grammar::Address;
+use journal_records::{
+    ReadFault, Record, Texts, are_addresses, domain_key, is_domain_text, is_folder_name,
+    is_path_text, is_stored, mailbox_key, read_text,
+};
 use mail_wire::{Memory, Octets};
 use std::alloc::Global;
 use std::collections::BTreeMap;
@@ -160,41 +158,6 @@ fn settle_at(entries: &mut Vec<Entry>, at: u32, index: u32)
     entry.recipients.settle(index);
 }
 
-// Whether the text is that of an address, and within its limit.
-fn is_address(alloc: Global, text: &[u8]) -> Result<bool, Memory>
-    ensures { IfOk result (λ is. IsTrue is ↔ IsAddress text.now) }
-{
-    if text.len() > TEXT_MAX {
-        return Ok(false);
-    }
-    match read_text(alloc, text)? {
-        Some(_) => Ok(true),
-        None => Ok(false),
-    }
-}
-
-// Whether each of the texts is that of an address, and within its limit.
-fn are_addresses(alloc: Global, texts: &[Octets]) -> Result<bool, Memory>
-    ensures { IfOk result (λ are. IsTrue are ↔ All IsAddress texts.now) }
-{
-    for text in texts {
-        if !is_address(alloc, text.as_slice())? {
-            return Ok(false);
-        }
-    }
-    Ok(true)
-}
-
-// Whether the text is that of a path: none, or that of an address.
-fn is_path_text(alloc: Global, text: &[u8]) -> Result<bool, Memory>
-    ensures { IfOk result (λ is. IsTrue is ↔ ((text.now ≡ []) ⊎ IsAddress text.now)) }
-{
-    if text.is_empty() {
-        return Ok(true);
-    }
-    is_address(alloc, text)
-}
-
 impl Store {
     /// A store of nothing.
     pub(crate) fn new(alloc: Global, message_max: u32) -> Self
@@ -233,7 +196,7 @@ impl Store {
         let Some(own) = read_text(self.alloc, address.as_slice())? else {
             return Err(ReadFault::NoRecord);
         };
-        let key = key_of(self.alloc, &own)?;
+        let key = mailbox_key(self.alloc, &own)?;
         let name = Octets::from_slice(self.alloc, b"INBOX")?;
         reserve_account(
             &mut self.accounts,
@@ -298,7 +261,9 @@ impl Store {
     ) -> Result<(), ReadFault>
         ensures { AddsRecord self.old self.new result (records.Message folder flags date octets) }
     {
-        judge(self.alloc, octets.as_slice())?;
+        if !is_stored(self.alloc, octets.as_slice())? {
+            return Err(ReadFault::NoRecord);
+        }
         let count = self.messages.len();
         if !message_fits(folder, flags, date.as_slice(), self.folders.len(), count) {
             return Err(ReadFault::NoRecord);
@@ -343,6 +308,20 @@ impl Store {
         Ok(())
     }
 
+    // Whether the texts and the octets of a message that waits are in order, and there is room for it.
+    fn can_wait(&self, path: &[u8], addresses: &[Octets], octets: &[u8]) -> Result<bool, Memory>
+        ensures { IfOk result (λ can. IsTrue can ↔ IsInOrder self.now.kept (records.Queue path.now addresses.now octets.now)) }
+    {
+        if !has_room(self.entries.len())
+            || are_too_many(self.recipients, addresses.len())
+            || !is_path_text(self.alloc, path)?
+            || !are_addresses(self.alloc, addresses)?
+        {
+            return Ok(false);
+        }
+        is_stored(self.alloc, octets)
+    }
+
     // The record of a message that waits is put last.
     fn add_queue_record(
         &mut self,
@@ -352,22 +331,12 @@ impl Store {
     ) -> Result<(), ReadFault>
         ensures { AddsRecord self.old self.new result (records.Queue path addresses octets) }
     {
-        judge(self.alloc, octets.as_slice())?;
-        let count = addresses.as_slice().len();
-        if !has_room(self.entries.len())
-            || are_too_many(self.recipients, count)
-            || !is_path_text(self.alloc, path.as_slice())?
-            || !are_addresses(self.alloc, addresses.as_slice())?
-        {
+        if !self.can_wait(path.as_slice(), addresses.as_slice(), octets.as_slice())? {
             return Err(ReadFault::NoRecord);
         }
-        let recipients = Recipients::waiting(self.alloc, addresses)?;
-        self.entries.push(Entry {
-            path,
-            recipients,
-            octets,
-        })?;
-        self.recipients += count;
+        let entry = waiting_entry(self.alloc, path, addresses, octets)?;
+        self.entries.reserve(1)?;
+        put_entry(&mut self.entries, &mut self.recipients, Some(entry));
         Ok(())
     }
 
@@ -428,7 +397,7 @@ impl Store {
         ensures found { IfOk result (λ found. WithPaths (λ path_of. found ≡ find_account path_of self.now.kept address.now)) }
         ensures known { IfOk result (λ found. IfSome found (λ account. account < length self.now.kept.accounts)) }
     {
-        let key = key_of(self.alloc, address)?;
+        let key = mailbox_key(self.alloc, address)?;
         Ok(number_of(&self.mailboxes, key.as_slice()))
     }
 

@@ -1,16 +1,16 @@
 //! Stores changed over a keeper, and opened again.
-ghost use Rattle.std.specs.Prelude.{◌<◌, ◌≤◌, IfOk, IsTrue, length};
+ghost use Rattle.std.specs.Prelude.{◌<◌, ◌≤◌, IfOk, IfSome, IsTrue, length};
 ghost use Rattle.std.specs.List.{All};
-ghost use Rattle.mail_store.specs.Changing.{IsSendable};
-ghost use Rattle.mail_store.specs.Grammar.{IsDate};
-ghost use Rattle.mail_store.specs.Stored.{IsStored};
+ghost use Rattle.journal_records.specs.Addresses.{IsSendable};
+ghost use Rattle.journal_records.specs.Grammar.{IsDate};
+ghost use Rattle.journal_records.specs.Stored.{IsStored};
 ghost use Rattle.mail_store.specs.declared.limits.TheConstants.{RECIPIENTS_MAX};
 
 use ace_domains::normal;
 use address_grammar::{Address, write_address};
-use mail_store::{Addresses, Delivery, Numbers, Store, StoreFault, TEXT_MAX, is_date, read_text};
+use journal_records::{TEXT_MAX, is_date, is_stored, read_text};
+use mail_store::{Addresses, Delivery, Numbers, Store, StoreFault};
 use mail_wire::{Failure, MemKeeper, Octets};
-use mime_tree::read_tree;
 use std::alloc::Global;
 use std::test::Fail;
 
@@ -28,24 +28,29 @@ fn keeper_of(alloc: Global, octets: &[u8], call: u64) -> Result<MemKeeper, Fail>
     Ok(MemKeeper::new(Octets::from_slice(alloc, octets)?, failures))
 }
 
-// The store of what the keeper has, over a keeper that never fails.
-fn opened_again(alloc: Global, keeper: &MemKeeper) -> Result<Store, Fail> {
-    let octets = Octets::from_slice(alloc, keeper.octets())?;
-    let mut keeper = MemKeeper::new(octets, Vec::new(alloc));
+// A keeper of these octets that never fails.
+fn sure_keeper(alloc: Global, octets: &[u8]) -> Result<MemKeeper, Fail> {
+    Ok(MemKeeper::new(Octets::from_slice(alloc, octets)?, Vec::new(alloc)))
+}
+
+// The store of these octets.
+fn opened(alloc: Global, octets: &[u8]) -> Result<Store, Fail> {
+    let mut keeper = sure_keeper(alloc, octets)?;
     Ok(Store::open(alloc, &mut keeper, 1000)?)
 }
 
-// What adding a domain answers.
-fn add_domain(
+// Whether adding a domain answers this.
+fn adds_domain(
     store: &mut Store,
     keeper: &mut MemKeeper,
     alloc: Global,
     domain: &str,
-) -> Result<Result<(), StoreFault>, Fail> {
+    answer: Result<(), StoreFault>,
+) -> Result<bool, Fail> {
     if store.failed() || normal(alloc, domain)?.is_none() {
         return Err(Fail::from("no domain can be added"));
     }
-    Ok(store.add_domain(keeper, domain))
+    Ok(store.add_domain(keeper, domain) == answer)
 }
 
 // The address of a text, which a path may have.
@@ -61,18 +66,19 @@ fn address_of(alloc: Global, text: &[u8]) -> Result<Address, Fail>
     Ok(address)
 }
 
-// What adding an account answers.
-fn add_account(
+// Whether adding an account answers this.
+fn adds_account(
     store: &mut Store,
     keeper: &mut MemKeeper,
     alloc: Global,
-    text: &[u8],
-) -> Result<Result<u32, StoreFault>, Fail> {
-    let address = address_of(alloc, text)?;
+    text: &str,
+    answer: Result<u32, StoreFault>,
+) -> Result<bool, Fail> {
+    let address = address_of(alloc, text.as_bytes())?;
     if store.failed() {
         return Err(Fail::from("failed"));
     }
-    Ok(store.add_account(keeper, &address, b"pw"))
+    Ok(store.add_account(keeper, &address, b"pw") == answer)
 }
 
 // Octets that have a tree.
@@ -80,10 +86,10 @@ fn message(alloc: Global) -> Result<Octets, Fail>
     ensures { IfOk result IsStored }
 {
     let octets = Octets::from_slice(alloc, &SUBJECT)?;
-    match read_tree(alloc, octets.as_slice()) {
-        Ok(_) => Ok(octets),
-        Err(_) => Err(Fail::from("no tree")),
+    if !is_stored(alloc, octets.as_slice())? {
+        return Err(Fail::from("no tree"));
     }
+    Ok(octets)
 }
 
 fn date(alloc: Global) -> Result<Octets, Fail>
@@ -121,37 +127,50 @@ fn elsewhere(alloc: Global) -> Result<Addresses, Fail>
     Ok(remote)
 }
 
-// What delivering a message answers that comes from `b@y.org` and is for these accounts and for `c@z.org`.
-fn deliver(
-    store: &mut Store,
-    keeper: &mut MemKeeper,
-    alloc: Global,
-    accounts: &[u32],
-) -> Result<Result<(), StoreFault>, Fail> {
-    let delivery = Delivery {
+// A message that comes from `b@y.org` and is for these accounts and for `c@z.org`.
+fn delivery(alloc: Global, accounts: &[u32]) -> Result<Delivery, Fail>
+    ensures path { IfOk result (λ made. IfSome made.path IsSendable) }
+    ensures local_tree { IfOk result (λ made. IsStored made.local_octets) }
+    ensures addresses { IfOk result (λ made. All IsSendable made.remote) }
+    ensures few { IfOk result (λ made. length made.remote ≤ RECIPIENTS_MAX) }
+    ensures remote_tree { IfOk result (λ made. IsStored made.remote_octets) }
+    ensures dated { IfOk result (λ made. IsDate made.date) }
+{
+    Ok(Delivery {
         path: Some(address_of(alloc, b"b@y.org")?),
         local: numbers_of(alloc, accounts)?,
         local_octets: message(alloc)?,
         remote: elsewhere(alloc)?,
         remote_octets: message(alloc)?,
         date: date(alloc)?,
-    };
+    })
+}
+
+// Whether the message is delivered.
+fn is_delivered(
+    store: &mut Store,
+    keeper: &mut MemKeeper,
+    alloc: Global,
+    accounts: &[u32],
+) -> Result<bool, Fail> {
+    let delivery = delivery(alloc, accounts)?;
     if store.failed() || !are_known(delivery.local.as_slice(), store.account_count()) {
         return Err(Fail::from("can't be delivered"));
     }
-    Ok(store.deliver(keeper, &delivery))
+    Ok(store.deliver(keeper, &delivery).is_ok())
 }
 
-// What expunging a message answers.
-fn expunge(
+// Whether expunging a message answers this.
+fn expunges(
     store: &mut Store,
     keeper: &mut MemKeeper,
     id: u32,
-) -> Result<Result<(), StoreFault>, Fail> {
+    answer: Result<(), StoreFault>,
+) -> Result<bool, Fail> {
     if store.failed() {
         return Err(Fail::from("failed"));
     }
-    Ok(store.expunge(keeper, &[id]))
+    Ok(store.expunge(keeper, &[id]) == answer)
 }
 
 // Whether an account has the message alone, and under this UID.
@@ -169,101 +188,132 @@ fn has_only(store: &Store, account: u32, uid: u32) -> Result<bool, Fail> {
     Ok(one.uid == uid && follows && store.octets(one.id) == SUBJECT.as_slice())
 }
 
+// Whether the address names the mailbox of an account of this number, or of none.
+fn finds(store: &Store, alloc: Global, text: &str, account: Option<u32>) -> Result<bool, Fail> {
+    let address = address_of(alloc, text.as_bytes())?;
+    Ok(store.find_account(&address)? == account)
+}
+
+// Whether the store has the domain and the account that were begun with, and no others.
+fn has_begun(store: &Store, alloc: Global) -> Result<bool, Fail> {
+    let counted = store.account_count() == 1 && store.folder_count() == 1;
+    Ok(
+        counted
+            && store.name() == "x.org"
+            && store.is_local("x.ORG")?
+            && !store.is_local("y.org")?
+            && finds(store, alloc, "A@x.org", Some(0))?
+            && finds(store, alloc, "b@x.org", None)?,
+    )
+}
+
+// Whether a domain and its account are added, each once.
+fn is_begun(store: &mut Store, keeper: &mut MemKeeper, alloc: Global) -> Result<bool, Fail> {
+    let mut is = adds_account(store, keeper, alloc, "a@x.org", Err(StoreFault::NoSuch))?;
+    for (domain, answer) in [("x.org", Ok(())), ("X.ORG", Err(StoreFault::Exists))] {
+        is = is && adds_domain(store, keeper, alloc, domain, answer)?;
+    }
+    for (text, answer) in [("a@x.org", Ok(0)), ("A@X.org", Err(StoreFault::Exists))] {
+        is = is && adds_account(store, keeper, alloc, text, answer)?;
+    }
+    Ok(is)
+}
+
 #[test]
 fn a_domain_and_an_account_are_written(rt: HostRuntime) -> Result<(), Fail> {
-    let alloc = rt.alloc();
-    let mut keeper = MemKeeper::new(Octets::new(alloc), Vec::new(alloc));
-    let mut store = Store::open(alloc, &mut keeper, 1000)?;
-    assert_eq!(rt;
-        add_account(&mut store, &mut keeper, alloc, b"a@x.org")?,
-        Err(StoreFault::NoSuch)
-    );
-    assert_eq!(rt;
-        add_domain(&mut store, &mut keeper, alloc, "x.org")?,
-        Ok(())
-    );
-    assert_eq!(rt;
-        add_domain(&mut store, &mut keeper, alloc, "X.ORG")?,
-        Err(StoreFault::Exists)
-    );
-    assert_eq!(rt;
-        add_account(&mut store, &mut keeper, alloc, b"a@x.org")?,
-        Ok(0)
-    );
-    assert_eq!(rt;
-        add_account(&mut store, &mut keeper, alloc, b"A@X.org")?,
-        Err(StoreFault::Exists)
-    );
-    assert!(rt; keeper.octets() == BEGUN.as_slice());
-    assert!(rt; store.is_local("x.ORG")? && !store.is_local("y.org")?);
-    assert_eq!(rt;
-        store.find_account(&address_of(alloc, b"A@x.org")?)?,
-        Some(0)
-    );
-    assert_eq!(rt; store.find_account(&address_of(alloc, b"b@x.org")?)?, None);
-    assert_eq!(rt; store.login(b"A@x.org", b"pw")?, Some(0));
-    let again = opened_again(alloc, &keeper)?;
-    assert!(rt; again.account_count() == 1 && again.name() == "x.org" && again.folder_count() == 1);
+    let mut keeper = MemKeeper::new(Octets::new(rt.alloc()), Vec::new(rt.alloc()));
+    let mut store = Store::open(rt.alloc(), &mut keeper, 1000)?;
+    assert!(rt; is_begun(&mut store, &mut keeper, rt.alloc())?);
+    assert!(rt; keeper.octets() == BEGUN.as_slice() && has_begun(&store, rt.alloc())?);
     Ok(())
+}
+
+#[test]
+fn a_written_account_is_there_again(rt: HostRuntime) -> Result<(), Fail> {
+    let store = opened(rt.alloc(), &BEGUN)?;
+    assert!(rt; has_begun(&store, rt.alloc())?);
+    assert!(rt; store.login(b"A@x.org", b"pw")? == Some(0));
+    Ok(())
+}
+
+// The records of a message for the first two accounts and for the recipient elsewhere.
+const DELIVERED: [u8; 180] =
+    *b"\0\0\0;\x04\0\0\0\0\0\0\0\0\x1a01-Jan-1970 00:00:00 +0000\0\0\0\x13Subject: \xc3\xa9\r\n\r\n.x\r\n\0\0\0;\x04\0\0\0\x01\0\0\0\0\x1a01-Jan-1970 00:00:00 +0000\0\0\0\x13Subject: \xc3\xa9\r\n\r\n.x\r\n\0\0\02\x07\0\0\0\x07b@y.org\0\0\0\x01\0\0\0\x07c@z.org\0\0\0\x13Subject: \xc3\xa9\r\n\r\n.x\r\n";
+
+// Whether the message is delivered to two accounts, and only its records are written.
+fn is_written_for_two(
+    store: &mut Store,
+    keeper: &mut MemKeeper,
+    alloc: Global,
+) -> Result<bool, Fail> {
+    let added = adds_account(store, keeper, alloc, "b@x.org", Ok(1))?;
+    let had = keeper.octets().len();
+    let delivered = is_delivered(store, keeper, alloc, &[0, 1])?;
+    let written = keeper.octets().len().checked_sub(had) == Some(DELIVERED.len());
+    Ok(added && delivered && written && keeper.octets().ends_with(&DELIVERED))
+}
+
+// Whether the first two accounts have the message alone.
+fn two_have_it(store: &Store) -> Result<bool, Fail> {
+    Ok(has_only(store, 0, 1)? && has_only(store, 1, 1)?)
 }
 
 #[test]
 fn a_message_is_delivered_to_each(rt: HostRuntime) -> Result<(), Fail> {
-    let alloc = rt.alloc();
-    let mut keeper = keeper_of(alloc, &BEGUN, 8)?;
-    let mut store = Store::open(alloc, &mut keeper, 1000)?;
-    assert_eq!(rt;
-        add_account(&mut store, &mut keeper, alloc, b"b@x.org")?,
-        Ok(1)
-    );
-    let had = keeper.octets().len();
-    // the keeper's next call but one fails
-    assert_eq!(rt; deliver(&mut store, &mut keeper, alloc, &[0, 1])?, Ok(()));
-    let written =
-        b"\0\0\0;\x04\0\0\0\0\0\0\0\0\x1a01-Jan-1970 00:00:00 +0000\0\0\0\x13Subject: \xc3\xa9\r\n\r\n.x\r\n\0\0\0;\x04\0\0\0\x01\0\0\0\0\x1a01-Jan-1970 00:00:00 +0000\0\0\0\x13Subject: \xc3\xa9\r\n\r\n.x\r\n\0\0\02\x07\0\0\0\x07b@y.org\0\0\0\x01\0\0\0\x07c@z.org\0\0\0\x13Subject: \xc3\xa9\r\n\r\n.x\r\n";
-    assert_eq!(rt; keeper.octets().len(), had + written.len());
-    assert!(rt; keeper.octets().ends_with(written));
-    assert!(rt; has_only(&store, 0, 1)? && has_only(&store, 1, 1)?);
-    let again = opened_again(alloc, &keeper)?;
-    assert!(rt; has_only(&again, 0, 1)? && has_only(&again, 1, 1)?);
-    assert_eq!(rt;
-        add_domain(&mut store, &mut keeper, alloc, "y.org")?,
-        Err(StoreFault::Keeper)
+    // the keeper's call behind the delivery fails
+    let mut keeper = keeper_of(rt.alloc(), &BEGUN, 8)?;
+    let mut store = Store::open(rt.alloc(), &mut keeper, 1000)?;
+    assert!(rt; is_written_for_two(&mut store, &mut keeper, rt.alloc())?);
+    assert!(rt; two_have_it(&store)? && two_have_it(&opened(rt.alloc(), keeper.octets())?)?);
+    assert!(rt;
+        adds_domain(
+            &mut store,
+            &mut keeper,
+            rt.alloc(),
+            "y.org",
+            Err(StoreFault::Keeper)
+        )?
     );
     Ok(())
 }
 
+// Whether the second of two messages is left once the first was expunged, which goes once.
+fn second_is_left(store: &mut Store, keeper: &mut MemKeeper, alloc: Global) -> Result<bool, Fail> {
+    for _ in 0..2 {
+        if !is_delivered(store, keeper, alloc, &[0])? {
+            return Ok(false);
+        }
+    }
+    let both = !has_only(store, 0, 2)?;
+    let gone = expunges(store, keeper, 0, Ok(()))?;
+    Ok(both && gone && expunges(store, keeper, 0, Err(StoreFault::NoSuch))?)
+}
+
 #[test]
 fn an_expunged_message_is_gone(rt: HostRuntime) -> Result<(), Fail> {
-    let alloc = rt.alloc();
-    let octets = Octets::from_slice(alloc, &BEGUN)?;
-    let mut keeper = MemKeeper::new(octets, Vec::new(alloc));
-    let mut store = Store::open(alloc, &mut keeper, 1000)?;
-    assert_eq!(rt; deliver(&mut store, &mut keeper, alloc, &[0])?, Ok(()));
-    assert_eq!(rt; deliver(&mut store, &mut keeper, alloc, &[0])?, Ok(()));
-    assert!(rt; !has_only(&store, 0, 2)?);
-    assert_eq!(rt; expunge(&mut store, &mut keeper, 0)?, Ok(()));
-    assert_eq!(rt;
-        expunge(&mut store, &mut keeper, 0)?,
-        Err(StoreFault::NoSuch)
-    );
-    assert!(rt; has_only(&store, 0, 2)? && has_only(&opened_again(alloc, &keeper)?, 0, 2)?);
+    let mut keeper = sure_keeper(rt.alloc(), &BEGUN)?;
+    let mut store = Store::open(rt.alloc(), &mut keeper, 1000)?;
+    assert!(rt; second_is_left(&mut store, &mut keeper, rt.alloc())?);
+    assert!(rt; has_only(&store, 0, 2)? && has_only(&opened(rt.alloc(), keeper.octets())?, 0, 2)?);
     Ok(())
 }
 
 #[test]
 fn a_failed_append_is_told(rt: HostRuntime) -> Result<(), Fail> {
-    let alloc = rt.alloc();
-    let mut keeper = keeper_of(alloc, &BEGUN, 6)?;
-    let mut store = Store::open(alloc, &mut keeper, 1000)?;
-    assert_eq!(rt;
-        add_domain(&mut store, &mut keeper, alloc, "y.org")?,
-        Err(StoreFault::Keeper)
+    let mut keeper = keeper_of(rt.alloc(), &BEGUN, 6)?;
+    let mut store = Store::open(rt.alloc(), &mut keeper, 1000)?;
+    assert!(rt;
+        adds_domain(
+            &mut store,
+            &mut keeper,
+            rt.alloc(),
+            "y.org",
+            Err(StoreFault::Keeper)
+        )?
     );
-    assert!(rt; store.failed() && !store.is_local("y.org")?);
+    assert!(rt; store.failed() && has_begun(&store, rt.alloc())?);
     assert!(rt; keeper.octets().len() == BEGUN.len() + 3);
-    let again = opened_again(alloc, &keeper)?;
-    assert!(rt; again.account_count() == 1 && again.name() == "x.org");
-    assert!(rt; !again.failed() && !again.is_local("y.org")?);
+    let again = opened(rt.alloc(), keeper.octets())?;
+    assert!(rt; !again.failed() && has_begun(&again, rt.alloc())?);
     Ok(())
 }

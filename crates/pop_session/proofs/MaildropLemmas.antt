@@ -9,7 +9,7 @@ use Rattle.mail_store.specs.Kept.{Kept, after, after_all, change_at, listed, nam
 use Rattle.mail_store.specs.Records.{IsLive}
 use Rattle.mail_store.specs.StoreState.{StoreState, with_records}
 use Rattle.mail_store.specs.declared.kept.Listed.{Listed}
-use Rattle.mail_store.specs.declared.records.Record.TheVariants as records
+use Rattle.journal_records.specs.declared.records.Record.TheVariants as records
 use Rattle.mail_store.proofs.ListedLemmas.{listed_live, listed_distinct}
 use Rattle.mail_store.specs.declared.kept.Message.{Message}
 use Rattle.pop_session.specs.declared.states.MaildropMessage.{MaildropMessage}

@@ -1,5 +1,5 @@
 -- What QUIT does to the store and its keeper.
-use Rattle.std.proofs.Common.{◌≡◌, ⊥, ℕ, List, [], ◌∷◌, ◌++◌, Option, Err, refl}
+use Rattle.std.proofs.Common.{◌≡◌, ℕ, List, [], ◌∷◌, ◌++◌, Option, Err, refl}
 use Rattle.std.specs.Prelude.{take}
 use Rattle.std.specs.List.{flat_map}
 use Rattle.mail_wire.specs.Keeping.{with_last}
@@ -10,7 +10,7 @@ use Rattle.mail_store.specs.Changing.{expunged}
 use Rattle.mail_store.specs.Doing.{Does}
 use Rattle.mail_store.specs.Following.{records_of, Follows, Breaks}
 use Rattle.mail_store.specs.Records.{AreRecords}
-use Rattle.mail_store.specs.Spelling.{record_text}
+use Rattle.journal_records.specs.Spelling.{record_text}
 use Rattle.mail_store.specs.StoreState.{StoreState, with_records}
 use Rattle.mail_store.proofs.DoingLemmas.{Does-broken}
 use Rattle.mail_store.proofs.FollowLemmas.{Follows-one}

@@ -10,7 +10,7 @@ use Rattle.mail_store.specs.Acts.{Act, acts_of}
 use Rattle.mail_store.specs.Changing.{expunged}
 use Rattle.mail_store.specs.Kept.{Kept, change_at, logged_in, inbox_of, listed}
 use Rattle.mail_store.specs.StoreState.{StoreState}
-use Rattle.mail_store.specs.declared.records.Record.{Record}
+use Rattle.journal_records.specs.declared.records.Record.{Record}
 use Rattle.surrogate_cache.specs.Served.{Mode, enabled, served_by, Meanings}
 use Rattle.pop_session.specs.declared.command.Keyword.{Keyword}
 use Rattle.pop_session.specs.declared.command.Keyword.TheVariants as keyword

@@ -2,7 +2,7 @@
 ghost use Rattle.std.specs.Prelude.{◌≡◌, ◌<◌, ◌-◌, ◌^◌, min, ℕ, ◌++◌, length, IfOk, IfSome, string_bytes, [], Err};
 ghost use Rattle.mail_wire.specs.Lines.{crlf};
 ghost use Rattle.mail_wire.specs.Moves.{GivesOrFails, HasWireCause};
-ghost use Rattle.mail_store.specs.Stored.{IsStored};
+ghost use Rattle.journal_records.specs.Stored.{IsStored};
 ghost use Rattle.surrogate_rope.specs.Served.{IsShownOf, shown_octets};
 ghost use Rattle.surrogate_cache.specs.Served.{IsServed, HasServedHeaders, Meanings, WithMeanings};
 ghost use Rattle.pop_session.specs.private.Asked.{IsAsked, IsKnown};

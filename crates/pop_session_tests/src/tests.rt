@@ -1,5 +1,6 @@
 //! Sessions over a wire in memory and a store whose journal was written here: whole, octet by octet and in every single cut.
-use mail_store::{Record, Store, push_record};
+use journal_records::{Record, push_record};
+use mail_store::Store;
 use mail_wire::{Entry, Failure, Fault, MemKeeper, MemWire, Memory, Octets};
 use pop_session::PopSession;
 use std::alloc::Global;

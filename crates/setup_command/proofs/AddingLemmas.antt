@@ -12,14 +12,14 @@ use Rattle.mail_store.specs.declared.changing.StoreFault.{StoreFault}
 use Rattle.mail_store.specs.declared.changing.StoreFault.TheVariants as faults
 use Rattle.mail_store.specs.declared.opening.OpenFault.{OpenFault}
 use Rattle.mail_store.specs.declared.opening.OpenFault.TheVariants as opening
-use Rattle.mail_store.specs.declared.records.Record.{Record}
+use Rattle.journal_records.specs.declared.records.Record.{Record}
 use Rattle.mail_store.specs.Answers.{IsFold, OpensTo, IsJournalFault, LeavesRecords}
 use Rattle.mail_store.specs.Changing.{Changes, IsRefusedAs, IsStoreOf, HoldsFirst}
 use Rattle.mail_store.specs.Following.{Follows}
 use Rattle.mail_store.specs.Kept.{Kept, nothing, store_of}
 use Rattle.mail_store.specs.Opening.{HasRecords, IsBadAt}
 use Rattle.mail_store.specs.Records.{AreRecords}
-use Rattle.mail_store.specs.Spelling.{journal}
+use Rattle.journal_records.specs.Spelling.{journal}
 use Rattle.mail_store.specs.StoreState.{StoreState}
 use Rattle.mail_store.proofs.FollowLemmas.{followed, broken, Breaks-one, records_of-one, Follows-nil}
 use Rattle.mail_store.proofs.Readings.{same_records, records_not_bad}

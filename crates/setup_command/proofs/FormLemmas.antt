@@ -7,8 +7,8 @@ use Rattle.address_grammar.specs.Addresses.{address_text}
 use Rattle.address_grammar.specs.Paths.{HasPath, in_angles}
 use Rattle.address_grammar.proofs.PathLemmas.{HasPath-once}
 use Rattle.address_lists.proofs.PathPiecesLemmas.{path_parts}
-use Rattle.mail_store.specs.Addresses.{IsTextOf}
-use Rattle.mail_store.specs.declared.limits.TheConstants.{TEXT_MAX}
+use Rattle.journal_records.specs.Addresses.{IsTextOf}
+use Rattle.journal_records.specs.declared.limits.TheConstants.{TEXT_MAX}
 use Rattle.setup_command.specs.WordForms.{IsAccountText, IsAccount}
 
 -- the address that was read

@@ -6,14 +6,14 @@ use Rattle.mail_wire.specs.KeeperTelling.{KeeperTelling}
 use Rattle.mail_wire.specs.Causes.{Rose}
 use Rattle.mail_store.specs.declared.opening.OpenFault.{OpenFault}
 use Rattle.mail_store.specs.declared.opening.OpenFault.TheVariants as faults
-use Rattle.mail_store.specs.declared.records.Record.{Record}
+use Rattle.journal_records.specs.declared.records.Record.{Record}
 use Rattle.mail_store.specs.Answers.{IsFold, OpensTo, IsJournalFault}
 use Rattle.mail_store.specs.Changing.{HoldsFirst}
 use Rattle.mail_store.specs.Following.{records_of}
 use Rattle.mail_store.specs.Kept.{nothing, store_of}
 use Rattle.mail_store.specs.Opening.{IsBadAt}
 use Rattle.mail_store.specs.Records.{AreRecords}
-use Rattle.mail_store.specs.Spelling.{journal}
+use Rattle.journal_records.specs.Spelling.{journal}
 use Rattle.mail_store.specs.StoreState.{StoreState}
 use Rattle.setup_command.specs.declared.statuses.TheConstants.{WIRE_FAULT, KEEPER_FAULT, WANT_OF_MEMORY, BAD_JOURNAL}
 

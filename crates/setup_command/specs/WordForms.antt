@@ -3,8 +3,8 @@ use Rattle.std.specs.Prelude.{◌≡◌, ◌≢◌, ℕ, ◌≤◌, List, [], �
 use Rattle.ace_domains.specs.Domains.{normal_form}
 use Rattle.address_grammar.specs.declared.Address.{Address}
 use Rattle.address_grammar.specs.Addresses.{address_text}
-use Rattle.mail_store.specs.Addresses.{IsTextOf}
-use Rattle.mail_store.specs.declared.limits.TheConstants.{TEXT_MAX}
+use Rattle.journal_records.specs.Addresses.{IsTextOf}
+use Rattle.journal_records.specs.declared.limits.TheConstants.{TEXT_MAX}
 use Rattle.setup_command.specs.PlainWords.{is_plain}
 
 -- It is the text of an address whose domain has a normal form, and whose own text is within the limit.

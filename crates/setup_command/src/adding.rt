@@ -2,10 +2,10 @@
 ghost use Rattle.std.specs.Prelude.{◌≡◌, ◌≢◌, ◌≤◌, length, IfSome, None};
 ghost use Rattle.ace_domains.specs.Domains.{compared_form, normal_form};
 ghost use Rattle.address_grammar.specs.Addresses.{address_text};
-ghost use Rattle.mail_store.specs.Addresses.{WithPaths};
-ghost use Rattle.mail_store.specs.Changing.{IsSendable, account_refusal, domain_refusal};
-ghost use Rattle.mail_store.specs.declared.limits.TheConstants.{TEXT_MAX};
-ghost use Rattle.mail_store.specs.declared.records.Record.TheVariants as records;
+ghost use Rattle.journal_records.specs.Addresses.{WithPaths, IsSendable};
+ghost use Rattle.mail_store.specs.Changing.{account_refusal, domain_refusal};
+ghost use Rattle.journal_records.specs.declared.limits.TheConstants.{TEXT_MAX};
+ghost use Rattle.journal_records.specs.declared.records.Record.TheVariants as records;
 ghost use Rattle.setup_command.specs.AddingRuns.{RunsAdding, IsExactAdding};
 ghost use Rattle.setup_command.specs.Running.{HasStatusCause, IsExactJournal};
 ghost use Rattle.setup_command.specs.Statuses.{status_of};

@@ -5,14 +5,14 @@ ghost use Rattle.ace_domains.specs.Domains.{normal_form};
 ghost use Rattle.address_grammar.specs.Addresses.{address_text};
 ghost use Rattle.address_grammar.specs.Paths.{ComesInPath};
 ghost use Rattle.address_grammar.specs.declared.Address.{Address as AddressValue};
-ghost use Rattle.mail_store.specs.Addresses.{IsTextOf};
+ghost use Rattle.journal_records.specs.Addresses.{IsTextOf};
 ghost use Rattle.setup_command.specs.PlainWords.{IsCalled, is_plain as is_plain_word};
 ghost use Rattle.setup_command.specs.WordForms.{IsAccount, IsAccountText, IsDomain};
 
 use crate::values::{one_value, two_values};
 use ace_domains::normal;
 use address_grammar::{Address, write_address};
-use mail_store::{TEXT_MAX, read_text};
+use journal_records::{TEXT_MAX, read_text};
 use mail_wire::{Memory, Octets, Words};
 use std::alloc::Global;
 

@@ -11,12 +11,15 @@ use Rattle.mail_wire.specs.declared.outside.Fault.{Fault}
 use Rattle.mail_wire.proofs.FirstLineLemmas.{put}
 use Rattle.mail_wire.proofs.Moving.{Gives-nil}
 use Rattle.mail_wire.proofs.TurnsLemmas.{all_turns-go}
+use Rattle.mail_wire.specs.Dots.{unstuffed}
 use Rattle.mail_store.specs.Changing.{delivery_refusal, has_large_octets}
 use Rattle.mail_store.specs.Doing.{Does}
 use Rattle.mail_store.specs.StoreState.{StoreState}
 use Rattle.mail_store.proofs.ActLemmas.{fit_acts}
 use Rattle.mail_store.proofs.DoingLemmas.{Does-err, Does-ok}
 use Rattle.mail_store.proofs.FollowLemmas.{Follows-nil}
+use Rattle.smtp_grammar.specs.Data.{behind_command, data_cut, end_cut}
+use Rattle.smtp_grammar.proofs.DataLemmas.{end_cut-apart, end_cut-parts, unstuffed-long}
 use Rattle.smtp_session.specs.declared.session.Came.{Came}
 use Rattle.smtp_session.specs.declared.states.Client.{Client}
 use Rattle.smtp_session.specs.declared.states.Data.{Data}
@@ -24,12 +27,10 @@ use Rattle.smtp_session.specs.declared.states.Envelope.{Envelope}
 use Rattle.smtp_session.specs.declared.states.Greeted.{Greeted}
 use Rattle.smtp_session.specs.declared.states.Smtp.{Smtp}
 use Rattle.smtp_session.specs.declared.states.SmtpState.TheVariants as smtp
-use Rattle.smtp_session.specs.Data.{Moment, behind_command, data_cut, end_cut}
-use Rattle.mail_wire.specs.Dots.{unstuffed}
+use Rattle.smtp_session.specs.Trace.{Moment}
 use Rattle.smtp_session.specs.Machine.{Readings, State, Step, acts_in, collecting, delivery_of, end_data, greeted, says, too_large}
 use Rattle.smtp_session.specs.Session.{AreDropped, HasRestIn, IsFit, IsTold, WithReadings, after_step, data_turn, line_octets, next_turn, turns_of}
 use Rattle.smtp_session.specs.private.Steps.{IsSaid, Steps}
-use Rattle.smtp_session.proofs.DataLemmas.{end_cut-apart, end_cut-parts, unstuffed-long}
 use Rattle.smtp_session.proofs.DroppedLemmas.{AreDropped-more}
 use Rattle.smtp_session.proofs.FeedLemmas.{machine_at, next_turn-framed, store_behind}
 use Rattle.smtp_session.proofs.FitLemmas.{end_by_fit}

@@ -4,10 +4,10 @@ use Rattle.std.proofs.lemmas.List.{take-append-drop}
 use Rattle.std.specs.Option.{option_map}
 use Rattle.mail_wire.specs.Lines.{Cut, crlf}
 use Rattle.mail_wire.proofs.FirstLineLemmas.{put}
-use Rattle.smtp_session.specs.Data.{data_cut, end_cut}
 use Rattle.mail_wire.specs.Dots.{unstuffed}
+use Rattle.smtp_grammar.specs.Data.{data_cut, end_cut}
+use Rattle.smtp_grammar.proofs.DataLemmas.{ends_here, end_cut-apart, none_parts}
 use Rattle.smtp_session.specs.Session.{AreDropped}
-use Rattle.smtp_session.proofs.DataLemmas.{ends_here, end_cut-apart, none_parts}
 
 -- octets without an end have none behind their first ones
 pub end_cut-behind : (front tail : List ℕ) → end_cut (front ++ tail) ≡ None → end_cut tail ≡ None

@@ -7,27 +7,27 @@ use Rattle.mail_wire.specs.Telling.{Telling}
 use Rattle.mail_wire.specs.declared.outside.Fault.{Fault}
 use Rattle.mail_wire.specs.declared.outside.Fault.TheVariants as fault
 use Rattle.mail_wire.proofs.Moving.{Gives-nil}
+use Rattle.mail_wire.specs.Dots.{unstuffed}
 use Rattle.mail_store.specs.Acts.{Act, gives, changes, acts_of}
 use Rattle.mail_store.specs.Changing.{Changes, IsDeliverable, IsRefusedAs, copy_for, delivered, delivery_refusal, has_large_octets, inboxes_of, queued}
 use Rattle.mail_store.specs.Doing.{Does}
 use Rattle.mail_store.specs.Following.{Follows, records_of}
 use Rattle.mail_store.specs.Kept.{Kept, after_all, name_of}
 use Rattle.mail_store.specs.StoreState.{StoreState, with_records}
-use Rattle.mail_store.specs.Stored.{IsStored}
+use Rattle.journal_records.specs.Stored.{IsStored}
 use Rattle.mail_store.specs.declared.changing.StoreFault.{StoreFault}
 use Rattle.mail_store.specs.declared.changing.StoreFault.TheVariants as faults
 use Rattle.mail_store.specs.declared.delivery.Delivery.{Delivery}
-use Rattle.mail_store.specs.declared.records.Record.{Record}
-use Rattle.mail_store.specs.declared.records.Record.TheVariants as records
+use Rattle.journal_records.specs.declared.records.Record.{Record}
+use Rattle.journal_records.specs.declared.records.Record.TheVariants as records
 use Rattle.mail_store.proofs.ChangeLemmas.{after_all-append}
 use Rattle.mail_store.proofs.DeliveryLemmas.{after-copies}
 use Rattle.mail_store.proofs.DoingLemmas.{Does-made, Does-more, Does-reply, changes_in-acts}
 use Rattle.mail_store.proofs.FollowLemmas.{Breaks-one, Follows-nil}
 use Rattle.smtp_session.specs.declared.states.Client.{Client}
 use Rattle.smtp_session.specs.declared.states.Envelope.{Envelope}
-use Rattle.smtp_session.specs.Data.{IsMoment, Moment, TellsTrees, return_path}
-use Rattle.mail_wire.specs.Dots.{unstuffed}
-use Rattle.smtp_session.specs.Machine.{Readings, Step, acts_in, collecting, delivery_of, end_by, end_data, greeted, recipient_count, too_large, trace}
+use Rattle.smtp_session.specs.Trace.{IsMoment, Moment, return_path}
+use Rattle.smtp_session.specs.Machine.{Readings, Step, TellsTrees, acts_in, collecting, delivery_of, end_by, end_data, greeted, recipient_count, too_large, trace}
 use Rattle.smtp_session.specs.Session.{IsName, KnowsState, line_octets, reply_octets}
 use Rattle.smtp_session.specs.private.Steps.{IsSaid, Makes}
 use Rattle.smtp_session.proofs.KeptLemmas.{delivery-deliverable}

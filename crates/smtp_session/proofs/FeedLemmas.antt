@@ -21,9 +21,11 @@ use Rattle.mail_store.specs.Acts.{Act}
 use Rattle.mail_store.specs.Doing.{Does}
 use Rattle.mail_store.specs.Following.{records_of}
 use Rattle.mail_store.specs.StoreState.{StoreState, with_records}
-use Rattle.mail_store.specs.declared.records.Record.{Record}
+use Rattle.journal_records.specs.declared.records.Record.{Record}
 use Rattle.mail_store.proofs.ActLemmas.{Serving, ServedSoFar, ServedSoFar-start, ServedSoFar-more, ServedSoFar-fails, ServedAll-does, ServedSoFar-all, ServedSoFar-ends}
 use Rattle.mail_store.proofs.DoingLemmas.{Does-none, changes_in-acts}
+use Rattle.smtp_grammar.specs.Data.{behind_command, data_cut, end_cut}
+use Rattle.smtp_grammar.proofs.DataLemmas.{data_cut-shorter, data_cut-stays}
 use Rattle.smtp_session.specs.declared.session.Came.{Came}
 use Rattle.smtp_session.specs.declared.session.SmtpSession.{SmtpSession}
 use Rattle.smtp_session.specs.declared.session.SmtpSession.TheVariants as session
@@ -32,11 +34,10 @@ use Rattle.smtp_session.specs.declared.states.Client.{Client}
 use Rattle.smtp_session.specs.declared.states.Envelope.{Envelope}
 use Rattle.smtp_session.specs.declared.states.SmtpState.{SmtpState}
 use Rattle.smtp_session.specs.declared.states.SmtpState.TheVariants as smtp
-use Rattle.smtp_session.specs.Data.{Moment, behind_command, data_cut, end_cut}
+use Rattle.smtp_session.specs.Trace.{Moment}
 use Rattle.smtp_session.specs.Machine.{Readings, State, fresh, greeted, mail, collecting, ended, Step, acts_in}
 use Rattle.smtp_session.specs.Session.{FeedsBy, HasRestIn, IsFit, IsTold, IsUnfinished, Machine, WithReadings, data_turn, line_octets, line_turn, next_turn, state_of, state_or_ended, turn_in, turns_of}
 use Rattle.smtp_session.specs.private.Steps.{HasRestAfter, Steps}
-use Rattle.smtp_session.proofs.DataLemmas.{data_cut-shorter, data_cut-stays}
 
 -- the machine by what reads paths and tells trees
 abbrev pub serving_of : Readings → Serving

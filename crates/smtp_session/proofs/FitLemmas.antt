@@ -6,13 +6,13 @@ use Rattle.std.specs.List.{list_all}
 use Rattle.std.specs.Fmt.{decimal, digits, digits_onto, digit_glyph}
 use Rattle.std.proofs.lemmas.Bool.Decides.{nat_tests}
 use Rattle.std.proofs.lemmas.List.Folds.{list_all-append}
-use Rattle.ace_domains.proofs.FormLemmas.{form_ascii}
 use Rattle.mail_wire.specs.Octets.{is_ascii}
+use Rattle.ace_domains.proofs.FormLemmas.{form_ascii}
 use Rattle.mail_store.specs.Changing.{delivery_refusal, has_large_octets}
 use Rattle.mail_store.specs.Kept.{name_of}
 use Rattle.mail_store.specs.StoreState.{StoreState}
 use Rattle.mail_store.specs.declared.delivery.Delivery.{Delivery}
-use Rattle.smtp_session.specs.declared.command.Verb.{Verb}
+use Rattle.smtp_grammar.specs.declared.command.Verb.{Verb}
 use Rattle.smtp_session.specs.declared.states.Client.{Client}
 use Rattle.smtp_session.specs.Machine.{Readings, State, Step, step, end_by}
 use Rattle.smtp_session.specs.Session.{IsName, IsFit, AreFit}

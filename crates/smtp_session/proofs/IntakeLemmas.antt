@@ -9,10 +9,11 @@ use Rattle.address_grammar.specs.Addresses.{address_text}
 use Rattle.mail_store.specs.declared.delivery.Delivery.{Delivery}
 use Rattle.mail_store.specs.declared.kept.Folder.{Folder}
 use Rattle.mail_store.specs.declared.kept.Message.{Message}
-use Rattle.mail_store.specs.declared.records.Record.{Record}
-use Rattle.mail_store.specs.declared.records.Record.TheVariants as records
+use Rattle.journal_records.specs.declared.records.Record.{Record}
+use Rattle.journal_records.specs.declared.records.Record.TheVariants as records
 use Rattle.mail_store.specs.Answers.{IsFold}
-use Rattle.mail_store.specs.Changing.{copy_for, delivered, delivery_refusal, has_large_octets, inboxes_of, path_text, queued}
+use Rattle.journal_records.specs.Addresses.{path_text}
+use Rattle.mail_store.specs.Changing.{copy_for, delivered, delivery_refusal, has_large_octets, inboxes_of, queued}
 use Rattle.mail_store.specs.private.Delivering.{copied}
 use Rattle.mail_store.specs.Kept.{Kept, nothing, after, after_all, first_folder, inbox_of}
 use Rattle.mail_store.specs.StoreState.{StoreState}
@@ -20,7 +21,7 @@ use Rattle.mail_store.proofs.ChangeLemmas.{after_all-append}
 use Rattle.mail_store.proofs.DeliveryLemmas.{after-copies}
 use Rattle.smtp_session.specs.declared.states.Client.{Client}
 use Rattle.smtp_session.specs.declared.states.Envelope.{Envelope}
-use Rattle.smtp_session.specs.Data.{Moment}
+use Rattle.smtp_session.specs.Trace.{Moment}
 use Rattle.smtp_session.specs.Intake.{AreRecipients, HasOneMore, IsKeptOnce, acceptance, entries_for, kept_after, messages_in}
 use Rattle.smtp_session.specs.Machine.{Readings, Step, delivery_of, end_by, end_data, greeted, is_same_remote}
 use Rattle.smtp_session.proofs.RowLemmas.{not_zero}

@@ -10,26 +10,27 @@ use Rattle.std.proofs.lemmas.List.Elements.{All-from_recursion}
 use Rattle.std.proofs.lemmas.List.Folds.{list_all-append}
 use Rattle.std.proofs.lemmas.Str.{IsUtf8-append, IsUtf8-from_ascii}
 use Rattle.std.proofs.lemmas.Str.Ascii.{IsAscii-cons, IsAscii-nil}
+use Rattle.mail_wire.specs.Dates.{IsDateText, IsInternalDate}
+use Rattle.mail_wire.specs.Lines.{crlf}
+use Rattle.mail_wire.specs.Octets.{is_line_end, same_name}
+use Rattle.mail_wire.proofs.Folded.{IsFolded-plain}
 use Rattle.ace_domains.specs.Domains.{is_name_octet as is_domain_octet}
 use Rattle.ace_domains.proofs.FormLemmas.{form_name}
 use Rattle.address_grammar.specs.declared.Address.{Address}
 use Rattle.address_grammar.specs.Addresses.{address_text}
 use Rattle.address_grammar.specs.Paths.{ComesInPath, in_angles}
 use Rattle.address_grammar.proofs.WritingLemmas.{path_again}
-use Rattle.mail_wire.specs.Dates.{IsDateText, IsInternalDate}
-use Rattle.mail_wire.specs.Lines.{crlf}
-use Rattle.mail_wire.specs.Octets.{is_line_end, same_name}
-use Rattle.mail_wire.proofs.Folded.{IsFolded-plain}
 use Rattle.mime_tree.specs.Openings.{IsOtherField}
 use Rattle.mime_tree.proofs.FieldLines.{is_safe, no_nul_in_safe}
 use Rattle.mime_tree.proofs.KeptTrees.{fields_before}
-use Rattle.mail_store.specs.Changing.{IsDeliverable, IsSendable}
-use Rattle.mail_store.specs.Grammar.{IsDate, is_digit, date_shape, fits_letter, months}
+use Rattle.journal_records.specs.Addresses.{IsSendable}
+use Rattle.mail_store.specs.Changing.{IsDeliverable}
+use Rattle.journal_records.specs.Grammar.{IsDate, is_digit, date_shape, fits_letter, months}
 use Rattle.mail_store.specs.Kept.{name_of}
-use Rattle.mail_store.specs.Stored.{IsStored}
+use Rattle.journal_records.specs.Stored.{IsStored}
 use Rattle.mail_store.specs.StoreState.{StoreState}
-use Rattle.smtp_session.specs.Commands.{is_client, is_client_octet}
-use Rattle.smtp_session.specs.Data.{Moment, IsMoment, protocol, received, return_path}
+use Rattle.smtp_grammar.specs.Commands.{is_client, is_client_octet}
+use Rattle.smtp_session.specs.Trace.{Moment, IsMoment, protocol, received, return_path}
 use Rattle.smtp_session.specs.Machine.{delivery_of, trace}
 use Rattle.smtp_session.specs.Session.{IsName, Knows}
 use Rattle.smtp_session.specs.declared.states.Client.{Client}

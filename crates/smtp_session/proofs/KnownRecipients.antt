@@ -9,11 +9,11 @@ use Rattle.mail_store.specs.declared.kept.Account.{Account}
 use Rattle.mail_store.specs.declared.limits.TheConstants.{RECIPIENTS_MAX}
 use Rattle.mail_store.specs.Kept.{Kept, find_account, first_account, is_account_of, is_local}
 use Rattle.mail_store.specs.StoreState.{StoreState}
-use Rattle.smtp_session.specs.declared.command.Verb.{Verb}
-use Rattle.smtp_session.specs.declared.command.Verb.TheVariants as verb
+use Rattle.smtp_grammar.specs.declared.command.Verb.{Verb}
+use Rattle.smtp_grammar.specs.declared.command.Verb.TheVariants as verb
+use Rattle.smtp_grammar.specs.Commands.{announced, are_malformed, is_client, is_smtputf8, is_unknown, parameter_of, path_behind}
 use Rattle.smtp_session.specs.declared.states.Client.{Client}
 use Rattle.smtp_session.specs.declared.states.Envelope.{Envelope}
-use Rattle.smtp_session.specs.Commands.{announced, are_malformed, is_client, is_smtputf8, is_unknown, parameter_of, path_behind}
 use Rattle.smtp_session.specs.Intake.{AreRecipients, KnowsRecipients}
 use Rattle.smtp_session.specs.Machine.{Readings, State, Step, alone, collecting, data_step, ended, envelope_of, fresh, greeted, is_same_remote, lacks_smtputf8, mail, mail_by, mail_step, mail_to, path_read, rcpt_local, rcpt_remote, rcpt_step, rcpt_to, recipient_count, reset, step, with_room, words_behind}
 

@@ -3,13 +3,8 @@ pub mod SaidLines
 pub mod FitLemmas
 pub mod RecipientLemmas
 pub mod RowLemmas
-pub mod DataLemmas
-pub mod FindingEnd
-pub mod UnstuffingLemmas
 pub mod TreeLemmas
-pub mod PathLemmas
 pub mod WrittenPaths
-pub mod ParameterLemmas
 pub mod FeedLemmas
 pub mod LineSteps
 pub mod DroppedLemmas
@@ -20,6 +15,4 @@ pub mod IntakeLemmas
 pub mod KnownRecipients
 pub mod StreamLemmas
 pub mod TransactionLemmas
-pub mod SentLines
 pub mod TakenLemmas
-pub mod GrammarPaths

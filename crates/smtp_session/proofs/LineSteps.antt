@@ -24,13 +24,14 @@ use Rattle.mail_store.specs.StoreState.{StoreState}
 use Rattle.mail_store.proofs.ActLemmas.{fit_acts}
 use Rattle.mail_store.proofs.DoingLemmas.{Does-err, Does-ok, Does-reply}
 use Rattle.mail_store.proofs.FollowLemmas.{Follows-nil}
+use Rattle.smtp_grammar.specs.Commands.{command_of}
+use Rattle.smtp_grammar.specs.Data.{end_cut}
 use Rattle.smtp_session.specs.declared.session.Came.{Came}
 use Rattle.smtp_session.specs.declared.states.Data.{Data}
 use Rattle.smtp_session.specs.declared.states.Smtp.{Smtp}
 use Rattle.smtp_session.specs.declared.states.SmtpState.{SmtpState}
 use Rattle.smtp_session.specs.declared.states.SmtpState.TheVariants as smtp
-use Rattle.smtp_session.specs.Commands.{command_of}
-use Rattle.smtp_session.specs.Data.{Moment, end_cut}
+use Rattle.smtp_session.specs.Trace.{Moment}
 use Rattle.smtp_session.specs.Machine.{Readings, State, ended, Step, acts_in, step}
 use Rattle.smtp_session.specs.Session.{HasRestIn, IsFit, IsName, IsTold, IsUnfinished, KnowsState, Machine, ReadsLines, WithReadings, after_step, line_octets, line_too_long, line_turn, next_turn, reply_octets, state_of, state_or_ended, turns_of}
 use Rattle.smtp_session.specs.private.Steps.{HasRestAfter, Steps}

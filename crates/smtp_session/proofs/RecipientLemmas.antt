@@ -5,7 +5,7 @@ use Rattle.std.specs.List.{list_any}
 use Rattle.std.proofs.lemmas.Bool.Decides.{nat_tests}
 use Rattle.std.proofs.lemmas.List.Elements.{All-push}
 use Rattle.address_grammar.specs.declared.Address.{Address}
-use Rattle.mail_store.specs.Changing.{IsSendable}
+use Rattle.journal_records.specs.Addresses.{IsSendable}
 use Rattle.mail_store.specs.StoreState.{StoreState}
 use Rattle.mail_store.specs.declared.limits.TheConstants.{RECIPIENTS_MAX}
 use Rattle.smtp_session.specs.declared.states.Client.{Client}

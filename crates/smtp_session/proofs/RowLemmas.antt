@@ -10,13 +10,13 @@ use Rattle.address_grammar.specs.declared.Address.{Address}
 use Rattle.mail_store.specs.Kept.{find_account, is_local}
 use Rattle.mail_store.specs.StoreState.{StoreState}
 use Rattle.mail_store.specs.declared.limits.TheConstants.{RECIPIENTS_MAX}
-use Rattle.smtp_session.specs.declared.command.Verb.{Verb}
-use Rattle.smtp_session.specs.declared.command.Verb.TheVariants as verb
+use Rattle.smtp_grammar.specs.declared.command.Verb.{Verb}
+use Rattle.smtp_grammar.specs.declared.command.Verb.TheVariants as verb
+use Rattle.smtp_grammar.specs.Commands.{PathAndRest, announced, are_malformed, is_client, is_smtputf8, is_unknown, parameter_of, path_behind, words_of}
 use Rattle.smtp_session.specs.declared.rows.Reply.{Reply}
 use Rattle.smtp_session.specs.declared.states.Client.{Client}
 use Rattle.smtp_session.specs.declared.states.Envelope.{Envelope}
 use Rattle.smtp_session.specs.declared.states.SmtpState.{SmtpState}
-use Rattle.smtp_session.specs.Commands.{PathAndRest, announced, are_malformed, is_client, is_smtputf8, is_unknown, parameter_of, path_behind, words_of}
 use Rattle.smtp_session.specs.Machine.{Readings, State, Step, alone, collecting, data_step, ended, fresh, greeted, is_same_remote, lacks_smtputf8, mail, mail_by, mail_step, mail_to, path_read, rcpt_local, rcpt_remote, rcpt_step, rcpt_to, recipient_count, step, with_room, words_behind}
 use Rattle.smtp_session.specs.Session.{KnowsState, reply_octets, state_of, state_or_ended}
 

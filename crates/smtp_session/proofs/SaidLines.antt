@@ -7,11 +7,11 @@ use Rattle.address_grammar.specs.declared.Address.{Address}
 use Rattle.mail_store.specs.Kept.{name_of, is_local, find_account}
 use Rattle.mail_store.specs.StoreState.{StoreState}
 use Rattle.mail_store.specs.declared.limits.TheConstants.{RECIPIENTS_MAX}
-use Rattle.smtp_session.specs.declared.command.Verb.{Verb}
-use Rattle.smtp_session.specs.declared.command.Verb.TheVariants as verb
+use Rattle.smtp_grammar.specs.declared.command.Verb.{Verb}
+use Rattle.smtp_grammar.specs.declared.command.Verb.TheVariants as verb
+use Rattle.smtp_grammar.specs.Commands.{is_client, path_behind, parameter_of, are_malformed, is_unknown, is_smtputf8, announced}
 use Rattle.smtp_session.specs.declared.states.Client.{Client}
 use Rattle.smtp_session.specs.declared.states.Envelope.{Envelope}
-use Rattle.smtp_session.specs.Commands.{is_client, path_behind, parameter_of, are_malformed, is_unknown, is_smtputf8, announced}
 use Rattle.smtp_session.specs.Machine.{Readings, State, fresh, greeted, mail, collecting, ended, Step, step, offers, client_of, answers, says, bad_argument, ehlo_step, helo_step, lacks_smtputf8, path_read, words_behind, mail_by, mail_step, mail_to, is_same_remote, recipient_count, with_room, rcpt_local, rcpt_remote, rcpt_to, alone, rcpt_step, data_step}
 
 -- `Fits` holds of each line that a command may be answered over this store

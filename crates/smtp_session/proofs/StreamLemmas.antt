@@ -5,24 +5,25 @@ use Rattle.std.specs.List.{AllByRecursion}
 use Rattle.std.specs.Fmt.{decimal}
 use Rattle.std.specs.Option.{option_map}
 use Rattle.std.proofs.lemmas.Bool.{cond_both}
-use Rattle.ace_domains.proofs.FormLemmas.{form_name}
 use Rattle.mail_wire.specs.Framing.{Framed, waiting, whole, too_long, next_line}
 use Rattle.mail_wire.specs.Lines.{Cut}
 use Rattle.mail_wire.specs.Turns.{Turn, all_turns}
 use Rattle.mail_wire.proofs.TurnsLemmas.{all_turns-stop, all_turns-go}
+use Rattle.mail_wire.specs.Dots.{unstuffed}
+use Rattle.ace_domains.proofs.FormLemmas.{form_name}
 use Rattle.mail_store.specs.declared.delivery.Delivery.{Delivery}
-use Rattle.mail_store.specs.declared.records.Record.{Record}
+use Rattle.journal_records.specs.declared.records.Record.{Record}
 use Rattle.mail_store.specs.Acts.{Act, gives, changes, acts_of}
 use Rattle.mail_store.specs.Answers.{IsFold}
 use Rattle.mail_store.specs.Changing.{delivered, delivery_refusal, has_large_octets}
 use Rattle.mail_store.specs.Kept.{Kept, name_of}
 use Rattle.mail_store.specs.StoreState.{StoreState, with_records}
-use Rattle.smtp_session.specs.declared.command.Verb.{Verb}
+use Rattle.smtp_grammar.specs.declared.command.Verb.{Verb}
+use Rattle.smtp_grammar.specs.Commands.{command_of}
+use Rattle.smtp_grammar.specs.Data.{data_cut}
 use Rattle.smtp_session.specs.declared.states.Client.{Client}
 use Rattle.smtp_session.specs.declared.states.Envelope.{Envelope}
-use Rattle.smtp_session.specs.Commands.{command_of}
-use Rattle.smtp_session.specs.Data.{Moment, data_cut}
-use Rattle.mail_wire.specs.Dots.{unstuffed}
+use Rattle.smtp_session.specs.Trace.{Moment}
 use Rattle.smtp_session.specs.Intake.{AreRecipients, IsKeptOnce, KeepsAccepted, KnowsRecipients, Keeps, NoMore, Says, acceptance, stored_line}
 use Rattle.smtp_session.specs.Machine.{Readings, State, fresh, greeted, mail, collecting, ended, Step, acts_in, delivery_of, end_by, end_data, step}
 use Rattle.smtp_session.specs.Session.{IsName, Machine, after_step, data_turn, later, line_too_long, line_turn, next_moment, next_turn, start_of, turn_in, turns_of}

@@ -7,26 +7,28 @@ use Rattle.mail_wire.specs.Lines.{Cut}
 use Rattle.mail_wire.specs.Message.{IsEnded}
 use Rattle.mail_wire.specs.Turns.{Turn, behind}
 use Rattle.mail_wire.proofs.TurnsLemmas.{all_turns-go}
+use Rattle.mail_wire.specs.Dots.{stuffed}
 use Rattle.mail_store.specs.declared.changing.StoreFault.TheVariants as faults
 use Rattle.mail_store.specs.declared.delivery.Delivery.{Delivery}
 use Rattle.mail_store.specs.declared.limits.TheConstants.{THINGS_MAX}
-use Rattle.mail_store.specs.declared.records.Record.{Record}
+use Rattle.journal_records.specs.declared.records.Record.{Record}
 use Rattle.mail_store.specs.Acts.{Act, gives, changes}
 use Rattle.mail_store.specs.Changing.{delivered, delivery_refusal, has_large_octets, has_many_things}
 use Rattle.mail_store.specs.Records.{recipient_count as waiting_count}
 use Rattle.mail_store.specs.StoreState.{StoreState, with_records}
-use Rattle.mail_store.specs.Stored.{IsStored}
-use Rattle.smtp_session.specs.declared.command.Verb.TheVariants as verb
+use Rattle.journal_records.specs.Stored.{IsStored}
+use Rattle.smtp_grammar.specs.declared.command.Verb.TheVariants as verb
+use Rattle.smtp_grammar.specs.Data.{data_cut, sent}
+use Rattle.smtp_grammar.proofs.SentLines.{sent_found, unstuffed_back}
 use Rattle.smtp_session.specs.declared.states.Client.{Client}
 use Rattle.smtp_session.specs.declared.states.Envelope.{Envelope}
-use Rattle.smtp_session.specs.Data.{Moment, TellsTrees, data_cut}
+use Rattle.smtp_session.specs.Trace.{Moment}
+use Rattle.smtp_session.specs.Machine.{Readings, Step, TellsTrees, acts_in, collecting, delivery_of, end_by, end_data, greeted, mail, recipient_count, says, step}
 use Rattle.smtp_session.specs.Intake.{acceptance, stored_line}
-use Rattle.smtp_session.specs.Machine.{Readings, Step, acts_in, collecting, delivery_of, end_by, end_data, greeted, mail, recipient_count, says, step}
-use Rattle.smtp_session.specs.Sending.{IsWithinLimits, sent, stuffed}
+use Rattle.smtp_session.specs.Room.{IsWithinLimits}
 use Rattle.smtp_session.specs.Session.{Machine, after_step, data_turn, later, next_moment, next_turn, turns_of}
 use Rattle.smtp_session.proofs.EndLemmas.{last_of, tells_true}
 use Rattle.smtp_session.proofs.FeedLemmas.{next_turn-framed}
-use Rattle.smtp_session.proofs.SentLines.{sent_found, unstuffed_back}
 
 -- ---- the limits
 

@@ -4,8 +4,8 @@ use Rattle.std.specs.Prelude.{IsTrue, ◌↔◌}
 use Rattle.mime_tree.specs.declared.entity.Entity.{Entity}
 use Rattle.mime_tree.specs.Tree.{HasTree}
 use Rattle.mime_tree.proofs.DecidingTrees.{decide_tree}
-use Rattle.mail_store.specs.Stored.{IsStored}
-use Rattle.smtp_session.specs.Data.{TellsTrees}
+use Rattle.journal_records.specs.Stored.{IsStored}
+use Rattle.smtp_session.specs.Machine.{TellsTrees}
 
 -- octets have a tree of entities, or none
 abbrev Decided : List ℕ → Type 0

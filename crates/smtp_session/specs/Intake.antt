@@ -6,9 +6,9 @@ use Rattle.address_grammar.specs.Addresses.{address_text}
 use Rattle.mail_store.specs.declared.delivery.Delivery.{Delivery}
 use Rattle.mail_store.specs.declared.kept.Entry.{Entry}
 use Rattle.mail_store.specs.declared.kept.Message.{Message}
-use Rattle.mail_store.specs.declared.records.Record.{Record}
+use Rattle.journal_records.specs.declared.records.Record.{Record}
 use Rattle.mail_store.specs.Acts.{Act, gives, changes}
-use Rattle.mail_store.specs.Changing.{path_text}
+use Rattle.journal_records.specs.Addresses.{path_text}
 use Rattle.mail_store.specs.private.Delivering.{copied}
 use Rattle.mail_store.specs.Following.{records_of}
 use Rattle.mail_store.specs.Kept.{Kept, inbox_of, waiting}

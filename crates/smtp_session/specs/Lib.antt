@@ -1,9 +1,7 @@
-pub mod Commands
-pub mod Data
 pub mod Intake
 pub mod Machine
-pub mod Paths
-pub mod Sending
+pub mod Room
 pub mod Session
+pub mod Trace
 pub mod Transaction
 pub mod private

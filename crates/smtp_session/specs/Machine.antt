@@ -1,23 +1,25 @@
 -- The SMTP machine (RFC 5321, 4; RFC 6531, 3).
-use Rattle.std.specs.Prelude.{ℕ, ◌+◌, ◌++◌, ◌==◌, ◌&&◌, not, List, [], ◌∷◌, Bool, true, false, Option, None, Some, length, codes, nat_lt, nat_le, is_some, sum_by, option_and_then, decimal, if◌then◌else◌}
+use Rattle.std.specs.Prelude.{ℕ, ◌+◌, ◌++◌, ◌==◌, ◌&&◌, not, List, [], ◌∷◌, Bool, true, false, Option, None, Some, length, codes, nat_lt, nat_le, is_some, sum_by, option_and_then, decimal, if◌then◌else◌, IsTrue, ◌↔◌}
 use Rattle.std.specs.List.{list_any, list_all}
 use Rattle.std.specs.Str.{bytes_eq}
-use Rattle.address_grammar.specs.declared.Address.{Address}
 use Rattle.mail_wire.specs.Octets.{is_ascii}
+use Rattle.address_grammar.specs.declared.Address.{Address}
 use Rattle.mail_store.specs.Acts.{Act, acts_of}
-use Rattle.mail_store.specs.Addresses.{is_same_domain}
-use Rattle.mail_store.specs.Changing.{path_text, delivered, delivery_refusal, has_large_octets}
+use Rattle.journal_records.specs.Addresses.{is_same_domain, path_text}
+use Rattle.mail_store.specs.Changing.{delivered, delivery_refusal, has_large_octets}
 use Rattle.mail_store.specs.Kept.{find_account, is_local, name_of}
 use Rattle.mail_store.specs.StoreState.{StoreState}
+use Rattle.journal_records.specs.Stored.{IsStored}
 use Rattle.mail_store.specs.declared.delivery.Delivery.{Delivery}
-use Rattle.mail_store.specs.declared.limits.TheConstants.{RECIPIENTS_MAX, TEXT_MAX}
-use Rattle.mail_store.specs.declared.records.Record.{Record}
-use Rattle.smtp_session.specs.declared.command.Verb.{Verb}
-use Rattle.smtp_session.specs.declared.command.Verb.TheVariants as verb
+use Rattle.journal_records.specs.declared.limits.TheConstants.{TEXT_MAX}
+use Rattle.mail_store.specs.declared.limits.TheConstants.{RECIPIENTS_MAX}
+use Rattle.journal_records.specs.declared.records.Record.{Record}
+use Rattle.smtp_grammar.specs.declared.command.Verb.{Verb}
+use Rattle.smtp_grammar.specs.declared.command.Verb.TheVariants as verb
+use Rattle.smtp_grammar.specs.Commands.{PathAndRest, is_client, path_behind, words_of, parameter_of, are_malformed, is_unknown, is_smtputf8, announced}
 use Rattle.smtp_session.specs.declared.states.Client.{Client}
 use Rattle.smtp_session.specs.declared.states.Envelope.{Envelope}
-use Rattle.smtp_session.specs.Commands.{PathAndRest, is_client, path_behind, words_of, parameter_of, are_malformed, is_unknown, is_smtputf8, announced}
-use Rattle.smtp_session.specs.Data.{Moment, protocol, return_path, received}
+use Rattle.smtp_session.specs.Trace.{Moment, protocol, return_path, received}
 
 -- ---- what is taken from other definitions
 
@@ -25,6 +27,10 @@ use Rattle.smtp_session.specs.Data.{Moment, protocol, return_path, received}
 pub record Readings : Type 0 where
   pub path_of : List ℕ → Option (Option Address)
   pub has_tree : List ℕ → Bool
+
+-- the function tells which octets have a tree of entities
+abbrev pub TellsTrees : (List ℕ → Bool) → Type 0
+TellsTrees has_tree = (octets : List ℕ) → IsTrue (has_tree octets) ↔ IsStored octets
 
 -- ---- states and steps
 

@@ -8,18 +8,18 @@ use Rattle.mail_wire.specs.Octets.{is_ascii}
 use Rattle.mail_wire.specs.Telling.{Telling}
 use Rattle.mail_wire.specs.Turns.{Turn, all_turns}
 use Rattle.mail_wire.specs.declared.outside.Fault.{Fault}
+use Rattle.mail_wire.specs.Dots.{unstuffed}
 use Rattle.address_grammar.specs.Paths.{ReadsPaths}
 use Rattle.mail_store.specs.Acts.{Act, acts_of, IsFitAct}
-use Rattle.mail_store.specs.Addresses.{IsDomainText}
-use Rattle.mail_store.specs.Changing.{IsSendable}
+use Rattle.journal_records.specs.Addresses.{IsDomainText, IsSendable}
 use Rattle.mail_store.specs.Doing.{Does}
 use Rattle.mail_store.specs.Following.{records_of}
 use Rattle.mail_store.specs.StoreState.{StoreState, with_records}
 use Rattle.mail_store.specs.declared.limits.TheConstants.{RECIPIENTS_MAX}
-use Rattle.smtp_session.specs.Commands.{command_of, is_client}
-use Rattle.smtp_session.specs.Data.{Moment, IsMoment, TellsTrees, data_cut, end_cut}
-use Rattle.mail_wire.specs.Dots.{unstuffed}
-use Rattle.smtp_session.specs.Machine.{Readings, State, fresh, greeted, mail, collecting, ended, Step, acts_in, step, end_data, recipient_count}
+use Rattle.smtp_grammar.specs.Commands.{command_of, is_client}
+use Rattle.smtp_grammar.specs.Data.{data_cut, end_cut}
+use Rattle.smtp_session.specs.Trace.{Moment, IsMoment}
+use Rattle.smtp_session.specs.Machine.{Readings, State, Step, TellsTrees, acts_in, collecting, end_data, ended, fresh, greeted, mail, recipient_count, step}
 use Rattle.smtp_session.specs.declared.states.Client.{Client}
 use Rattle.smtp_session.specs.declared.states.Envelope.{Envelope}
 use Rattle.smtp_session.specs.declared.states.SmtpState.{SmtpState}

@@ -1,29 +1,27 @@
-//! Laws of the data, of which of them are taken, of paths, of transactions, and of what is kept.
+//! Laws of the trees of data, of which data are taken, of written paths, of transactions, and of what is kept.
 ghost use Rattle.std.specs.Prelude.{◌≡◌, ◌≢◌, ◌<◌, ◌++◌, ◌∷◌, ℕ, List, [], Bool, Option, Some, IfSome, length, true, codes};
 ghost use Rattle.std.specs.List.{All};
-ghost use Rattle.mail_wire.specs.Lines.{Cut, lines_of};
 ghost use Rattle.mail_wire.specs.Message.{IsEnded};
 ghost use Rattle.mail_wire.specs.Turns.{behind};
 ghost use Rattle.address_grammar.specs.declared.Address.{Address};
 ghost use Rattle.address_grammar.specs.Paths.{ComesInPath, in_angles};
 ghost use Rattle.mail_store.specs.Acts.{gives, changes};
 ghost use Rattle.mail_store.specs.Answers.{IsFold};
-ghost use Rattle.mail_store.specs.Changing.{delivered, path_text};
+ghost use Rattle.journal_records.specs.Addresses.{path_text};
+ghost use Rattle.mail_store.specs.Changing.{delivered};
 ghost use Rattle.mail_store.specs.Kept.{Kept, name_of};
 ghost use Rattle.mail_store.specs.StoreState.{StoreState, with_records};
-ghost use Rattle.mail_store.specs.Stored.{IsStored};
-ghost use Rattle.smtp_session.specs.Commands.{path_behind, path_len, stands_apart};
-ghost use Rattle.smtp_session.specs.Data.{Moment, TellsTrees, data_cut};
-ghost use Rattle.mail_wire.specs.Dots.{unstuffed};
+ghost use Rattle.journal_records.specs.Stored.{IsStored};
+ghost use Rattle.smtp_grammar.specs.Commands.{path_behind, stands_apart};
+ghost use Rattle.smtp_grammar.specs.Data.{sent};
+ghost use Rattle.smtp_grammar.specs.declared.command.Verb.{Verb};
+ghost use Rattle.smtp_grammar.specs.declared.command.Verb.TheVariants as verb;
 ghost use Rattle.smtp_session.specs.Intake.{AreRecipients, IsKeptOnce, KeepsAccepted, KnowsRecipients, acceptance, kept_after, stored_line};
-ghost use Rattle.smtp_session.specs.Machine.{Readings, State, collecting, fresh, greeted, mail, recipient_count, says, step, delivery_of, end_data};
-ghost use Rattle.smtp_session.specs.Paths.{IsPathText};
-ghost use Rattle.smtp_session.specs.Sending.{IsWithinLimits, sent, stuffed};
+ghost use Rattle.smtp_session.specs.Machine.{Readings, State, TellsTrees, collecting, fresh, greeted, mail, recipient_count, says, step, delivery_of, end_data};
+ghost use Rattle.smtp_session.specs.Room.{IsWithinLimits};
 ghost use Rattle.smtp_session.specs.Session.{IsName, later, next_moment, start_of, turns_of};
+ghost use Rattle.smtp_session.specs.Trace.{Moment};
 ghost use Rattle.smtp_session.specs.Transaction.{GoesOn, IsTransactionKept, TakesData, TakesRecipient, TakesSender, go_ahead, recipient_ok, sender_ok};
-ghost use Rattle.smtp_session.specs.declared.command.Place.TheVariants.{Plain};
-ghost use Rattle.smtp_session.specs.declared.command.Verb.{Verb};
-ghost use Rattle.smtp_session.specs.declared.command.Verb.TheVariants as verb;
 ghost use Rattle.smtp_session.specs.declared.states.Client.{Client};
 ghost use Rattle.smtp_session.specs.declared.states.Envelope.{Envelope};
 
@@ -32,18 +30,9 @@ pub fn trees_are_told()
     ensures { (has_tree : List ℕ → Bool) × TellsTrees has_tree }
 {}
 
-/// No line of the data is a dot alone, and behind the data stand such a line and the rest.
-pub fn data_end_once()
-    ensures none { (octets : List ℕ) (cut : Cut) → data_cut octets ≡ Some cut → All (λ line. line ≢ codes ".\r\n") (lines_of cut.line) }
-    ensures split { (octets : List ℕ) (cut : Cut) → data_cut octets ≡ Some cut → octets ≡ cut.line ++ (codes ".\r\n" ++ cut.rest) }
-{}
-
-/// Data that a client sends of any lines are found exactly there, and say these lines again. With a recipient DATA is accepted, and data
-/// that have a tree and are within the limits are accepted: over a stream they are kept and told to be stored, and what follows
-/// them is read on.
+/// With a recipient DATA is accepted. Data that a client sends of any lines that have a tree and are within the limits are
+/// accepted: over a stream they are kept and told to be stored, and what follows them is read on.
 pub fn whole_data_are_taken()
-    ensures found { (octets : List ℕ) → IsEnded octets → (rest : List ℕ) → data_cut (sent octets rest) ≡ Some (record { line = stuffed octets; rest = rest }) }
-    ensures back { (octets : List ℕ) → unstuffed (stuffed octets) ≡ octets }
     ensures begun { (readings : Readings) (client : Client) (envelope : Envelope) (store : StoreState) (argument : List ℕ) → 0 < recipient_count envelope
         → step readings (mail client envelope) store verb.Data argument ≡ says (codes "354 go ahead") (collecting client envelope) }
     ensures accepted { (readings : Readings) (store : StoreState) (client : Client) (envelope : Envelope) (moment : Moment) (octets : List ℕ)
@@ -64,16 +53,6 @@ pub fn written_paths_are_found()
         → path_behind word (word ++ (in_angles (path_text path) ++ rest)) ≡ Some (record { path = in_angles (path_text path); rest = rest }) }
     ensures spaced { (word : List ℕ) (path : Option Address) → IfSome path ComesInPath → (rest : List ℕ) → stands_apart rest ≡ true
         → path_behind word (word ++ 32 ∷ (in_angles (path_text path) ++ rest)) ≡ Some (record { path = in_angles (path_text path); rest = rest }) }
-{}
-
-/// Each path of the grammar, and the null path, is found whole from its `<` to its `>` where it has no comments, behind any word, also
-/// where a space stands between, and where nothing follows or white does.
-pub fn grammar_paths_are_found()
-    ensures whole { (text : List ℕ) (answer : Option Address) → IsPathText text answer → (rest : List ℕ) → path_len Plain (text ++ rest) ≡ Some (length text) }
-    ensures behind { (word text : List ℕ) (answer : Option Address) → IsPathText text answer → (rest : List ℕ) → stands_apart rest ≡ true
-        → path_behind word (word ++ (text ++ rest)) ≡ Some (record { path = text; rest = rest }) }
-    ensures spaced { (word text : List ℕ) (answer : Option Address) → IsPathText text answer → (rest : List ℕ) → stands_apart rest ≡ true
-        → path_behind word (word ++ 32 ∷ (text ++ rest)) ≡ Some (record { path = text; rest = rest }) }
 {}
 
 /// An accepted MAIL begins a transaction with the path that it says and without recipients; of an accepted RCPT the recipient stands

@@ -3,20 +3,20 @@ ghost use Rattle.std.specs.Prelude.{◌≡◌, ◌==◌, ◌≤◌, ◌<◌, ◌
 ghost use Rattle.std.specs.List.{All, list_any};
 ghost use Rattle.address_grammar.specs.Addresses.{address_text};
 ghost use Rattle.address_grammar.specs.Paths.{ComesInPath};
-ghost use Rattle.mail_store.specs.Addresses.{WithPaths};
-ghost use Rattle.mail_store.specs.Changing.{IsSendable};
+ghost use Rattle.journal_records.specs.Addresses.{WithPaths, IsSendable};
 ghost use Rattle.mail_store.specs.Kept.{name_of};
 ghost use Rattle.mail_store.specs.StoreState.{StoreState};
-ghost use Rattle.smtp_session.specs.Commands.{command_of, is_client as is_client_of, words_of, path_behind as path_behind_of};
+ghost use Rattle.smtp_grammar.specs.Commands.{command_of, is_client as is_client_of, words_of, path_behind as path_behind_of};
 ghost use Rattle.smtp_session.specs.Machine.{greeted as greeted_of, mail as mail_of, step, offers as offers_of, client_of, ehlo_step, helo_step, within_limit, lacks_smtputf8 as lacks_smtputf8_of, mail_by, mail_step, is_same_remote as is_same_remote_of, recipient_count as recipient_count_of, rcpt_local, rcpt_remote, rcpt_to, alone, rcpt_step, data_step, reset as reset_of};
 ghost use Rattle.smtp_session.specs.Session.{Knows, KnowsState, WithReadings, reply_octets, state_of, state_or_ended};
 
-use crate::command::{PathAndRest, Verb, is_client, path_behind, read_command, read_parameters};
 use crate::states::{Client, Envelope, Greeted, Mail, Smtp, SmtpState};
 use ace_domains::same;
 use address_grammar::{Address, AddressFault, read_path, write_address};
-use mail_store::{RECIPIENTS_MAX, Store, TEXT_MAX};
+use journal_records::TEXT_MAX;
+use mail_store::{RECIPIENTS_MAX, Store};
 use mail_wire::{Memory, Octets, is_ascii, is_white_text};
+use smtp_grammar::{PathAndRest, Verb, is_client, path_behind, read_command, read_parameters};
 use std::alloc::Global;
 
 /// A reply of whole lines, and the state after it; none where the session has ended.

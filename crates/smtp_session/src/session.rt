@@ -3,28 +3,30 @@ ghost use Rattle.std.specs.Prelude.{◌≡◌, ◌++◌, ◌<◌, ◌≤◌, ◌
 ghost use Rattle.std.specs.List.{All};
 ghost use Rattle.mail_wire.specs.Keeping.{HasKeeperCause};
 ghost use Rattle.mail_wire.specs.Moves.{GivesOrFails, HasWireCause};
+ghost use Rattle.mail_wire.specs.Dots.{unstuffed};
+ghost use Rattle.address_grammar.specs.Paths.{ComesInPath};
 ghost use Rattle.mail_store.specs.Kept.{name_of};
 ghost use Rattle.mail_store.specs.StoreState.{StoreState};
 ghost use Rattle.mail_store.specs.Changing.{IsDeliverable};
 ghost use Rattle.mail_store.specs.Doing.{Does};
-ghost use Rattle.mail_store.specs.Stored.{IsStored};
-ghost use Rattle.address_grammar.specs.Paths.{ComesInPath};
-ghost use Rattle.smtp_session.specs.Commands.{command_of};
-ghost use Rattle.smtp_session.specs.Data.{IsMoment, Moment, TellsTrees, end_cut, protocol as protocol_of};
-ghost use Rattle.mail_wire.specs.Dots.{unstuffed};
-ghost use Rattle.smtp_session.specs.Machine.{acts_in, ended, delivery_of, end_by, end_data as end_of, step};
+ghost use Rattle.journal_records.specs.Stored.{IsStored};
+ghost use Rattle.smtp_grammar.specs.Commands.{command_of};
+ghost use Rattle.smtp_grammar.specs.Data.{end_cut};
+ghost use Rattle.smtp_session.specs.Trace.{IsMoment, Moment, protocol as protocol_of};
+ghost use Rattle.smtp_session.specs.Machine.{TellsTrees, acts_in, delivery_of, end_by, end_data as end_of, ended, step};
 ghost use Rattle.smtp_session.specs.Session.{FeedsBy, HasRest, HasRestIn, IsName, IsReady, IsTold, KnowsState, ReadsLines, WithReadings, greeting, line_octets, machine_of, reply_octets, session_state, start_of, state_of, state_or_ended, turns_of};
 ghost use Rattle.smtp_session.specs.private.Steps.{HasRestAfter, IsReadyAfter, IsSaid, Makes, Steps, content_of, moment_of};
 
-use crate::data::{find_data_end, push_unstuffed, received_field, return_path_field};
 use crate::rows::{Reply, answer};
 use crate::states::{Client, Data, Envelope, Fresh, Greeted, Smtp, SmtpState};
+use crate::trace::{received_field, return_path_field};
 use mail_store::{Delivery, Store, StoreFault, has_large_octets};
 use mail_wire::{
     Clock, Fault, FoundLine, Keeper, Memory, Octets, PIECE, Wire, date_text, find_line, give_all,
     internal_date,
 };
 use mime_tree::{TreeFault, read_tree};
+use smtp_grammar::{find_data_end, push_unstuffed};
 use std::alloc::Global;
 
 const TOO_LONG: &[u8] = b"500 5.5.2 line too long\r\n";

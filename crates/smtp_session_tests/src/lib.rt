@@ -2,8 +2,6 @@
 #![tactic(auto)]
 
 #[cfg(test)]
-mod command_tests;
-#[cfg(test)]
-mod data_tests;
-#[cfg(test)]
 mod session_tests;
+#[cfg(test)]
+mod trace_tests;

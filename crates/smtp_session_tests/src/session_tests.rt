@@ -5,7 +5,8 @@ ghost use Rattle.mail_store.specs.Kept.{name_of};
 ghost use Rattle.smtp_session.specs.Session.{IsName};
 
 use ace_domains::normal;
-use mail_store::{Record, Store, push_record};
+use journal_records::{Record, push_record};
+use mail_store::Store;
 use mail_wire::{Entry, Failure, Fault, FixedClock, MemKeeper, MemWire, Memory, Octets};
 use smtp_session::SmtpSession;
 use std::alloc::Global;

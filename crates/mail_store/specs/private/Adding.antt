@@ -1,18 +1,11 @@
 -- What reading a record and putting it last does, by its answer.
 use Rattle.std.specs.Prelude.{◌≡◌, ◌≢◌, ℕ, List, Result, Ok, Err}
-use Rattle.mail_store.specs.declared.reading.ReadFault.{ReadFault}
-use Rattle.mail_store.specs.declared.reading.ReadFault.TheVariants.{Memory, NoRecord}
-use Rattle.mail_store.specs.declared.records.Record.{Record}
+use Rattle.journal_records.specs.declared.reading.ReadFault.{ReadFault}
+use Rattle.journal_records.specs.declared.reading.ReadFault.TheVariants.{Memory, NoRecord}
+use Rattle.journal_records.specs.declared.records.Record.{Record}
 use Rattle.mail_store.specs.Records.{IsInOrder, IsRecord}
-use Rattle.mail_store.specs.Spelling.{fields_of}
-use Rattle.mail_store.specs.Stored.{IsStored}
+use Rattle.journal_records.specs.Spelling.{fields_of}
 use Rattle.mail_store.specs.StoreState.{StoreState, with_record}
-
--- the octets may be kept, or may not
-abbrev pub IsJudged : {T : Type 0} → Result T ReadFault → List ℕ → Type 0
-IsJudged (Ok done) octets = IsStored octets
-IsJudged (Err Memory) octets = Unit {0}
-IsJudged (Err NoRecord) octets = ¬ IsStored octets
 
 -- The record was put last, or it is none. The store changes only at Ok.
 abbrev pub AddsRecord : {T : Type 0} → StoreState → StoreState → Result T ReadFault → Record → Type 0

@@ -7,9 +7,9 @@ use Rattle.mail_store.specs.Changing.{are_too_many}
 use Rattle.mail_store.specs.declared.delivery.Delivery.{Delivery}
 use Rattle.mail_store.specs.declared.kept.Entry.{Entry}
 use Rattle.mail_store.specs.declared.kept.Message.{Message}
-use Rattle.mail_store.specs.declared.limits.TheConstants.{RECORD_MAX}
-use Rattle.mail_store.specs.declared.records.Record.{Record}
-use Rattle.mail_store.specs.declared.records.Record.TheVariants as records
+use Rattle.journal_records.specs.declared.limits.TheConstants.{RECORD_MAX}
+use Rattle.journal_records.specs.declared.records.Record.{Record}
+use Rattle.journal_records.specs.declared.records.Record.TheVariants as records
 use Rattle.mail_store.specs.Kept.{Kept, waiting, is_local}
 
 -- a live message without flags

@@ -1,16 +1,14 @@
 -- Numbers by name, for the indexes of domains and of mailboxes.
-use Rattle.std.specs.Prelude.{◌≡◌, ℕ, ◌+◌, List, [], ◌∷◌, ◌++◌, Bool, false, Option, Some, None, if◌then◌else◌, encode_utf8_all}
+use Rattle.std.specs.Prelude.{◌≡◌, ℕ, ◌+◌, List, [], ◌∷◌, Bool, false, Option, Some, None, if◌then◌else◌}
 use Rattle.std.specs.Option.{option_map_or}
 use Rattle.std.specs.Ordering.{nat_cmp}
 use Rattle.std.specs.Cmp.Lexicographic.{slice_cmp}
-use Rattle.std.specs.Str.{bytes_eq, chars}
+use Rattle.std.specs.Str.{bytes_eq}
 use Rattle.std.specs.BTreeMap.{BTreeMap, get_by}
 use Rattle.std.specs.Global.{Vec}
-use Rattle.caseless.specs.Caseless.{canonical_key}
-use Rattle.ace_domains.specs.Domains.{compared_form}
 use Rattle.address_grammar.specs.declared.Address.{Address}
 use Rattle.mail_store.specs.declared.kept.Account.{Account}
-use Rattle.mail_store.specs.Addresses.{address_of}
+use Rattle.journal_records.specs.Addresses.{address_of, mailbox_key}
 
 -- the number at a name
 abbrev pub number_of : BTreeMap (Vec ℕ) ℕ → List ℕ → Option ℕ
@@ -29,10 +27,6 @@ PutsName old new key number = (name : List ℕ) → new name ≡ kept_first (old
 abbrev pub first_name : List ℕ → ℕ → List (List ℕ) → Option ℕ
 first_name name at [] = None
 first_name name at (first ∷ names) = if bytes_eq first name then Some at else first_name name (at + 1) names
-
--- What a mailbox is known by: the canonical key of its local part, an octet that isn't in UTF-8, and its domain's normal form.
-abbrev pub mailbox_key : Address → List ℕ
-mailbox_key address = encode_utf8_all (canonical_key (chars address.local)) ++ 255 ∷ compared_form address.domain
 
 -- the account's mailbox is known by this key
 abbrev pub has_key : (List ℕ → Option (Option Address)) → List ℕ → Account → Bool

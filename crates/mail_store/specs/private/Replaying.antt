@@ -1,54 +1,15 @@
 -- Words of the private calls that go over a journal.
-use Rattle.std.specs.Prelude.{◌≡◌, ◌≢◌, ◌⊎◌, ℕ, ◌+◌, ◌<◌, ◌≤◌, List, [], ◌++◌, length, take, drop, Option, Some, None, IfSome, IsTrue, ◌==◌, if◌then◌else◌}
+use Rattle.std.specs.Prelude.{◌≡◌, ◌⊎◌, ℕ, ◌+◌, ◌≤◌, List, [], ◌++◌, length, take, drop, Option, Some, None, IfSome, IsTrue, ◌==◌, if◌then◌else◌}
 use Rattle.mail_wire.specs.KeeperTelling.{KeeperTelling}
-use Rattle.mail_store.specs.declared.limits.TheConstants.{RECORD_MAX}
-use Rattle.mail_store.specs.declared.frames.Frame.{Frame}
-use Rattle.mail_store.specs.declared.frames.Frame.TheVariants as frames
-use Rattle.mail_store.specs.declared.frames.Beginning.{Beginning}
-use Rattle.mail_store.specs.declared.frames.Beginning.TheVariants as beginnings
 use Rattle.mail_store.specs.declared.opening.OpenFault.{OpenFault}
 use Rattle.mail_store.specs.declared.opening.OpenFault.TheVariants as faults
-use Rattle.mail_store.specs.declared.records.Record.{Record}
+use Rattle.journal_records.specs.declared.records.Record.{Record}
 use Rattle.mail_store.specs.Kept.{Kept, nothing, store_of}
 use Rattle.mail_store.specs.Records.{AreRecords}
-use Rattle.mail_store.specs.Opening.{IsCutShort, IsBeginning, HasRecords, IsBadAt}
-use Rattle.mail_store.specs.Spelling.{octet_list, journal, first_octets}
+use Rattle.mail_store.specs.Opening.{HasRecords, IsBadAt}
+use Rattle.journal_records.specs.Spelling.{journal, first_octets}
 use Rattle.mail_store.specs.StoreState.{StoreState}
 use Rattle.mail_store.specs.private.Adding.{NotAdded}
-
--- a length within the limit and so many octets come first
-pub record IsWhole (n : ℕ) (octets : List ℕ) : Type 0 where
-  pub some : 0 < n
-  pub short : n ≤ RECORD_MAX
-  pub within : 4 + n ≤ length octets
-  pub text : octets ≡ octet_list (take n (drop 4 octets)) ++ drop n (drop 4 octets)
-
--- neither a prefix of a record nor a list of octets within the limit
-pub record IsNoFrame (octets : List ℕ) : Type 0 where
-  pub no_prefix : IsCutShort octets → ⊥
-  pub no_list : (fields rest : List ℕ) → 0 < length fields → length fields ≤ RECORD_MAX → octets ≢ octet_list fields ++ rest
-
-abbrev pub IsFrame : Frame → List ℕ → Type 0
-IsFrame frames.CutShort octets = IsCutShort octets
-IsFrame frames.Bad octets = IsNoFrame octets
-IsFrame (frames.Whole n) octets = IsWhole n octets
-
--- a whole frame stands within so many octets
-abbrev pub FitsIn : Frame → ℕ → Type 0
-FitsIn frames.CutShort left = Unit {0}
-FitsIn frames.Bad left = Unit {0}
-FitsIn (frames.Whole n) left = (0 < n) × (n ≤ RECORD_MAX) × (4 + n ≤ left)
-
-abbrev pub IsBeginningOf : Beginning → List ℕ → Type 0
-IsBeginningOf beginnings.Prefix octets = IsBeginning octets
-IsBeginningOf beginnings.Journal octets = octets ≡ first_octets ++ drop 8 octets
-IsBeginningOf beginnings.Other octets = (IsBeginning octets → ⊥) × ((rest : List ℕ) → octets ≢ first_octets ++ rest)
-
--- only a journal has eight octets or more
-abbrev pub IsLong : Beginning → ℕ → Type 0
-IsLong beginnings.Prefix len = Unit {0}
-IsLong beginnings.Journal len = 8 ≤ len
-IsLong beginnings.Other len = Unit {0}
 
 -- the octets are as before, the count of faults isn't less, and a keeper that never fails goes on
 pub record Stays (before now : KeeperTelling) : Type 0 where

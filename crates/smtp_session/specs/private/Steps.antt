@@ -4,12 +4,12 @@ use Rattle.std.specs.List.{All}
 use Rattle.mail_wire.specs.Telling.{Telling}
 use Rattle.mail_wire.specs.Turns.{Turn, behind}
 use Rattle.mail_wire.specs.declared.outside.Fault.{Fault}
+use Rattle.mail_wire.specs.Dots.{unstuffed}
 use Rattle.mail_store.specs.Acts.{Act, acts_of}
 use Rattle.mail_store.specs.Doing.{Does, IsDone}
 use Rattle.mail_store.specs.StoreState.{StoreState}
-use Rattle.mail_store.specs.declared.records.Record.{Record}
-use Rattle.smtp_session.specs.Data.{Moment}
-use Rattle.mail_wire.specs.Dots.{unstuffed}
+use Rattle.journal_records.specs.declared.records.Record.{Record}
+use Rattle.smtp_session.specs.Trace.{Moment}
 use Rattle.smtp_session.specs.Machine.{Readings}
 use Rattle.smtp_session.specs.Session.{AreFitActs, HasRestIn, IsTold, IsUnfinished, KnowsState, Machine, WithReadings, line_octets, state_of, state_or_ended, turns_of}
 use Rattle.smtp_session.specs.declared.states.SmtpState.{SmtpState}

@@ -5,7 +5,7 @@ use Rattle.ace_domains.specs.Domains.{compared_form}
 use Rattle.address_grammar.specs.Addresses.{address_text}
 use Rattle.address_grammar.specs.declared.Address.{Address}
 use Rattle.mail_store.specs.Changing.{account_refusal, domain_refusal}
-use Rattle.mail_store.specs.declared.records.Record.TheVariants as records
+use Rattle.journal_records.specs.declared.records.Record.TheVariants as records
 use Rattle.setup_command.specs.AddingRuns.{RunsAdding, IsExactAdding}
 use Rattle.setup_command.specs.Statuses.{status_of}
 use Rattle.mail_command.specs.declared.roles.Role.{Role}

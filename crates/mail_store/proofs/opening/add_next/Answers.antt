@@ -1,4 +1,3 @@
-use Rattle.std.proofs.Common.{arith}
 use Rattle.std.proofs.lemmas.Result.{err_from_is_err_and}
 use Rattle.mail_store.proofs.Next.{not_read, was_read}
 use Rattle.mail_store.proofs.opening.add_next.Goals as goal
@@ -6,7 +5,7 @@ use Rattle.mail_store.proofs.opening.add_next.Goals as goal
 pub returns-in_err-one : goal.returns-in_err-one
 returns-in_err-one c =
     let p = err_from_is_err_and c.from_residual.result c.from_residual.ensures.1 in
-    rw (p.1, p.2) (not_read c.in_err-one.field-0.0 c.args.store.now c.args.store.now c.args.fields.now c.in_err-one.ensures)
+    rw (p.1, p.2) (not_read c.in_err-one.field-0.0 c.args.store.now c.args.store.now c.args.fields.now c.in_err-one.ensures.no_record)
 
 pub returns : goal.returns
-returns c = was_read c.args.store.now c.add.new.self c.add.result c.args.fields.now c.in_ok-one.one (λ i. omega (arith, c.type_inv.fields i)) c.requires c.in_ok-one.ensures c.add.ensures
+returns c = was_read c.args.store.now c.add.new.self c.add.result c.args.fields.now c.in_ok-one.one c.in_ok-one.ensures.spelled c.in_ok-one.ensures.fits c.requires c.add.ensures

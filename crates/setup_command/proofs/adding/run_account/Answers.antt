@@ -3,7 +3,7 @@ use Rattle.address_grammar.specs.Addresses.{address_text}
 use Rattle.address_lists.proofs.PathPiecesLemmas.{paths_read}
 use Rattle.mail_store.specs.Changing.{account_refusal}
 use Rattle.mail_store.specs.Kept.{Kept}
-use Rattle.mail_store.specs.declared.records.Record.TheVariants as records
+use Rattle.journal_records.specs.declared.records.Record.TheVariants as records
 use Rattle.setup_command.proofs.AddingLemmas.{unopened, added, refused}
 use Rattle.setup_command.proofs.adding.run_account.Goals as goal
 

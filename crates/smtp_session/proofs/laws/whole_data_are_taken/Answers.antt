@@ -1,12 +1,5 @@
-use Rattle.smtp_session.proofs.SentLines.{sent_found, unstuffed_back}
 use Rattle.smtp_session.proofs.TakenLemmas.{data_accepted, data_begin, sent_kept}
 use Rattle.smtp_session.proofs.laws.whole_data_are_taken.Goals as goal
-
-pub returns-clause-found : goal.returns-clause-found
-returns-clause-found c = sent_found
-
-pub returns-clause-back : goal.returns-clause-back
-returns-clause-back c = unstuffed_back
 
 pub returns-clause-begun : goal.returns-clause-begun
 returns-clause-begun c = data_begin

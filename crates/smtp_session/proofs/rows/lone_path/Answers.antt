@@ -1,5 +1,5 @@
 use Rattle.std.proofs.Common.{sym}
-use Rattle.smtp_session.specs.Commands.{path_behind}
+use Rattle.smtp_grammar.specs.Commands.{path_behind}
 use Rattle.smtp_session.proofs.RowLemmas.{alone-blank, alone-more}
 use Rattle.smtp_session.proofs.rows.lone_path.Goals as goal
 

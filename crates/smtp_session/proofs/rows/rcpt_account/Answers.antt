@@ -1,6 +1,6 @@
 use Rattle.std.proofs.Common.{◌≡◌, ◌==◌, ℕ, List, true, false, sym, subst, ap}
 use Rattle.std.specs.List.{list_any}
-use Rattle.smtp_session.specs.Commands.{is_client}
+use Rattle.smtp_grammar.specs.Commands.{is_client}
 use Rattle.smtp_session.specs.declared.states.Client.{Client}
 use Rattle.smtp_session.specs.declared.states.Envelope.{Envelope}
 use Rattle.smtp_session.specs.declared.states.SmtpState.TheVariants.{Mail}

@@ -1,7 +1,7 @@
 use Rattle.std.proofs.Common.{◌≡◌, ◌∙◌, List, sym, ap, subst, true, false}
 use Rattle.std.specs.List.{list_any}
 use Rattle.address_grammar.specs.declared.Address.{Address}
-use Rattle.smtp_session.specs.Commands.{is_client}
+use Rattle.smtp_grammar.specs.Commands.{is_client}
 use Rattle.smtp_session.specs.declared.states.Client.{Client}
 use Rattle.smtp_session.specs.declared.states.Envelope.{Envelope}
 use Rattle.smtp_session.specs.declared.states.SmtpState.TheVariants.{Mail}

@@ -5,8 +5,8 @@ use Rattle.address_grammar.specs.Addresses.{address_text}
 use Rattle.address_grammar.proofs.WritingLemmas.{path_again}
 use Rattle.mail_store.specs.declared.changing.NewAccount.{NewAccount}
 use Rattle.mail_store.specs.declared.changing.StoreFault.TheVariants as faults
-use Rattle.mail_store.specs.declared.records.Record.TheVariants as records
-use Rattle.mail_store.specs.Addresses.{IsTextOf}
+use Rattle.journal_records.specs.declared.records.Record.TheVariants as records
+use Rattle.journal_records.specs.Addresses.{IsTextOf}
 use Rattle.mail_store.specs.Changing.{account_refusal, IsRefusedAs}
 use Rattle.mail_store.specs.private.Delivering.{room_refusal}
 use Rattle.mail_store.specs.private.Names.{number_of, PutsName}

@@ -2,11 +2,10 @@ use Rattle.std.proofs.Common.{◌≡◌, ◌<◌, ℕ, List, Option, length, ref
 use Rattle.std.specs.Prelude.{IfSome}
 use Rattle.address_grammar.specs.declared.Address.{Address}
 use Rattle.mail_store.specs.declared.limits.TheConstants.{THINGS_MAX}
-use Rattle.mail_store.specs.Addresses.{IsTextOf}
-use Rattle.mail_store.specs.private.Names.{number_of, PutsName, mailbox_key}
-use Rattle.mail_store.specs.Records.{IsAddress}
+use Rattle.journal_records.specs.Addresses.{IsTextOf, mailbox_key, IsAddress}
+use Rattle.mail_store.specs.private.Names.{number_of, PutsName}
 use Rattle.mail_store.specs.private.Store.{kept_of, indexes_of}
-use Rattle.mail_store.proofs.AddressTexts.{false_true, address_missing}
+use Rattle.journal_records.proofs.AddressTexts.{false_true, address_missing}
 use Rattle.mail_store.proofs.IndexLemmas.{AreIndexes-account}
 use Rattle.mail_store.proofs.storing.Store.add_account_record.Goals as goal
 

@@ -1,8 +1,8 @@
 use Rattle.std.proofs.Common.{◌≡◌, [], ◌∷◌, ◌++◌, None, length, sym, ap, subst, ◌∙◌}
 use Rattle.ace_domains.specs.Domains.{compared_form}
 use Rattle.mail_store.specs.declared.changing.Named.{Named}
-use Rattle.mail_store.specs.declared.records.Record.TheVariants as records
-use Rattle.mail_store.specs.Addresses.{IsDomainText}
+use Rattle.journal_records.specs.declared.records.Record.TheVariants as records
+use Rattle.journal_records.specs.Addresses.{IsDomainText}
 use Rattle.mail_store.specs.Changing.{domain_refusal}
 use Rattle.mail_store.specs.private.Names.{number_of, PutsName}
 use Rattle.mail_store.specs.private.Store.{kept_of, indexes_of, state_of}

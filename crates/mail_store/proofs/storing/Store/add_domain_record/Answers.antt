@@ -1,6 +1,6 @@
 use Rattle.std.proofs.Common.{◌≡◌, ◌<◌, ℕ, List, length, subst, arith}
 use Rattle.mail_store.specs.declared.limits.TheConstants.{THINGS_MAX}
-use Rattle.mail_store.specs.Addresses.{IsDomainText}
+use Rattle.journal_records.specs.Addresses.{IsDomainText}
 use Rattle.mail_store.specs.private.Names.{number_of, PutsName}
 use Rattle.mail_store.specs.private.Store.{kept_of, indexes_of}
 use Rattle.mail_store.proofs.IndexLemmas.{AreIndexes-domain, AreIndexes-locals}

@@ -5,7 +5,7 @@ use Rattle.mail_store.specs.declared.kept.Message.{Message}
 use Rattle.mail_store.specs.declared.limits.TheConstants.{THINGS_MAX}
 use Rattle.mail_store.specs.private.Chains.{AreChained}
 use Rattle.mail_store.specs.private.Store.{kept_of, indexes_of}
-use Rattle.mail_store.specs.Stored.{IsStored}
+use Rattle.journal_records.specs.Stored.{IsStored}
 use Rattle.mail_store.proofs.IndexLemmas.{AreIndexes-messages}
 use Rattle.mail_store.proofs.storing.Store.add_message_record.Goals as goal
 

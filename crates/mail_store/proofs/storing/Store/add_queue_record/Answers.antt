@@ -1,8 +1,9 @@
 use Rattle.std.proofs.Common.{◌≡◌, ◌⊎◌, ◌+◌, ◌<◌, ◌≤◌, ℕ, List, [], length, All, refl, ap, subst, sym, arith}
 use Rattle.mail_store.specs.declared.limits.TheConstants.{THINGS_MAX}
-use Rattle.mail_store.specs.declared.records.Record.TheVariants as records
-use Rattle.mail_store.specs.Records.{IsAddress, IsInOrder, HasRoom, recipient_count}
-use Rattle.mail_store.specs.Stored.{IsStored}
+use Rattle.journal_records.specs.declared.records.Record.TheVariants as records
+use Rattle.journal_records.specs.Addresses.{IsAddress}
+use Rattle.mail_store.specs.Records.{IsInOrder, HasRoom, recipient_count}
+use Rattle.journal_records.specs.Stored.{IsStored}
 use Rattle.mail_store.specs.StoreState.{StoreState, with_record}
 use Rattle.mail_store.specs.private.Store.{kept_of}
 use Rattle.mail_store.proofs.QueueLemmas.{refutes, too_many, few_enough}

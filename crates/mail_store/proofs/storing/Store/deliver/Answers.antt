@@ -10,7 +10,7 @@ use Rattle.mail_store.specs.Changing.{inboxes_of, IsDeliverable, delivered, deli
 use Rattle.mail_store.specs.private.Delivering.{copied}
 use Rattle.mail_store.specs.Kept.{after_all}
 use Rattle.mail_store.specs.Records.{AreRecords}
-use Rattle.mail_store.specs.Spelling.{record_text}
+use Rattle.journal_records.specs.Spelling.{record_text}
 use Rattle.mail_store.specs.private.Store.{kept_of, indexes_of, state_of}
 use Rattle.mail_store.specs.StoreState.{StoreState}
 use Rattle.mail_store.proofs.AccountLemmas.{refused_as}

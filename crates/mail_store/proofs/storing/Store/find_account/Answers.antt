@@ -1,5 +1,5 @@
 use Rattle.std.proofs.Common.{◌≡◌, ◌∙◌, ◌<◌, length, subst, IfSome}
-use Rattle.mail_store.specs.Addresses.{WithPaths}
+use Rattle.journal_records.specs.Addresses.{WithPaths}
 use Rattle.mail_store.specs.Kept.{find_account}
 use Rattle.mail_store.specs.private.Store.{kept_of, indexes_of}
 use Rattle.mail_store.specs.StoreState.{StoreState}

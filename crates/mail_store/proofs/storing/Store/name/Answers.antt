@@ -1,6 +1,6 @@
 use Rattle.std.proofs.Common.{List, ℕ, IsUtf8, sym, subst}
 use Rattle.std.specs.List.{All}
-use Rattle.mail_store.specs.Addresses.{IsDomainText}
+use Rattle.journal_records.specs.Addresses.{IsDomainText}
 use Rattle.mail_store.proofs.MailboxLemmas.{first_utf8}
 use Rattle.mail_store.proofs.storing.Store.name.Goals as goal
 

@@ -1,0 +1,27 @@
+-- Texts of addresses, and what local parts are known by.
+use Rattle.std.proofs.Common.{◌≡◌, ℕ, List, Option, Some, None, sym, ap, ◌∙◌, subst, encode_utf8_all}
+use Rattle.std.proofs.lemmas.Str.{chars_from_encodes}
+use Rattle.std.specs.Prelude.{IsUtf8, IfNone}
+use Rattle.std.specs.Str.{chars}
+use Rattle.unicode_normalization.specs.Forms.{nfd}
+use Rattle.caseless.specs.Caseless.{default_case_fold, canonical_key}
+use Rattle.address_grammar.specs.declared.Address.{Address}
+use Rattle.address_grammar.specs.Paths.{HasPath, in_angles}
+use Rattle.journal_records.specs.Addresses.{IsTextOf}
+
+-- where the path was the null path, the text is that of no address
+pub none_found : (found : Option Address) (text path : List ℕ) → path ≡ in_angles text → ((answer : Option Address) → HasPath path answer → found ≡ answer)
+    → IfNone found ((address : Address) → ¬ IsTextOf text address)
+none_found (Some a) text path is exact = tt
+none_found None text path is exact = λ address has.
+    let differs : None ≡ Some address = exact (Some address) (subst (λ (p : List ℕ). HasPath p (Some address)) (sym is) has) in
+    absurd (cc differs)
+
+-- the three steps make the canonical key
+pub key_made : (local decomposed folded key : List ℕ) → IsUtf8 decomposed → IsUtf8 folded → decomposed ≡ encode_utf8_all (nfd (chars local))
+    → folded ≡ encode_utf8_all (default_case_fold (chars decomposed)) → key ≡ encode_utf8_all (nfd (chars folded))
+    → key ≡ encode_utf8_all (canonical_key (chars local))
+key_made local decomposed folded key u v first second third =
+    let a : nfd (chars local) ≡ chars decomposed = chars_from_encodes (nfd (chars local)) decomposed u (sym first) in
+    let b : default_case_fold (chars decomposed) ≡ chars folded = chars_from_encodes (default_case_fold (chars decomposed)) folded v (sym second) in
+    third ∙ ap (λ (l : List ℕ). encode_utf8_all (nfd l)) (sym b ∙ ap default_case_fold (sym a))

@@ -1,0 +1,10 @@
+pub mod Fields
+pub mod FrameLemmas
+pub mod RecordLaws
+pub mod ReadLemmas
+pub mod GrammarLemmas
+pub mod ListsLoop
+pub mod WritingLemmas
+pub mod AddressLemmas
+pub mod AddressTexts
+pub mod KeyLemmas

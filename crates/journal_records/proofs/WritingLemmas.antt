@@ -1,0 +1,70 @@
+-- Texts put last, one after the other.
+use Rattle.std.proofs.Common.{◌≡◌, ℕ, ◌+◌, ◌<◌, ◌≤◌, List, [], ◌∷◌, ◌++◌, length, subst, min, take, drop, get_or, Result, Ok, Err, arith, sym, ap, ◌∙◌, append_assoc, append-nil, length-append}
+use Rattle.std.specs.List.{flat_map}
+use Rattle.std.proofs.Math.Seq.{take-append-add, take-append_seam}
+use Rattle.std.proofs.lemmas.Grind.{flat_map-append}
+use Rattle.std.proofs.lemmas.List.Folds.{length-flat_map-take}
+use Rattle.std.proofs.lemmas.List.{take-append-le, take_min, take_more, take-append-drop}
+use Rattle.mail_wire.specs.declared.values.Memory.{Memory}
+use Rattle.journal_records.specs.declared.records.Record.TheVariants as records
+use Rattle.journal_records.specs.Spelling.{number, octet_list, fields_of}
+use Rattle.journal_records.specs.Writing.{PutsText}
+
+-- a first part of the text was put last
+abbrev pub PutsFirst : List ℕ → List ℕ → List ℕ → Type 0
+PutsFirst old new text = (n : ℕ) × (new ≡ old ++ take n text)
+
+-- a first part of a text is one of the text and more
+pub first_of : (old new a b : List ℕ) → PutsFirst old new a → PutsFirst old new (a ++ b)
+first_of old new a b (n, is) =
+    let short : min n (length a) ≤ length a = omega arith in
+    (min n (length a), is ∙ ap (λ l. old ++ l) (sym (take-append-le (min n (length a)) a b short ∙ take_min n a)))
+
+-- the whole text, and a first part of more
+pub first_behind : (old mid new a b : List ℕ) → mid ≡ old ++ a → PutsFirst mid new b → PutsFirst old new (a ++ b)
+first_behind old mid new a b at (n, is) =
+    (length a + n, is ∙ ap (λ l. l ++ take n b) at ∙ append_assoc old a (take n b) ∙ ap (λ l. old ++ l) (sym (take-append-add a b n)))
+
+-- a text, and what comes behind it
+pub puts_behind : {T : Type 0} (old mid new a b : List ℕ) (result : Result T Memory) → mid ≡ old ++ a → PutsText mid new result b → PutsText old new result (a ++ b)
+puts_behind old mid new a b (Ok done) at is = is ∙ ap (λ l. l ++ b) at ∙ append_assoc old a b
+puts_behind old mid new a b (Err memory) at is = first_behind old mid new a b at is
+
+-- the parts before a place, and those from there on
+parts_split : {X : Type 0} (f : X → List ℕ) (parts : List X) (i : ℕ) → flat_map f (take i parts) ++ flat_map f (drop i parts) ≡ flat_map f parts
+parts_split f parts i = sym (flat_map-append f (take i parts) (drop i parts)) ∙ ap (flat_map f) (take-append-drop i parts)
+
+-- the parts before a place, and a first part of the next
+pub first_parts : {X : Type 0} (f : X → List ℕ) (parts : List X) (i : ℕ) (x : X) (old mid new : List ℕ) → i < length parts
+    → mid ≡ old ++ flat_map f (take i parts) → x ≡ get_or parts i x → PutsFirst mid new (f x) → PutsFirst old new (flat_map f parts)
+first_parts f parts i x old mid new within at is first =
+    let upto = first_behind old mid new (flat_map f (take i parts)) (f x) at first in
+    let more : flat_map f (take i parts) ++ f x ≡ flat_map f (take (i + 1) parts) =
+    ap (λ l. flat_map f (take i parts) ++ l) (sym (append-nil (f x))) ∙ sym (flat_map-append f (take i parts) (x ∷ []))
+    ∙ ap (λ y. flat_map f (take i parts ++ y ∷ [])) is ∙ ap (flat_map f) (sym (take_more parts i x within)) in
+    subst (PutsFirst old new) (parts_split f parts (i + 1))
+    (first_of old new (flat_map f (take (i + 1) parts)) (flat_map f (drop (i + 1) parts)) (subst (PutsFirst old new) more upto))
+
+-- the parts before a place
+pub parts_before : {X : Type 0} (f : X → List ℕ) (parts : List X) (i : ℕ) (old now : List ℕ) → now ≡ old ++ flat_map f (take i parts)
+    → PutsFirst old now (flat_map f parts)
+parts_before f parts i old now at = (
+  length (flat_map f (take i parts)),
+  at ∙ ap (λ l. old ++ l) (sym (ap (take (length (flat_map f (take i parts)))) (sym (parts_split f parts i)) ∙ take-append_seam (flat_map f (take i parts)) (flat_map f (drop i parts)))),
+)
+
+-- lists within a bound: the next one is within it too, behind those before it
+pub next_within : (lists : List (List ℕ)) (list : List ℕ) (i : ℕ) → i < length lists → list ≡ get_or lists i list
+    → length (flat_map octet_list (take i lists)) + (4 + length list) ≤ length (flat_map octet_list lists)
+next_within lists list i within is =
+    let sum = length-flat_map-take octet_list lists i list within in
+    let same : length (octet_list (get_or lists i list)) ≡ 4 + length list = ap (λ l. length (octet_list l)) (sym is) ∙ omega arith in
+    omega (arith, sum, same)
+
+-- a waiting message: what stands before its addresses, the addresses and what follows them
+pub queue_text : (path : List ℕ) (count : ℕ) (rest : List ℕ) → (7 ∷ (octet_list path ++ number count)) ++ rest ≡ 7 ∷ (octet_list path ++ (number count ++ rest))
+queue_text path count rest = ap (λ l. 7 ∷ l) (append_assoc (octet_list path) (number count) rest)
+
+-- how many octets the fields of a copy have
+pub copy_len : (folder : ℕ) (date octets : List ℕ) → 14 + length date + length octets ≡ length (fields_of (records.Message folder 0 date octets))
+copy_len folder date octets = omega (arith, length-append date (octet_list octets))

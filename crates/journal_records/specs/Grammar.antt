@@ -1,0 +1,47 @@
+-- The grammars of a record's texts, but for addresses and domains.
+use Rattle.std.specs.Prelude.{◌≡◌, ◌≢◌, ℕ, ◌<◌, ◌≤◌, List, [], ◌∷◌, length, Bool, true, false, ◌&&◌, ◌||◌, ◌==◌, nat_le, if◌then◌else◌, codes, IsUtf8, slice_index_or, slice_range}
+use Rattle.std.specs.List.{All, list_any}
+use Rattle.std.specs.Char.{is_control}
+use Rattle.std.specs.Str.{chars}
+use Rattle.unicode_normalization.specs.Forms.{is_nfc}
+use Rattle.mail_wire.specs.Octets.{same_name}
+use Rattle.journal_records.specs.declared.limits.TheConstants.{NAME_MAX}
+
+abbrev pub is_digit : ℕ → Bool
+is_digit x = nat_le 48 x && nat_le x 57
+
+-- The shape of a date-time (RFC 3501, without its quotes): `9` stands for a digit, `d` for a digit or a space, `+` for a
+-- plus or minus sign, `a` for any octet, and every other octet for itself.
+abbrev pub date_shape : List ℕ
+date_shape = codes "d9-aaa-9999 99:99:99 +9999"
+
+-- the letter of the shape stands for this octet
+unfoldable pub fits_letter : ℕ → ℕ → Bool
+fits_letter letter x =
+    if letter == 57 then is_digit x
+    else if letter == 100 then (is_digit x || x == 32)
+    else if letter == 43 then (x == 43 || x == 45)
+    else if letter == 97 then true
+    else x == letter
+
+abbrev pub months : List (List ℕ)
+months =
+    codes "Jan" ∷ codes "Feb" ∷ codes "Mar" ∷ codes "Apr" ∷ codes "May" ∷ codes "Jun" ∷ codes "Jul" ∷ codes "Aug" ∷ codes "Sep" ∷ codes "Oct" ∷ codes "Nov" ∷ codes "Dec" ∷ []
+
+-- a date-time of RFC 3501, of any numbers, and with its month in any case
+pub record IsDate (date : List ℕ) : Type 0 where
+  pub len : length date ≡ 26
+  pub shape : (at : ℕ) → at < 26 → fits_letter (slice_index_or date_shape at 0) (slice_index_or date at 0) ≡ true
+  pub month : list_any (λ month. same_name month (slice_range date 3 6)) months ≡ true
+
+-- a character that a folder's name may have: no control, no `*` and no `%`
+abbrev pub IsNameChar : ℕ → Type 0
+IsNameChar c = (is_control c ≡ false) × (c ≢ 42) × (c ≢ 37)
+
+-- the name of a folder, in UTF-8 and NFC (UAX #15)
+pub record IsFolderName (name : List ℕ) : Type 0 where
+  pub some : 0 < length name
+  pub short : length name ≤ NAME_MAX
+  pub utf8 : IsUtf8 name
+  pub nfc : is_nfc (chars name) ≡ true
+  pub each : All IsNameChar (chars name)

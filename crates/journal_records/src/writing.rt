@@ -1,0 +1,278 @@
+//! Records written as octets.
+ghost use Rattle.std.specs.Prelude.{◌≡◌, ◌+◌, ◌∷◌, ◌++◌, ◌<◌, ◌≤◌, ◌^◌, IfOk, length, map};
+ghost use Rattle.std.specs.List.{flat_map, AllByRecursion};
+ghost use Rattle.address_grammar.specs.Addresses.{address_text};
+ghost use Rattle.journal_records.specs.declared.limits.TheConstants.{RECORD_MAX, TEXT_MAX};
+ghost use Rattle.journal_records.specs.declared.records.Record.TheVariants as records;
+ghost use Rattle.journal_records.specs.Addresses.{IsSendable};
+ghost use Rattle.journal_records.specs.Spelling.{number as number_octets, octet_list, fields_of, record_text, HasLength, Fits, IsWritable};
+ghost use Rattle.journal_records.specs.Writing.{PutsText};
+
+use crate::records::Record;
+use address_grammar::{Address, write_address};
+use mail_wire::{Memory, Octets};
+use std::alloc::Global;
+
+fn number(n: usize) -> [u8; 4]
+    requires { n < 2 ^ 32 }
+    ensures { result ≡ number_octets n }
+{
+    (n as u32).to_be_bytes()
+}
+
+// Puts these octets last, one part after the other.
+fn push_parts(journal: &mut Octets, parts: &[&[u8]]) -> Result<(), Memory>
+    ensures { PutsText journal.old journal.new result (flat_map (λ part. part.now) parts.now) }
+{
+    for part in parts {
+        journal.push_slice(part)?;
+    }
+    Ok(())
+}
+
+fn push_number(journal: &mut Octets, n: usize) -> Result<(), Memory>
+    requires { n < 2 ^ 32 }
+    ensures { PutsText journal.old journal.new result (number_octets n) }
+{
+    push_parts(journal, &[&number(n)])
+}
+
+fn push_list(journal: &mut Octets, octets: &[u8]) -> Result<(), Memory>
+    requires { HasLength octets.now }
+    ensures { PutsText journal.old journal.new result (octet_list octets.now) }
+{
+    push_parts(journal, &[&number(octets.len()), octets])
+}
+
+fn push_lists(journal: &mut Octets, lists: &[Octets]) -> Result<(), Memory>
+    requires { AllByRecursion HasLength lists.now }
+    ensures { PutsText journal.old journal.new result (flat_map octet_list lists.now) }
+{
+    for list in lists {
+        push_list(journal, list.as_slice())?;
+    }
+    Ok(())
+}
+
+// How many octets these lists have, each behind its length.
+fn lists_len(lists: &[Octets]) -> usize
+    requires { length (flat_map octet_list lists.now) ≤ RECORD_MAX }
+    ensures { result ≡ length (flat_map octet_list lists.now) }
+{
+    let mut len = 0;
+    for list in lists {
+        len += 4 + list.len();
+    }
+    len
+}
+
+// How many octets the kind and the fields of a record have.
+fn fields_len(one: &Record) -> usize
+    requires fits { Fits one.now }
+    requires short { length (fields_of one.now) ≤ RECORD_MAX }
+    ensures { result ≡ length (fields_of one.now) }
+{
+    match one {
+        Record::Account { address, password } => 9 + address.len() + password.len(),
+        Record::Domain { name } => 5 + name.len(),
+        Record::Folder { name, .. } => 9 + name.len(),
+        Record::Message { date, octets, .. } => 14 + date.len() + octets.len(),
+        Record::Flags { .. } => 6,
+        Record::Expunge { .. } => 5,
+        Record::Queue {
+            path,
+            addresses,
+            octets,
+        } => 13 + path.len() + lists_len(addresses.as_slice()) + octets.len(),
+        Record::Settle { .. } => 9,
+    }
+}
+
+fn push_account(journal: &mut Octets, address: &[u8], password: &[u8]) -> Result<(), Memory>
+    requires address { HasLength address.now }
+    requires password { HasLength password.now }
+    ensures { PutsText journal.old journal.new result (1 ∷ (octet_list address.now ++ octet_list password.now)) }
+{
+    push_parts(
+        journal,
+        &[
+            &[1],
+            &number(address.len()),
+            address,
+            &number(password.len()),
+            password,
+        ],
+    )
+}
+
+fn push_folder(journal: &mut Octets, account: u32, name: &[u8]) -> Result<(), Memory>
+    requires { HasLength name.now }
+    ensures { PutsText journal.old journal.new result (3 ∷ (number_octets account ++ octet_list name.now)) }
+{
+    push_parts(
+        journal,
+        &[&[3], &account.to_be_bytes(), &number(name.len()), name],
+    )
+}
+
+fn push_message(
+    journal: &mut Octets,
+    folder: u32,
+    flags: u8,
+    date: &[u8],
+    octets: &[u8],
+) -> Result<(), Memory>
+    requires date { HasLength date.now }
+    requires octets { HasLength octets.now }
+    ensures { PutsText journal.old journal.new result
+        (4 ∷ (number_octets folder ++ flags ∷ (octet_list date.now ++ octet_list octets.now))) }
+{
+    push_parts(
+        journal,
+        &[
+            &[4],
+            &folder.to_be_bytes(),
+            &[flags],
+            &number(date.len()),
+            date,
+            &number(octets.len()),
+            octets,
+        ],
+    )
+}
+
+// What stands before the addresses of a waiting message.
+fn push_queue_front(journal: &mut Octets, path: &[u8], count: usize) -> Result<(), Memory>
+    requires path { HasLength path.now }
+    requires count { count < 2 ^ 32 }
+    ensures { PutsText journal.old journal.new result (7 ∷ (octet_list path.now ++ number_octets count)) }
+{
+    push_parts(journal, &[&[7], &number(path.len()), path, &number(count)])
+}
+
+fn push_queue(
+    journal: &mut Octets,
+    path: &[u8],
+    addresses: &[Octets],
+    octets: &[u8],
+) -> Result<(), Memory>
+    requires path { HasLength path.now }
+    requires count { length addresses.now < 2 ^ 32 }
+    requires addresses { AllByRecursion HasLength addresses.now }
+    requires octets { HasLength octets.now }
+    ensures { PutsText journal.old journal.new result
+        (7 ∷ (octet_list path.now ++ (number_octets (length addresses.now) ++ (flat_map octet_list addresses.now ++ octet_list octets.now)))) }
+{
+    push_queue_front(journal, path, addresses.len())?;
+    push_lists(journal, addresses)?;
+    push_list(journal, octets)
+}
+
+// Puts the kind and the fields of a record last.
+fn push_fields(journal: &mut Octets, one: &Record) -> Result<(), Memory>
+    requires { Fits one.now }
+    ensures { PutsText journal.old journal.new result (fields_of one.now) }
+{
+    match one {
+        Record::Account { address, password } => {
+            push_account(journal, address.as_slice(), password.as_slice())
+        }
+        Record::Domain { name } => {
+            push_parts(journal, &[&[2], &number(name.len()), name.as_slice()])
+        }
+        Record::Folder { account, name } => push_folder(journal, *account, name.as_slice()),
+        Record::Message {
+            folder,
+            flags,
+            date,
+            octets,
+        } => push_message(journal, *folder, *flags, date.as_slice(), octets.as_slice()),
+        Record::Flags { message, flags } => {
+            push_parts(journal, &[&[5], &message.to_be_bytes(), &[*flags]])
+        }
+        Record::Expunge { message } => push_parts(journal, &[&[6], &message.to_be_bytes()]),
+        Record::Queue {
+            path,
+            addresses,
+            octets,
+        } => push_queue(
+            journal,
+            path.as_slice(),
+            addresses.as_slice(),
+            octets.as_slice(),
+        ),
+        Record::Settle { entry, index } => push_parts(
+            journal,
+            &[&[8], &entry.to_be_bytes(), &index.to_be_bytes()],
+        ),
+    }
+}
+
+/// Puts a record last, behind its length. Want of memory may leave a first part of it there.
+pub fn push_record(journal: &mut Octets, one: &Record) -> Result<(), Memory>
+    requires fits { Fits one.now }
+    requires short { length (fields_of one.now) ≤ RECORD_MAX }
+    ensures puts { PutsText journal.old journal.new result (record_text one.now) }
+{
+    push_number(journal, fields_len(one))?;
+    push_fields(journal, one)
+}
+
+/// Puts the record of a message without flags last.
+pub fn push_copy(
+    journal: &mut Octets,
+    folder: u32,
+    date: &[u8],
+    octets: &[u8],
+) -> Result<(), Memory>
+    requires { length date.now + length octets.now + 14 ≤ RECORD_MAX }
+    ensures { PutsText journal.old journal.new result (record_text (records.Message folder 0 date.now octets.now)) }
+{
+    push_number(journal, 14 + date.len() + octets.len())?;
+    push_message(journal, folder, 0, date, octets)
+}
+
+/// The text of one record.
+pub fn record_text(alloc: Global, one: &Record) -> Result<Octets, Memory>
+    requires { IsWritable one.now }
+    ensures { IfOk result (λ text. text ≡ record_text one.now) }
+{
+    let mut text = Octets::new(alloc);
+    push_record(&mut text, one)?;
+    Ok(text)
+}
+
+/// The text of a domain's record.
+pub fn domain_text(alloc: Global, name: &[u8]) -> Result<Octets, Memory>
+    requires { IsWritable (records.Domain name.now) }
+    ensures { IfOk result (λ text. text ≡ record_text (records.Domain name.now)) }
+{
+    let made = Record::Domain {
+        name: Octets::from_slice(alloc, name)?,
+    };
+    record_text(alloc, &made)
+}
+
+/// The text of an account's record.
+pub fn account_text(alloc: Global, address: &Address, password: &[u8]) -> Result<Octets, Memory>
+    requires address { IsSendable address.now }
+    requires password { length password.now ≤ TEXT_MAX }
+    ensures { IfOk result (λ text. text ≡ record_text (records.Account (address_text address.now) password.now)) }
+{
+    let made = Record::Account {
+        address: write_address(alloc, address)?,
+        password: Octets::from_slice(alloc, password)?,
+    };
+    record_text(alloc, &made)
+}
+
+/// The texts of the records that the messages go.
+pub fn expunge_text(alloc: Global, ids: &[u32]) -> Result<Octets, Memory>
+    ensures { IfOk result (λ text. text ≡ flat_map record_text (map records.Expunge ids.now)) }
+{
+    let mut text = Octets::new(alloc);
+    for id in ids {
+        push_record(&mut text, &Record::Expunge { message: *id })?;
+    }
+    Ok(text)
+}

@@ -1,5 +1,0 @@
-use Rattle.mail_store.proofs.MailboxLemmas.{domain_text_utf8}
-use Rattle.mail_store.proofs.addresses.is_domain_text.Goals as goal
-
-pub returns-in_default : goal.returns-in_default
-returns-in_default c = (λ h. absurd (cc h), λ h. absurd (c.in_default.ensures.cases.0 (domain_text_utf8 c.args.text.now h)))

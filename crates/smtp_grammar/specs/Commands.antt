@@ -1,0 +1,211 @@
+-- The words of a command line (RFC 5321, 4.1; RFC 6531, 3.4).
+use Rattle.std.specs.Prelude.{ℕ, ◌+◌, ◌-◌, ◌*◌, ◌^◌, ◌==◌, ◌&&◌, ◌||◌, not, List, [], ◌∷◌, Bool, true, false, Option, None, Some, length, take, drop, map, fold, codes, if◌then◌else◌, nat_le, nat_lt, min, position, filter}
+use Rattle.std.specs.Option.{option_map, option_and_then}
+use Rattle.std.specs.List.{before_first, list_all, list_any, slice_split, position_or_len, suffix_len}
+use Rattle.std.specs.Str.{bytes_eq}
+use Rattle.std.specs.Char.{to_ascii_lowercase, is_ascii_alphanumeric}
+use Rattle.mail_wire.specs.Numbers.{number_of}
+use Rattle.mail_wire.specs.Octets.{is_white, is_black, same_name}
+use Rattle.smtp_grammar.specs.declared.command.Verb.{Verb}
+use Rattle.smtp_grammar.specs.declared.command.Verb.TheVariants as verb
+use Rattle.smtp_grammar.specs.declared.command.Place.{Place}
+use Rattle.smtp_grammar.specs.declared.command.Place.TheVariants as place
+use Rattle.smtp_grammar.specs.declared.command.Parameter.{Parameter}
+use Rattle.smtp_grammar.specs.declared.command.Parameter.TheVariants as parameter
+
+-- ---- white
+
+-- without the white that it begins with
+abbrev pub after_white : List ℕ → List ℕ
+after_white text = drop (position_or_len is_black text) text
+
+-- without the white that it ends with
+abbrev pub before_white : List ℕ → List ℕ
+before_white text = take (length text - suffix_len is_white text) text
+
+-- ---- the verb
+
+-- the verb of this name, which is in lower case
+abbrev pub verb_named : List ℕ → Verb
+verb_named name =
+    if bytes_eq name (codes "ehlo") then verb.Ehlo
+    else (if bytes_eq name (codes "helo") then verb.Helo
+    else (if bytes_eq name (codes "mail") then verb.Mail
+    else (if bytes_eq name (codes "rcpt") then verb.Rcpt
+    else (if bytes_eq name (codes "data") then verb.Data
+    else (if bytes_eq name (codes "rset") then verb.Rset
+    else (if bytes_eq name (codes "noop") then verb.Noop
+    else (if bytes_eq name (codes "vrfy") then verb.Vrfy
+    else (if bytes_eq name (codes "quit") then verb.Quit else verb.Other))))))))
+
+-- verbs are read in any case
+abbrev pub verb_of : List ℕ → Verb
+verb_of word = verb_named (map to_ascii_lowercase word)
+
+-- A command: its verb, which is the first word, and what stands behind it, without white at both ends.
+pub record Command : Type 0 where
+  pub verb : Verb
+  pub argument : List ℕ
+
+-- the line without its CRLF, and without white at both ends
+abbrev pub text_of : List ℕ → List ℕ
+text_of line = after_white (before_white (take (length line - 2) line))
+
+abbrev pub command_of_text : List ℕ → Command
+command_of_text text = record { verb = verb_of (before_first is_white text); argument = after_white (drop (position_or_len is_white text) text) }
+
+abbrev pub command_of : List ℕ → Command
+command_of line = command_of_text (text_of line)
+
+-- ---- EHLO and HELO
+
+-- a letter, a digit, or one of `.-_:[]`
+abbrev pub is_client_octet : ℕ → Bool
+is_client_octet x = is_ascii_alphanumeric x || list_any (λ y. y == x) (codes ".-_:[]")
+
+-- the name that a client may say of itself
+abbrev pub is_client : List ℕ → Bool
+is_client name = nat_lt 0 (length name) && nat_le (length name) 255 && list_all is_client_octet name
+
+-- ---- the path of MAIL and RCPT
+
+-- The place behind an octet: 34 is a quote, 91 and 93 are the brackets of a literal, and 92 is a backslash, which takes the next octet with it in quotes and in a literal.
+abbrev pub place_after : Place → ℕ → Place
+place_after place.Plain x = if x == 34 then place.Quoted else (if x == 91 then place.Literal else place.Plain)
+place_after place.Quoted x = if x == 34 then place.Plain else (if x == 92 then place.QuotedPair else place.Quoted)
+place_after place.QuotedPair x = place.Quoted
+place_after place.Literal x = if x == 93 then place.Plain else (if x == 92 then place.LiteralPair else place.Literal)
+place_after place.LiteralPair x = place.Literal
+
+-- this octet stands here, outside of quotes and of a literal
+abbrev pub stands_plain : ℕ → Place → ℕ → Bool
+stands_plain octet place.Plain x = x == octet
+stands_plain octet place.Quoted x = false
+stands_plain octet place.QuotedPair x = false
+stands_plain octet place.Literal x = false
+stands_plain octet place.LiteralPair x = false
+
+-- How long a text is up to the first `>` (62) outside of quotes and of a literal, where no comment begins before it by `(` (40).
+unfoldable pub path_len : Place → List ℕ → Option ℕ
+path_len place [] = None
+path_len place (x ∷ rest) =
+    if stands_plain 62 place x then Some 1
+    else if stands_plain 40 place x then None
+    else option_map (λ n. n + 1) (path_len (place_after place x) rest)
+
+-- without one space in front, if there is one
+abbrev pub behind_space : List ℕ → List ℕ
+behind_space [] = []
+behind_space (x ∷ rest) = if x == 32 then rest else x ∷ rest
+
+-- what follows a word, which may be in any case, and one space, if there is one
+abbrev pub behind_word : List ℕ → List ℕ → Option (List ℕ)
+behind_word word text = if same_name (take (length word) text) word then Some (behind_space (drop (length word) text)) else None
+
+-- the words that white divides
+abbrev pub words_of : List ℕ → List (List ℕ)
+words_of text = filter (λ word. not (length word == 0)) (slice_split is_white text)
+
+-- A path, which begins with `<`, and what stands behind it, which white divides from it.
+pub record PathAndRest : Type 0 where
+  pub path : List ℕ
+  pub rest : List ℕ
+
+-- nothing follows, or white does
+abbrev pub stands_apart : List ℕ → Bool
+stands_apart [] = true
+stands_apart (x ∷ rest) = is_white x
+
+abbrev pub begins_path : List ℕ → Bool
+begins_path [] = false
+begins_path (x ∷ rest) = x == 60
+
+abbrev pub path_and_rest : List ℕ → ℕ → Option PathAndRest
+path_and_rest text n = if stands_apart (drop n text) then Some (record { path = take n text; rest = drop n text }) else None
+
+-- the path that a text begins with
+abbrev pub path_in : List ℕ → Option PathAndRest
+path_in text = if begins_path text then option_and_then (path_and_rest text) (path_len place.Plain text) else None
+
+-- the path behind a word, such as `FROM:`, and one space, if there is one
+abbrev pub path_behind : List ℕ → List ℕ → Option PathAndRest
+path_behind word argument = option_and_then path_in (behind_word word argument)
+
+-- ---- the parameters of MAIL (RFC 1870, 3; RFC 6152, 2; RFC 6531, 3.4)
+
+abbrev pub is_sign : ℕ → Bool
+is_sign x = x == 61
+
+-- what stands before the first `=`, or all where none is there, in lower case
+abbrev pub keyword_of : List ℕ → List ℕ
+keyword_of word = map to_ascii_lowercase (before_first is_sign word)
+
+-- what stands behind the first `=`, where one is there
+abbrev pub value_of : List ℕ → Option (List ℕ)
+value_of word = option_map (λ at. drop (at + 1) word) (position is_sign word)
+
+-- SIZE with this number, or with none
+abbrev pub size_said : Option ℕ → Parameter
+size_said None = parameter.Malformed
+size_said (Some number) = parameter.Size number
+
+-- SIZE, with its number, or the greatest of its type
+abbrev pub size_parameter : Option (List ℕ) → Parameter
+size_parameter None = parameter.Malformed
+size_parameter (Some value) = size_said (option_map (λ number. min number (2 ^ 64 - 1)) (number_of value))
+
+abbrev pub body_parameter : Option (List ℕ) → Parameter
+body_parameter None = parameter.Malformed
+body_parameter (Some value) = if same_name value (codes "7bit") || same_name value (codes "8bitmime") then parameter.Body else parameter.Malformed
+
+abbrev pub smtputf8_parameter : Option (List ℕ) → Parameter
+smtputf8_parameter None = parameter.Smtputf8
+smtputf8_parameter (Some value) = parameter.Malformed
+
+-- the parameter of a keyword in lower case
+abbrev pub parameter_named : List ℕ → Option (List ℕ) → Parameter
+parameter_named keyword value =
+    if bytes_eq keyword (codes "size") then size_parameter value
+    else (if bytes_eq keyword (codes "body") then body_parameter value
+    else (if bytes_eq keyword (codes "smtputf8") then smtputf8_parameter value else parameter.Unknown))
+
+abbrev pub parameter_of : List ℕ → Parameter
+parameter_of word = parameter_named (keyword_of word) (value_of word)
+
+-- a keyword stands there twice
+abbrev pub has_twice : List (List ℕ) → Bool
+has_twice [] = false
+has_twice (word ∷ words) = list_any (λ other. bytes_eq (keyword_of other) (keyword_of word)) words || has_twice words
+
+abbrev pub is_malformed : Parameter → Bool
+is_malformed (parameter.Size octets) = false
+is_malformed parameter.Body = false
+is_malformed parameter.Smtputf8 = false
+is_malformed parameter.Malformed = true
+is_malformed parameter.Unknown = false
+
+abbrev pub is_unknown : Parameter → Bool
+is_unknown (parameter.Size octets) = false
+is_unknown parameter.Body = false
+is_unknown parameter.Smtputf8 = false
+is_unknown parameter.Malformed = false
+is_unknown parameter.Unknown = true
+
+abbrev pub is_smtputf8 : Parameter → Bool
+is_smtputf8 (parameter.Size octets) = false
+is_smtputf8 parameter.Body = false
+is_smtputf8 parameter.Smtputf8 = true
+is_smtputf8 parameter.Malformed = false
+is_smtputf8 parameter.Unknown = false
+
+-- the number of SIZE, and 0 of another parameter
+abbrev pub announced : Parameter → ℕ
+announced (parameter.Size octets) = octets
+announced parameter.Body = 0
+announced parameter.Smtputf8 = 0
+announced parameter.Malformed = 0
+announced parameter.Unknown = 0
+
+-- the words are no parameters: a keyword stands there twice, or a known one has a value that isn't one of its own
+abbrev pub are_malformed : List (List ℕ) → Bool
+are_malformed words = has_twice words || list_any (λ word. is_malformed (parameter_of word)) words

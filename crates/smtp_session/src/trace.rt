@@ -1,0 +1,43 @@
+//! The fields that are put before the data of a message (RFC 5321, 4.4).
+ghost use Rattle.std.specs.Prelude.{◌≡◌, IfOk, IfSome};
+ghost use Rattle.address_grammar.specs.Paths.{ComesInPath};
+ghost use Rattle.smtp_session.specs.Trace.{received, return_path as return_path_of};
+
+use address_grammar::Address;
+use journal_records::path_text;
+use mail_wire::{Memory, Octets};
+use std::alloc::Global;
+
+/// The field that tells where a message came from, by which protocol and when.
+pub fn received_field(
+    alloc: Global,
+    client: &[u8],
+    name: &[u8],
+    protocol: &[u8],
+    date: &[u8],
+) -> Result<Octets, Memory>
+    ensures { IfOk result (λ field. field ≡ received client.now name.now protocol.now date.now) }
+{
+    let mut field = Octets::from_slice(alloc, b"Received: from ")?;
+    field.push_slice(client)?;
+    field.push_slice(b" by ")?;
+    field.push_slice(name)?;
+    field.push_slice(b" with ")?;
+    field.push_slice(protocol)?;
+    field.push_slice(b"; ")?;
+    field.push_slice(date)?;
+    field.push_slice(b"\r\n")?;
+    Ok(field)
+}
+
+/// The field that tells the path which a message came from.
+pub fn return_path_field(alloc: Global, path: &Option<Address>) -> Result<Octets, Memory>
+    requires { IfSome path.now ComesInPath }
+    ensures { IfOk result (λ field. field ≡ return_path_of path.now) }
+{
+    let text = path_text(alloc, path)?;
+    let mut field = Octets::from_slice(alloc, b"Return-Path: <")?;
+    field.push_slice(text.as_slice())?;
+    field.push_slice(b">\r\n")?;
+    Ok(field)
+}
