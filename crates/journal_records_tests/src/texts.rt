@@ -1,4 +1,6 @@
 //! The texts that a record may have.
+ghost use Rattle.std.specs.Prelude.{◌≤◌};
+
 use journal_records::{
     are_addresses, is_date, is_domain_text, is_folder_name, is_path_text, read_text,
 };

@@ -1,10 +1,12 @@
 -- One more account.
-use Rattle.std.proofs.Common.{◌≡◌, ℕ, ◌<◌, ◌≤◌, Bool, true, false, not, cond, ◌||◌, List, [], ◌∷◌, ◌++◌, length, Option, Some, None, Err, refl, ap, ap₂, ◌∙◌, arith, length-append}
+use Rattle.std.proofs.Common.{◌≡◌, ℕ, ◌<◌, ◌≤◌, Bool, true, false, not, cond, ◌||◌, List, [], ◌∷◌, ◌++◌, length, Option, Some, None, Err, refl, sym, ap, ap₂, ◌∙◌, arith, inl, inr, length-append}
 use Rattle.std.specs.Prelude.{is_some}
+use Rattle.std.proofs.lemmas.Bool.{cases_Bool}
 use Rattle.address_grammar.specs.declared.Address.{Address}
 use Rattle.address_grammar.specs.Addresses.{address_text}
 use Rattle.address_grammar.specs.Paths.{ComesInPath, ReadsPaths}
 use Rattle.address_grammar.proofs.WritingLemmas.{path_again}
+use Rattle.address_lists.proofs.PathPiecesLemmas.{paths_read}
 use Rattle.mail_store.specs.declared.changing.StoreFault.{StoreFault}
 use Rattle.mail_store.specs.declared.changing.StoreFault.TheVariants as faults
 use Rattle.mail_store.specs.declared.kept.Account.{Account}
@@ -12,7 +14,7 @@ use Rattle.mail_store.specs.declared.kept.Folder.{Folder}
 use Rattle.journal_records.specs.declared.limits.TheConstants.{TEXT_MAX}
 use Rattle.mail_store.specs.declared.limits.TheConstants.{THINGS_MAX}
 use Rattle.journal_records.specs.declared.records.Record.TheVariants as records
-use Rattle.journal_records.specs.Addresses.{IsSendable, mailbox_key}
+use Rattle.journal_records.specs.Addresses.{IsSendable, WithPaths, mailbox_key}
 use Rattle.mail_store.specs.Changing.{are_too_many, account_refusal, IsRefusedAs}
 use Rattle.mail_store.specs.private.Delivering.{room_refusal}
 use Rattle.mail_store.specs.Kept.{Kept, find_account, inbox, is_local}
@@ -22,6 +24,7 @@ use Rattle.journal_records.specs.Spelling.{octet_list}
 use Rattle.mail_store.specs.StoreState.{StoreState, Indexes, AreIndexes, with_records}
 use Rattle.mail_store.proofs.ChangeLemmas.{has_room}
 use Rattle.mail_store.proofs.MailboxLemmas.{first_of_key}
+use Rattle.mail_store.proofs.NameLemmas.{none_of}
 
 -- the account of an address, by the index
 pub found_account : (path_of : List ℕ → Option (Option Address)) → ReadsPaths path_of → (kept : Kept) (i : Indexes) (address : Address) (key : List ℕ) → AreIndexes kept i
@@ -37,6 +40,26 @@ account_exists path_of kept address there = rw there refl
 pub account_rest : (path_of : List ℕ → Option (Option Address)) (kept : Kept) (address : Address) → is_some (find_account path_of kept address) ≡ false
     → account_refusal path_of kept address ≡ room_refusal kept address.domain
 account_rest path_of kept address none = rw none refl
+
+none_some : (fault : StoreFault) (refusal : Option StoreFault) → refusal ≡ None → refusal ≡ Some fault → ⊥
+none_some fault refusal none some = cc
+
+-- its mailbox has no account then, and the domain and the room allow it
+account_free : (path_of : List ℕ → Option (Option Address)) (kept : Kept) (address : Address) → account_refusal path_of kept address ≡ None
+    → (is_some (find_account path_of kept address) ≡ false) × (room_refusal kept address.domain ≡ None)
+account_free path_of kept address free =
+    elim (cases_Bool (is_some (find_account path_of kept address))) [
+      | inl there ↦ absurd (none_some faults.Exists (account_refusal path_of kept address) free (account_exists path_of kept address there))
+      | inr none ↦ (none, sym (account_rest path_of kept address none) ∙ free)
+    ]
+
+-- where an account isn't refused, its key has no number, and the domain and the room allow it
+pub account_taken : (kept : Kept) (i : Indexes) (address : Address) (key : List ℕ) → AreIndexes kept i → ComesInPath address → key ≡ mailbox_key address
+    → WithPaths (λ path_of. account_refusal path_of kept address ≡ None) → (i.mailboxes key ≡ None) × (room_refusal kept address.domain ≡ None)
+account_taken kept i address key x comes is free =
+    let path_of = paths_read.0 in
+    let parts = account_free path_of kept address (free path_of paths_read.1) in
+    (found_account path_of paths_read.1 kept i address key x comes is ∙ none_of (find_account path_of kept address) parts.0, parts.1)
 
 pub refused_as : (T S : Type 0) (fault : StoreFault) (refusal : Option StoreFault) → IsRefusedAs {T = T} (Err fault) refusal → IsRefusedAs {T = S} (Err fault) refusal
 refused_as T S faults.Exists refusal r = r

@@ -20,7 +20,7 @@ use Rattle.journal_records.specs.Addresses.{path_text}
 use Rattle.mail_store.specs.Changing.{delivered, queued, copy_for, inboxes_of, has_large_octets, has_many_things}
 use Rattle.mail_store.specs.private.Delivering.{copied, entry_of}
 use Rattle.mail_store.specs.Kept.{Kept, after_all, waiting}
-use Rattle.mail_store.specs.Records.{AreRecords, recipient_count}
+use Rattle.mail_store.specs.Records.{AreRecords, IsInOrder, recipient_count}
 use Rattle.journal_records.specs.Spelling.{record_text}
 use Rattle.journal_records.specs.Stored.{IsStored}
 use Rattle.mail_store.specs.StoreState.{StoreState, with_records, Indexes, AreIndexes}
@@ -75,8 +75,15 @@ entry-cases delivery one entry is e =
     ]
 
 -- an entry has room, and its recipients have
-abbrev HasEntryRoom : Kept → Entry → Type 0
+abbrev pub HasEntryRoom : Kept → Entry → Type 0
 HasEntryRoom kept entry = (length kept.entries < THINGS_MAX) × (recipient_count kept.entries + length entry.recipients ≤ THINGS_MAX)
+
+-- that of a record has, where it is in order
+pub recorded-room : (kept : Kept) (path : List ℕ) (addresses : List (List ℕ)) (octets : List ℕ) (entry : Entry) → IsInOrder kept (records.Queue path addresses octets)
+    → entry ≡ record { path = path; recipients = map waiting addresses; octets = octets } → IfSome (Some entry) (HasEntryRoom kept)
+recorded-room kept path addresses octets entry order is =
+    let count : length entry.recipients ≡ length addresses = ap (λ (e : Entry). length e.recipients) is ∙ length-map addresses waiting in
+    (order.3, omega (arith, order.4, count))
 
 entry-room : (kept : Kept) (max : ℕ) (delivery : Delivery) (one : Option Record) (entry : Option Entry) → (has_large_octets max delivery || has_many_things kept delivery) ≡ false
     → option_to_list one ≡ queued delivery → entry ≡ option_and_then entry_of one → IfSome entry (HasEntryRoom kept)
@@ -92,7 +99,7 @@ entry-room kept max delivery one entry small is e =
           rw some.2 room
     ]
 
-few-recipients : (kept : Kept) (i : Indexes) (entry : Option Entry) → AreIndexes kept i → IfSome entry (HasEntryRoom kept)
+pub few-recipients : (kept : Kept) (i : Indexes) (entry : Option Entry) → AreIndexes kept i → IfSome entry (HasEntryRoom kept)
     → i.recipients + recipient_count (option_to_list entry) ≤ THINGS_MAX
 few-recipients kept i None x room = omega (arith, x.few.recipients, x.recipients_is)
 few-recipients kept i (Some entry) x room = omega (arith, room.1, x.recipients_is)
@@ -106,7 +113,7 @@ entry-few kept i max delivery one entry x small is e = few-recipients kept i ent
 -- ---- the indexes
 
 -- those of a store that has an entry more, where there is one
-indexes-entry : (kept : Kept) (i : Indexes) (entry : Option Entry) → AreIndexes kept i → IfSome entry (HasEntryRoom kept)
+pub indexes-entry : (kept : Kept) (i : Indexes) (entry : Option Entry) → AreIndexes kept i → IfSome entry (HasEntryRoom kept)
     → AreIndexes (record kept { entries = kept.entries ++ option_to_list entry }) (record i { recipients = i.recipients + recipient_count (option_to_list entry) })
 indexes-entry kept i None x room =
     let none : i.recipients + recipient_count [] ≡ i.recipients = omega arith in

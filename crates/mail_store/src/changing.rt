@@ -16,7 +16,7 @@ ghost use Rattle.address_grammar.specs.Paths.{ComesInPath};
 ghost use Rattle.journal_records.specs.declared.limits.TheConstants.{TEXT_MAX};
 ghost use Rattle.mail_store.specs.declared.limits.TheConstants.{THINGS_MAX};
 ghost use Rattle.journal_records.specs.declared.records.Record.TheVariants as records;
-ghost use Rattle.journal_records.specs.Addresses.{WithPaths, IsSendable};
+ghost use Rattle.journal_records.specs.Addresses.{WithPaths, IsSendable, mailbox_key as mailbox_key_of};
 ghost use Rattle.journal_records.specs.Spelling.{IsWritable, record_text};
 ghost use Rattle.mail_store.specs.Changing.{Writes, Changes, LeavesAll, IsRefusedAs, IsDeliverable, queued as queued_of, copy_for, inboxes_of, has_many_things, domain_refusal, account_refusal, delivery_refusal, delivered, expunge_refusal, expunged, has_large_octets as has_large_octets_of};
 ghost use Rattle.mail_store.specs.declared.changing.StoreFault.TheVariants as faults;
@@ -139,21 +139,22 @@ fn account_made(alloc: Global, address: &Address, password: &[u8]) -> Result<Acc
     })
 }
 
-// What is put last for an account: what is written of it, itself, and the name of its folder.
+// What is put last for an account: what is written of it, and itself.
 #[derive(Drop)]
 struct NewAccount {
     named: Named,
     own: Account,
-    inbox: Octets,
 }
 
-// Makes room for an account and its folder.
+// Makes room for an account and its folder, and the folder's name.
 pub(crate) fn reserve_account(
+    alloc: Global,
     accounts: &mut Vec<Account>,
     folders: &mut Vec<Folder>,
     contents: &mut Vec<Content>,
     inboxes: &mut Vec<u32>,
-) -> Result<(), OutOfMemory>
+) -> Result<Octets, OutOfMemory>
+    ensures name { IfOk result (λ name. name ≡ inbox) }
     ensures accounts { accounts.new.items ≡ accounts.old.items }
     ensures folders { folders.new.items ≡ folders.old.items }
     ensures contents { contents.new.items ≡ contents.old.items }
@@ -167,7 +168,7 @@ pub(crate) fn reserve_account(
     folders.reserve(1)?;
     contents.reserve(1)?;
     inboxes.reserve(1)?;
-    Ok(())
+    Octets::from_slice(alloc, b"INBOX")
 }
 
 // Puts an account and its folder last, for which there is room.
@@ -377,13 +378,10 @@ impl Store {
         ensures refusal { WithPaths (λ path_of. IsRefusedAs result (account_refusal path_of self.old.kept address.now)) }
         ensures cause { HasKeeperCause (J.tells keeper.old) (J.tells keeper.new) result StoreFault.Keeper }
     {
-        let key = mailbox_key(self.alloc, address)?;
-        if number_of(&self.mailboxes, key.as_slice()).is_some() {
-            return Err(StoreFault::Exists);
-        }
-        let made = self.new_account(key, address, password)?;
+        let made = self.new_account(address, password)?;
         let account = made.named.number;
-        reserve_account(
+        let inbox = reserve_account(
+            self.alloc,
             &mut self.accounts,
             &mut self.folders,
             &mut self.contents,
@@ -402,40 +400,48 @@ impl Store {
             &mut self.contents,
             &mut self.inboxes,
             made.own,
-            made.inbox,
+            inbox,
         );
         Ok(account)
     }
 
-    // What is put last for an account whose mailbox has none and is known by this key, unless it is refused.
-    fn new_account(
-        &self,
-        key: Octets,
-        address: &Address,
-        password: &[u8],
-    ) -> Result<NewAccount, StoreFault>
+    // What is put last for an account, unless it is refused.
+    fn new_account(&self, address: &Address, password: &[u8]) -> Result<NewAccount, StoreFault>
         requires address { IsSendable address.now }
         requires password { length password.now ≤ TEXT_MAX }
-        ensures name { IfOk result (λ made. made.named.name ≡ key) }
+        ensures name { IfOk result (λ made. made.named.name ≡ mailbox_key_of address.now) }
         ensures number { IfOk result (λ made. made.named.number ≡ length self.now.kept.accounts) }
         ensures text { IfOk result (λ made. made.named.text ≡ record_text (records.Account (address_text address.now) password.now)) }
         ensures address { IfOk result (λ made. made.own.address ≡ address_text address.now) }
         ensures password { IfOk result (λ made. made.own.password ≡ password.now) }
-        ensures inbox { IfOk result (λ made. made.inbox ≡ inbox) }
-        ensures refusal { IsRefusedAs result (room_refusal self.now.kept address.now.domain) }
+        ensures refusal { WithPaths (λ path_of. IsRefusedAs result (account_refusal path_of self.now.kept address.now)) }
         ensures no_keeper { result ≢ Err faults.Keeper }
     {
-        self.room_for_account(address.domain.as_slice())?;
+        let key = self.free_key(address)?;
         let text = account_text(self.alloc, address, password)?;
         let own = account_made(self.alloc, address, password)?;
-        let inbox = Octets::from_slice(self.alloc, b"INBOX")?;
         let number = self.accounts.len() as u32;
         let named = Named {
             name: key,
             number,
             text,
         };
-        Ok(NewAccount { named, own, inbox })
+        Ok(NewAccount { named, own })
+    }
+
+    // What the mailbox of an address is known by, unless an account of it is refused.
+    fn free_key(&self, address: &Address) -> Result<Octets, StoreFault>
+        requires { ComesInPath address.now }
+        ensures key { IfOk result (λ key. key ≡ mailbox_key_of address.now) }
+        ensures refusal { WithPaths (λ path_of. IsRefusedAs result (account_refusal path_of self.now.kept address.now)) }
+        ensures no_keeper { result ≢ Err faults.Keeper }
+    {
+        let key = mailbox_key(self.alloc, address)?;
+        if number_of(&self.mailboxes, key.as_slice()).is_some() {
+            return Err(StoreFault::Exists);
+        }
+        self.room_for_account(address.domain.as_slice())?;
+        Ok(key)
     }
 
     // An account in this domain isn't refused for its domain, nor because there would be too many.
@@ -552,6 +558,26 @@ impl Store {
         if parcel.text.is_empty() {
             return Ok(());
         }
+        self.put_delivery(keeper, delivery, parcel)
+    }
+
+    // Puts a delivery last that isn't refused, and writes it.
+    fn put_delivery<J: Keeper>(
+        &mut self,
+        keeper: &mut J,
+        delivery: &Delivery,
+        parcel: Parcel,
+    ) -> Result<(), StoreFault>
+        requires deliverable { IsDeliverable self.old delivery.now }
+        requires taken { delivery_refusal self.old delivery.now ≡ None }
+        requires text { parcel.text ≡ flat_map record_text (delivered self.old.kept delivery.now) }
+        requires copies { parcel.copies.items
+            ≡ map (copied delivery.now.date delivery.now.local_octets) (inboxes_of self.old.kept delivery.now.local) }
+        requires entry { IsEntryOf parcel.entry (queued_of delivery.now) }
+        ensures changes { Changes self.old self.new (J.tells keeper.old).octets (J.tells keeper.new).octets result (delivered self.old.kept delivery.now) }
+        ensures refusal { IsRefusedAs result None }
+        ensures cause { HasKeeperCause (J.tells keeper.old) (J.tells keeper.new) result StoreFault.Keeper }
+    {
         reserve_delivery(
             &mut self.messages,
             &mut self.previous,

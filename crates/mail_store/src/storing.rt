@@ -4,7 +4,7 @@ ghost use Rattle.std.specs.List.{All};
 ghost use Rattle.address_grammar.specs.Paths.{ComesInPath};
 ghost use Rattle.mail_store.specs.declared.limits.TheConstants.{MESSAGE_MAX};
 ghost use Rattle.journal_records.specs.declared.records.Record.TheVariants as records;
-ghost use Rattle.mail_store.specs.private.Adding.{AddsRecord};
+ghost use Rattle.mail_store.specs.private.Adding.{AddsRecord, IsKeyed};
 ghost use Rattle.journal_records.specs.Addresses.{WithPaths};
 ghost use Rattle.mail_store.specs.private.Chains.{chain};
 ghost use Rattle.mail_store.specs.Kept.{nothing, change_at, with_flags, gone, without, inbox_of, uid_next, listed, listed_one, listed_from, numbers_in, logged_in, find_account, is_local, name_of, has_password};
@@ -184,21 +184,27 @@ impl Store {
         }
     }
 
+    // What the mailbox of an account's record is known by, or that it is none.
+    fn recorded_key(&self, address: &[u8], password: &[u8]) -> Result<Octets, ReadFault>
+        ensures { IsKeyed result self.now.kept address.now password.now }
+    {
+        if !account_fits(address, password, self.accounts.len(), self.folders.len()) {
+            return Err(ReadFault::NoRecord);
+        }
+        let Some(own) = read_text(self.alloc, address)? else {
+            return Err(ReadFault::NoRecord);
+        };
+        Ok(mailbox_key(self.alloc, &own)?)
+    }
+
     // The record of an account is put last.
     fn add_account_record(&mut self, address: Octets, password: Octets) -> Result<(), ReadFault>
         ensures { AddsRecord self.old self.new result (records.Account address password) }
     {
+        let key = self.recorded_key(address.as_slice(), password.as_slice())?;
         let account = self.accounts.len();
-        let folder = self.folders.len();
-        if !account_fits(address.as_slice(), password.as_slice(), account, folder) {
-            return Err(ReadFault::NoRecord);
-        }
-        let Some(own) = read_text(self.alloc, address.as_slice())? else {
-            return Err(ReadFault::NoRecord);
-        };
-        let key = mailbox_key(self.alloc, &own)?;
-        let name = Octets::from_slice(self.alloc, b"INBOX")?;
-        reserve_account(
+        let inbox = reserve_account(
+            self.alloc,
             &mut self.accounts,
             &mut self.folders,
             &mut self.contents,
@@ -216,7 +222,7 @@ impl Store {
             &mut self.contents,
             &mut self.inboxes,
             Account { address, password },
-            name,
+            inbox,
         );
         Ok(())
     }

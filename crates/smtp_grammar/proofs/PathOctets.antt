@@ -49,6 +49,13 @@ more_both a b c sum (Some n) = ap Some (omega (arith, sum))
 pub passes_none : (at : Place) → Passes at [] at
 passes_none at rest = more_none (path_len at rest)
 
+-- the same, where both places are outside of quotes and of a literal
+abbrev pub PassesPlain : List ℕ → Type 0
+PassesPlain octets = Passes place.Plain octets place.Plain
+
+pub plain_none : PassesPlain []
+plain_none = passes_none place.Plain
+
 -- one octet
 pub passes_one : (x : ℕ) (at : Place) → stands_plain 62 at x ≡ false → stands_plain 40 at x ≡ false → Passes at (x ∷ []) (place_after at x)
 unfolding path_len
@@ -242,7 +249,7 @@ passes_tokens tokens address sound is =
     (passes_both (64 ∷ []) address.domain place.Plain place.Plain place.Plain (passes_octet 64 refl) (rw is.domain_says (passes_domain is.domain is.is_domain domain)))
 
 -- an address that comes in some path
-pub passes_address : (address : Address) → ComesInPath address → Passes place.Plain (address_text address) place.Plain
+pub passes_address : (address : Address) → ComesInPath address → PassesPlain (address_text address)
 passes_address address comes =
     let path = comes.1 in
     let sound = tokens_sound path.tokens comes.0 path.has_tokens.are_tokens path.has_tokens.is_line in
@@ -267,7 +274,7 @@ found_at : (path rest : List ℕ) → stands_apart rest ≡ true → path_and_re
 found_at path rest apart = rw (drop_at path rest (length path) refl, take_at path rest (length path) refl, apart) refl
 
 -- the path is found whole
-octets_found : (octets rest : List ℕ) → Passes place.Plain octets place.Plain → stands_apart rest ≡ true
+octets_found : (octets rest : List ℕ) → PassesPlain octets → stands_apart rest ≡ true
     → path_in (in_angles octets ++ rest) ≡ Some (record { path = in_angles octets; rest = rest })
 octets_found octets rest passes apart =
     ap (option_and_then (path_and_rest (in_angles octets ++ rest))) (written_len octets rest passes) ∙ found_at (in_angles octets) rest apart
@@ -291,13 +298,13 @@ follows_space word text =
     rw (take_at word (32 ∷ text) (length word) refl, drop_at word (32 ∷ text) (length word) refl, same_itself (map to_ascii_lowercase word)) refl
 
 -- the path is found behind a word
-pub found_behind : (word octets rest : List ℕ) → Passes place.Plain octets place.Plain → stands_apart rest ≡ true
+pub found_behind : (word octets rest : List ℕ) → PassesPlain octets → stands_apart rest ≡ true
     → path_behind word (word ++ (in_angles octets ++ rest)) ≡ Some (record { path = in_angles octets; rest = rest })
 found_behind word octets rest passes apart =
     ap (option_and_then path_in) (follows_word word ((octets ++ 62 ∷ []) ++ rest)) ∙ octets_found octets rest passes apart
 
 -- and behind a word and a space
-pub found_spaced : (word octets rest : List ℕ) → Passes place.Plain octets place.Plain → stands_apart rest ≡ true
+pub found_spaced : (word octets rest : List ℕ) → PassesPlain octets → stands_apart rest ≡ true
     → path_behind word (word ++ 32 ∷ (in_angles octets ++ rest)) ≡ Some (record { path = in_angles octets; rest = rest })
 found_spaced word octets rest passes apart =
     ap (option_and_then path_in) (follows_space word (in_angles octets ++ rest)) ∙ octets_found octets rest passes apart

@@ -1,5 +1,5 @@
 -- The words of a command line (RFC 5321, 4.1; RFC 6531, 3.4).
-use Rattle.std.specs.Prelude.{ℕ, ◌+◌, ◌-◌, ◌*◌, ◌^◌, ◌==◌, ◌&&◌, ◌||◌, not, List, [], ◌∷◌, Bool, true, false, Option, None, Some, length, take, drop, map, fold, codes, if◌then◌else◌, nat_le, nat_lt, min, position, filter}
+use Rattle.std.specs.Prelude.{ℕ, ◌+◌, ◌-◌, ◌^◌, ◌==◌, ◌&&◌, ◌||◌, not, List, [], ◌∷◌, Bool, true, false, Option, None, Some, length, take, drop, map, codes, if◌then◌else◌, nat_le, nat_lt, min, position, filter}
 use Rattle.std.specs.Option.{option_map, option_and_then}
 use Rattle.std.specs.List.{before_first, list_all, list_any, slice_split, position_or_len, suffix_len}
 use Rattle.std.specs.Str.{bytes_eq}

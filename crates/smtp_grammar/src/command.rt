@@ -131,7 +131,7 @@ pub fn is_client(name: &[u8]) -> bool
 }
 
 /// Where an octet of a path stands: the octet behind a backslash is one of a pair.
-#[derive(Clone, Copy, Debug)]
+#[derive(Clone, Copy)]
 enum Place {
     Plain,
     Quoted,
@@ -252,7 +252,7 @@ pub fn path_behind<'a>(word: &[u8], argument: &'a [u8]) -> Option<PathAndRest<'a
 }
 
 /// A parameter of MAIL.
-#[derive(Clone, Copy, Debug)]
+#[derive(Clone, Copy)]
 enum Parameter {
     /// SIZE, with its number, or the greatest of its type.
     Size(u64),

@@ -27,9 +27,9 @@ use Rattle.smtp_session.specs.declared.states.Envelope.{Envelope}
 use Rattle.smtp_session.specs.declared.states.Greeted.{Greeted}
 use Rattle.smtp_session.specs.declared.states.Smtp.{Smtp}
 use Rattle.smtp_session.specs.declared.states.SmtpState.TheVariants as smtp
-use Rattle.smtp_session.specs.Trace.{Moment}
 use Rattle.smtp_session.specs.Machine.{Readings, State, Step, acts_in, collecting, delivery_of, end_data, greeted, says, too_large}
 use Rattle.smtp_session.specs.Session.{AreDropped, HasRestIn, IsFit, IsTold, WithReadings, after_step, data_turn, line_octets, next_turn, turns_of}
+use Rattle.smtp_session.specs.Trace.{Moment}
 use Rattle.smtp_session.specs.private.Steps.{IsSaid, Steps}
 use Rattle.smtp_session.proofs.DroppedLemmas.{AreDropped-more}
 use Rattle.smtp_session.proofs.FeedLemmas.{machine_at, next_turn-framed, store_behind}

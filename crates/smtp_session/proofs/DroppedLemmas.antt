@@ -1,11 +1,10 @@
 -- Data that are dropped as they come: what is kept of them tells whether their end comes.
-use Rattle.std.proofs.Common.{◌≡◌, ℕ, ◌+◌, ◌-◌, ◌*◌, ◌<◌, ◌≤◌, List, [], ◌∷◌, ◌++◌, length, take, drop, Bool, true, false, arith, refl, sym, ap, subst, ◌∙◌, append_assoc, length-append, ◌⊎◌, inl, inr, Some, None, Option}
+use Rattle.std.proofs.Common.{◌≡◌, ℕ, ◌+◌, ◌*◌, ◌<◌, ◌≤◌, List, [], ◌∷◌, ◌++◌, length, take, drop, Bool, true, false, arith, refl, sym, ap, subst, ◌∙◌, append_assoc, length-append, ◌⊎◌, inl, inr, None}
 use Rattle.std.proofs.lemmas.List.{take-append-drop}
 use Rattle.std.specs.Option.{option_map}
-use Rattle.mail_wire.specs.Lines.{Cut, crlf}
+use Rattle.mail_wire.specs.Lines.{crlf}
 use Rattle.mail_wire.proofs.FirstLineLemmas.{put}
-use Rattle.mail_wire.specs.Dots.{unstuffed}
-use Rattle.smtp_grammar.specs.Data.{data_cut, end_cut}
+use Rattle.smtp_grammar.specs.Data.{end_cut}
 use Rattle.smtp_grammar.proofs.DataLemmas.{ends_here, end_cut-apart, none_parts}
 use Rattle.smtp_session.specs.Session.{AreDropped}
 

@@ -26,9 +26,9 @@ use Rattle.mail_store.proofs.DoingLemmas.{Does-made, Does-more, Does-reply, chan
 use Rattle.mail_store.proofs.FollowLemmas.{Breaks-one, Follows-nil}
 use Rattle.smtp_session.specs.declared.states.Client.{Client}
 use Rattle.smtp_session.specs.declared.states.Envelope.{Envelope}
-use Rattle.smtp_session.specs.Trace.{IsMoment, Moment, return_path}
 use Rattle.smtp_session.specs.Machine.{Readings, Step, TellsTrees, acts_in, collecting, delivery_of, end_by, end_data, greeted, recipient_count, too_large, trace}
 use Rattle.smtp_session.specs.Session.{IsName, KnowsState, line_octets, reply_octets}
+use Rattle.smtp_session.specs.Trace.{IsMoment, Moment, return_path}
 use Rattle.smtp_session.specs.private.Steps.{IsSaid, Makes}
 use Rattle.smtp_session.proofs.KeptLemmas.{delivery-deliverable}
 

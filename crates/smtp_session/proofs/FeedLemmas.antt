@@ -34,9 +34,9 @@ use Rattle.smtp_session.specs.declared.states.Client.{Client}
 use Rattle.smtp_session.specs.declared.states.Envelope.{Envelope}
 use Rattle.smtp_session.specs.declared.states.SmtpState.{SmtpState}
 use Rattle.smtp_session.specs.declared.states.SmtpState.TheVariants as smtp
-use Rattle.smtp_session.specs.Trace.{Moment}
 use Rattle.smtp_session.specs.Machine.{Readings, State, fresh, greeted, mail, collecting, ended, Step, acts_in}
 use Rattle.smtp_session.specs.Session.{FeedsBy, HasRestIn, IsFit, IsTold, IsUnfinished, Machine, WithReadings, data_turn, line_octets, line_turn, next_turn, state_of, state_or_ended, turn_in, turns_of}
+use Rattle.smtp_session.specs.Trace.{Moment}
 use Rattle.smtp_session.specs.private.Steps.{HasRestAfter, Steps}
 
 -- the machine by what reads paths and tells trees

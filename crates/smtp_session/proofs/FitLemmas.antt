@@ -1,5 +1,5 @@
 -- Each line of a reply is ASCII.
-use Rattle.std.proofs.Common.{◌≡◌, ℕ, zero, suc, ◌+◌, ◌/◌, ◌%◌, ◌<◌, List, [], ◌∷◌, ◌++◌, Bool, true, false, arith, refl, sym, subst, Some, None, Option, ◌&&◌, ◌==◌, ◌∙◌, codes, cond, not, inl, inr}
+use Rattle.std.proofs.Common.{◌≡◌, ℕ, zero, suc, ◌+◌, ◌/◌, ◌%◌, ◌<◌, List, [], ◌∷◌, ◌++◌, Bool, true, false, arith, refl, sym, subst, ◌&&◌, ◌==◌, ◌∙◌, codes, cond, not, inl, inr}
 use Rattle.std.specs.Prelude.{is_some, nat_lt}
 use Rattle.std.specs.Str.{IsAscii}
 use Rattle.std.specs.List.{list_all}

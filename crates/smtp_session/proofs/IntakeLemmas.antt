@@ -21,9 +21,9 @@ use Rattle.mail_store.proofs.ChangeLemmas.{after_all-append}
 use Rattle.mail_store.proofs.DeliveryLemmas.{after-copies}
 use Rattle.smtp_session.specs.declared.states.Client.{Client}
 use Rattle.smtp_session.specs.declared.states.Envelope.{Envelope}
-use Rattle.smtp_session.specs.Trace.{Moment}
 use Rattle.smtp_session.specs.Intake.{AreRecipients, HasOneMore, IsKeptOnce, acceptance, entries_for, kept_after, messages_in}
 use Rattle.smtp_session.specs.Machine.{Readings, Step, delivery_of, end_by, end_data, greeted, is_same_remote}
+use Rattle.smtp_session.specs.Trace.{Moment}
 use Rattle.smtp_session.proofs.RowLemmas.{not_zero}
 
 -- ---- each account has an INBOX of its own

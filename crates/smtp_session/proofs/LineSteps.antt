@@ -31,9 +31,9 @@ use Rattle.smtp_session.specs.declared.states.Data.{Data}
 use Rattle.smtp_session.specs.declared.states.Smtp.{Smtp}
 use Rattle.smtp_session.specs.declared.states.SmtpState.{SmtpState}
 use Rattle.smtp_session.specs.declared.states.SmtpState.TheVariants as smtp
-use Rattle.smtp_session.specs.Trace.{Moment}
 use Rattle.smtp_session.specs.Machine.{Readings, State, ended, Step, acts_in, step}
 use Rattle.smtp_session.specs.Session.{HasRestIn, IsFit, IsName, IsTold, IsUnfinished, KnowsState, Machine, ReadsLines, WithReadings, after_step, line_octets, line_too_long, line_turn, next_turn, reply_octets, state_of, state_or_ended, turns_of}
+use Rattle.smtp_session.specs.Trace.{Moment}
 use Rattle.smtp_session.specs.private.Steps.{HasRestAfter, Steps}
 use Rattle.smtp_session.proofs.FeedLemmas.{err_is, machine_at, next_turn-framed, store_behind, waiting-nil}
 use Rattle.smtp_session.proofs.FitLemmas.{step_fit}

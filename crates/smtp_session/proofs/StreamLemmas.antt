@@ -23,10 +23,10 @@ use Rattle.smtp_grammar.specs.Commands.{command_of}
 use Rattle.smtp_grammar.specs.Data.{data_cut}
 use Rattle.smtp_session.specs.declared.states.Client.{Client}
 use Rattle.smtp_session.specs.declared.states.Envelope.{Envelope}
-use Rattle.smtp_session.specs.Trace.{Moment}
 use Rattle.smtp_session.specs.Intake.{AreRecipients, IsKeptOnce, KeepsAccepted, KnowsRecipients, Keeps, NoMore, Says, acceptance, stored_line}
 use Rattle.smtp_session.specs.Machine.{Readings, State, fresh, greeted, mail, collecting, ended, Step, acts_in, delivery_of, end_by, end_data, step}
 use Rattle.smtp_session.specs.Session.{IsName, Machine, after_step, data_turn, later, line_too_long, line_turn, next_moment, next_turn, start_of, turn_in, turns_of}
+use Rattle.smtp_session.specs.Trace.{Moment}
 use Rattle.smtp_session.proofs.FeedLemmas.{next_turn-framed}
 use Rattle.smtp_session.proofs.IntakeLemmas.{HaveInboxes, delivered_once, have_inboxes, inboxes_after_all}
 use Rattle.smtp_session.proofs.KnownRecipients.{step-recipients}

@@ -22,11 +22,11 @@ use Rattle.smtp_grammar.specs.Data.{data_cut, sent}
 use Rattle.smtp_grammar.proofs.SentLines.{sent_found, unstuffed_back}
 use Rattle.smtp_session.specs.declared.states.Client.{Client}
 use Rattle.smtp_session.specs.declared.states.Envelope.{Envelope}
-use Rattle.smtp_session.specs.Trace.{Moment}
-use Rattle.smtp_session.specs.Machine.{Readings, Step, TellsTrees, acts_in, collecting, delivery_of, end_by, end_data, greeted, mail, recipient_count, says, step}
 use Rattle.smtp_session.specs.Intake.{acceptance, stored_line}
+use Rattle.smtp_session.specs.Machine.{Readings, Step, TellsTrees, acts_in, collecting, delivery_of, end_by, end_data, greeted, mail, recipient_count, says, step}
 use Rattle.smtp_session.specs.Room.{IsWithinLimits}
 use Rattle.smtp_session.specs.Session.{Machine, after_step, data_turn, later, next_moment, next_turn, turns_of}
+use Rattle.smtp_session.specs.Trace.{Moment}
 use Rattle.smtp_session.proofs.EndLemmas.{last_of, tells_true}
 use Rattle.smtp_session.proofs.FeedLemmas.{next_turn-framed}
 

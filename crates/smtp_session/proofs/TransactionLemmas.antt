@@ -13,9 +13,9 @@ use Rattle.smtp_grammar.specs.declared.command.Verb.TheVariants as verb
 use Rattle.smtp_grammar.specs.Commands.{announced, are_malformed, is_client, is_smtputf8, is_unknown, parameter_of, path_behind}
 use Rattle.smtp_session.specs.declared.states.Client.{Client}
 use Rattle.smtp_session.specs.declared.states.Envelope.{Envelope}
-use Rattle.smtp_session.specs.Trace.{Moment, protocol, received}
 use Rattle.smtp_session.specs.Intake.{AreRecipients, acceptance, kept_after}
 use Rattle.smtp_session.specs.Machine.{Readings, State, Step, alone, collecting, data_step, delivery_of, end_data, ended, envelope_of, fresh, greeted, is_same_remote, lacks_smtputf8, mail, mail_by, mail_step, mail_to, path_read, rcpt_local, rcpt_remote, rcpt_step, rcpt_to, recipient_count, step, with_room, words_behind}
+use Rattle.smtp_session.specs.Trace.{Moment, protocol, received}
 use Rattle.smtp_session.specs.Transaction.{GoesOn, GoesOnAs, IsTaken, IsTransactionKept, TakesAccount, TakesData, TakesRecipient, TakesRemote, TakesSender, go_ahead, recipient_ok, sender_ok}
 use Rattle.smtp_session.proofs.IntakeLemmas.{accepted_kept_once}
 

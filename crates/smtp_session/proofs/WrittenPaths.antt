@@ -3,13 +3,12 @@ use Rattle.std.proofs.Common.{◌≡◌, List, ◌∷◌, ◌++◌, ℕ, true, S
 use Rattle.address_grammar.specs.declared.Address.{Address}
 use Rattle.address_grammar.specs.Paths.{ComesInPath, in_angles}
 use Rattle.journal_records.specs.Addresses.{path_text}
-use Rattle.smtp_grammar.specs.declared.command.Place.TheVariants as place
 use Rattle.smtp_grammar.specs.Commands.{path_behind, stands_apart}
-use Rattle.smtp_grammar.proofs.PathOctets.{Passes, found_behind, found_spaced, passes_address, passes_none}
+use Rattle.smtp_grammar.proofs.PathOctets.{PassesPlain, found_behind, found_spaced, passes_address, plain_none}
 
 -- a path goes on with the text of an address, and with that of the null path
-passes_text : (path : Option Address) → IfSome path ComesInPath → Passes place.Plain (path_text path) place.Plain
-passes_text None comes = passes_none place.Plain
+passes_text : (path : Option Address) → IfSome path ComesInPath → PassesPlain (path_text path)
+passes_text None comes = plain_none
 passes_text (Some address) comes = passes_address address comes
 
 -- the path is found behind a word

@@ -18,8 +18,8 @@ use Rattle.mail_store.specs.StoreState.{StoreState, with_records}
 use Rattle.mail_store.specs.declared.limits.TheConstants.{RECIPIENTS_MAX}
 use Rattle.smtp_grammar.specs.Commands.{command_of, is_client}
 use Rattle.smtp_grammar.specs.Data.{data_cut, end_cut}
-use Rattle.smtp_session.specs.Trace.{Moment, IsMoment}
 use Rattle.smtp_session.specs.Machine.{Readings, State, Step, TellsTrees, acts_in, collecting, end_data, ended, fresh, greeted, mail, recipient_count, step}
+use Rattle.smtp_session.specs.Trace.{Moment, IsMoment}
 use Rattle.smtp_session.specs.declared.states.Client.{Client}
 use Rattle.smtp_session.specs.declared.states.Envelope.{Envelope}
 use Rattle.smtp_session.specs.declared.states.SmtpState.{SmtpState}

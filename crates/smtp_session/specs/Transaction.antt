@@ -7,9 +7,9 @@ use Rattle.mail_store.specs.Kept.{Kept, find_account, is_local, name_of}
 use Rattle.smtp_grammar.specs.Commands.{path_behind}
 use Rattle.smtp_session.specs.declared.states.Client.{Client}
 use Rattle.smtp_session.specs.declared.states.Envelope.{Envelope}
-use Rattle.smtp_session.specs.Trace.{Moment, protocol, received, return_path}
 use Rattle.smtp_session.specs.Intake.{IsKeptOnce}
 use Rattle.smtp_session.specs.Machine.{Readings, State, alone, collecting, greeted, is_same_remote, mail, path_read}
+use Rattle.smtp_session.specs.Trace.{Moment, protocol, received, return_path}
 
 -- ---- the replies of its commands
 

@@ -46,7 +46,8 @@ const OUT_OF_ORDER: &[u8] = b"503 5.5.1 out of order\r\n";
 
 const NEEDS_SMTPUTF8: &[u8] = b"553 5.6.7 address needs SMTPUTF8\r\n";
 
-const TOO_LARGE: &[u8] = b"552 5.3.4 too large\r\n";
+/// The reply to what is too large to be kept.
+pub const TOO_LARGE: &[u8] = b"552 5.3.4 too large\r\n";
 
 const TOO_MANY: &[u8] = b"452 4.5.3 too many recipients\r\n";
 

@@ -12,14 +12,15 @@ ghost use Rattle.mail_store.specs.Doing.{Does};
 ghost use Rattle.journal_records.specs.Stored.{IsStored};
 ghost use Rattle.smtp_grammar.specs.Commands.{command_of};
 ghost use Rattle.smtp_grammar.specs.Data.{end_cut};
-ghost use Rattle.smtp_session.specs.Trace.{IsMoment, Moment, protocol as protocol_of};
 ghost use Rattle.smtp_session.specs.Machine.{TellsTrees, acts_in, delivery_of, end_by, end_data as end_of, ended, step};
 ghost use Rattle.smtp_session.specs.Session.{FeedsBy, HasRest, HasRestIn, IsName, IsReady, IsTold, KnowsState, ReadsLines, WithReadings, greeting, line_octets, machine_of, reply_octets, session_state, start_of, state_of, state_or_ended, turns_of};
+ghost use Rattle.smtp_session.specs.Trace.{IsMoment, Moment, protocol as protocol_of, received, return_path};
 ghost use Rattle.smtp_session.specs.private.Steps.{HasRestAfter, IsReadyAfter, IsSaid, Makes, Steps, content_of, moment_of};
 
-use crate::rows::{Reply, answer};
+use crate::rows::{Reply, TOO_LARGE, answer};
 use crate::states::{Client, Data, Envelope, Fresh, Greeted, Smtp, SmtpState};
 use crate::trace::{received_field, return_path_field};
+use address_grammar::Address;
 use mail_store::{Delivery, Store, StoreFault, has_large_octets};
 use mail_wire::{
     Clock, Fault, FoundLine, Keeper, Memory, Octets, PIECE, Wire, date_text, find_line, give_all,
@@ -30,8 +31,6 @@ use smtp_grammar::{find_data_end, push_unstuffed};
 use std::alloc::Global;
 
 const TOO_LONG: &[u8] = b"500 5.5.2 line too long\r\n";
-
-const TOO_LARGE: &[u8] = b"552 5.3.4 too large\r\n";
 
 const NOT_A_MESSAGE: &[u8] = b"554 5.6.0 not a message\r\n";
 
@@ -90,6 +89,66 @@ fn read_stamp<C: Clock>(alloc: Global, clock: &mut C) -> Result<Stamp, Memory>
     })
 }
 
+// The octets that are kept of data: those for accounts, and those for addresses elsewhere. The content of the latter stands
+// behind the trace, which is so long.
+#[derive(Debug, Drop)]
+struct KeptOctets {
+    local: Octets,
+    remote: Octets,
+    trace_len: usize,
+}
+
+// The field that tells where a message came from, with this date.
+fn trace_field(
+    alloc: Global,
+    client: &Client,
+    envelope: &Envelope,
+    name: &[u8],
+    date: &[u8],
+) -> Result<Octets, Memory>
+    ensures { IfOk result (λ field. field ≡ received client.now.name name.now (protocol_of envelope.now.smtputf8 client.now.extended) date.now) }
+{
+    let with = protocol(envelope.smtputf8, client.extended);
+    received_field(alloc, client.name.as_slice(), name, with, date)
+}
+
+// The octets for accounts, which tell the path too.
+fn local_octets(alloc: Global, path: &Option<Address>, remote: &[u8]) -> Result<Octets, Memory>
+    requires { IfSome path.now ComesInPath }
+    ensures { IfOk result (λ octets. octets ≡ return_path path.now ++ remote.now) }
+{
+    let mut octets = return_path_field(alloc, path)?;
+    octets.push_slice(remote)?;
+    Ok(octets)
+}
+
+// The octets that are kept of data that came at this date.
+fn kept_octets(
+    alloc: Global,
+    client: &Client,
+    envelope: &Envelope,
+    name: &[u8],
+    lines: &[u8],
+    date: &[u8],
+) -> Result<KeptOctets, Memory>
+    requires { IfSome envelope.now.path ComesInPath }
+    ensures local { IfOk result (λ kept. kept.local ≡ return_path envelope.now.path ++ kept.remote) }
+    ensures remote { IfOk result (λ kept. kept.remote
+        ≡ received client.now.name name.now (protocol_of envelope.now.smtputf8 client.now.extended) date.now ++ unstuffed lines.now) }
+    ensures within { IfOk result (λ kept. kept.trace_len ≤ length kept.remote) }
+    ensures content { IfOk result (λ kept. drop kept.trace_len kept.remote ≡ unstuffed lines.now) }
+{
+    let mut remote = trace_field(alloc, client, envelope, name, date)?;
+    let trace_len = remote.len();
+    push_unstuffed(&mut remote, lines)?;
+    let local = local_octets(alloc, &envelope.path, remote.as_slice())?;
+    Ok(KeptOctets {
+        local,
+        remote,
+        trace_len,
+    })
+}
+
 // What is kept of data, and how long the trace is that stands before their content.
 #[derive(Debug, Drop)]
 struct Accepted {
@@ -112,29 +171,19 @@ fn accept_data(
     ensures within { IfOk result (λ accepted. accepted.trace_len ≤ length accepted.delivery.remote_octets) }
     ensures content { IfOk result (λ accepted. content_of accepted ≡ unstuffed lines.now) }
 {
-    let with = protocol(envelope.smtputf8, client.extended);
-    let mut remote_octets = received_field(
-        alloc,
-        client.name.as_slice(),
-        name,
-        with,
-        stamp.date.as_slice(),
-    )?;
-    let trace_len = remote_octets.len();
-    push_unstuffed(&mut remote_octets, lines)?;
-    let mut local_octets = return_path_field(alloc, &envelope.path)?;
-    local_octets.push_slice(remote_octets.as_slice())?;
+    let date = stamp.date.as_slice();
+    let octets = kept_octets(alloc, client, &envelope, name, lines, date)?;
     let delivery = Delivery {
         path: envelope.path,
         local: envelope.local,
-        local_octets,
+        local_octets: octets.local,
         remote: envelope.remote,
-        remote_octets,
+        remote_octets: octets.remote,
         date: stamp.internal,
     };
     Ok(Accepted {
         delivery,
-        trace_len,
+        trace_len: octets.trace_len,
     })
 }
 
@@ -226,34 +275,43 @@ fn finish_data<W: Wire, J: Keeper>(
     ensures cause { HasWireCause (W.tells wire.old) (W.tells wire.new) result Fault.Wire }
     ensures keeper { HasKeeperCause (J.tells keeper.old) (J.tells keeper.new) result Fault.Keeper }
 {
-    let reply = deliver(alloc, &accepted, store, keeper)?;
+    let delivered = deliver(alloc, &accepted, store, keeper);
+    drop(accepted);
+    let reply = delivered?;
     reply_to_data(client, reply, wire)
 }
 
-// The end of data, which came at this moment.
+// Data that are whole, and the moment at which they ended.
+#[derive(Debug, Drop)]
+struct WholeData {
+    session: Smtp<Data>,
+    stamp: Stamp,
+}
+
+// The end of data, which are these lines.
 fn end_data<W: Wire, J: Keeper>(
     alloc: Global,
-    session: Smtp<Data>,
+    whole: WholeData,
     lines: &[u8],
-    stamp: Stamp,
     store: &mut Store,
     wire: &mut W,
     keeper: &mut J,
 ) -> Result<Smtp<Greeted>, Fault>
-    requires moment { (seconds : ℕ) × IsMoment seconds (moment_of stamp) }
+    requires moment { (seconds : ℕ) × IsMoment seconds (moment_of whole.stamp) }
     requires works { store.old.failed ≡ false }
     requires named { IsName (name_of store.old.kept) }
-    requires known { KnowsState store.old (state_of (SmtpState.Data session)) }
-    ensures does { WithReadings (λ readings. (octets : List ℕ) → IsSaid session.state.dropped store.old.message_max lines.now octets
+    requires known { KnowsState store.old (state_of (SmtpState.Data whole.session)) }
+    ensures does { WithReadings (λ readings. (octets : List ℕ) → IsSaid whole.session.state.dropped store.old.message_max lines.now octets
         → Does line_octets (W.tells wire.old) (W.tells wire.new) store.old store.new (J.tells keeper.old).octets (J.tells keeper.new).octets result
-        (acts_in (end_of readings store.old session.state.client session.state.envelope (moment_of stamp) octets))) }
-    ensures client { IfOk result (λ next. next.state.client ≡ session.state.client) }
+        (acts_in (end_of readings store.old whole.session.state.client whole.session.state.envelope (moment_of whole.stamp) octets))) }
+    ensures client { IfOk result (λ next. next.state.client ≡ whole.session.state.client) }
     ensures works { ¬ (result ≡ Err Fault.Keeper) → store.new.failed ≡ false }
     ensures limit { store.new.message_max ≡ store.old.message_max }
     ensures name { name_of store.new.kept ≡ name_of store.old.kept }
     ensures cause { HasWireCause (W.tells wire.old) (W.tells wire.new) result Fault.Wire }
     ensures keeper { HasKeeperCause (J.tells keeper.old) (J.tells keeper.new) result Fault.Keeper }
 {
+    let WholeData { session, stamp } = whole;
     let Data {
         client,
         envelope,
@@ -348,9 +406,10 @@ fn take_data<W: Wire, J: Keeper, C: Clock>(
     match find_data_end(kept.as_slice(), old) {
         Some(at) => {
             let stamp = read_stamp(alloc, clock)?;
-            let (whole, _) = kept.as_slice().split_at(at + 2);
-            let (_, lines) = whole.split_at(2);
-            let next = end_data(alloc, session, lines, stamp, store, wire, keeper)?;
+            let (found, _) = kept.as_slice().split_at(at + 2);
+            let (_, lines) = found.split_at(2);
+            let whole = WholeData { session, stamp };
+            let next = end_data(alloc, whole, lines, store, wire, keeper)?;
             kept.clear();
             Ok(Came {
                 next: Some(SmtpState::Greeted(next)),

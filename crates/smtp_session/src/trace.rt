@@ -1,5 +1,6 @@
 //! The fields that are put before the data of a message (RFC 5321, 4.4).
-ghost use Rattle.std.specs.Prelude.{◌≡◌, IfOk, IfSome};
+ghost use Rattle.std.specs.Prelude.{◌≡◌, ◌++◌, IfOk, IfSome, OnOk, codes};
+ghost use Rattle.mail_wire.specs.Lines.{crlf};
 ghost use Rattle.address_grammar.specs.Paths.{ComesInPath};
 ghost use Rattle.smtp_session.specs.Trace.{received, return_path as return_path_of};
 
@@ -7,6 +8,32 @@ use address_grammar::Address;
 use journal_records::path_text;
 use mail_wire::{Memory, Octets};
 use std::alloc::Global;
+
+// Puts two texts last.
+fn push_both(field: &mut Octets, first: &[u8], second: &[u8]) -> Result<(), Memory>
+    ensures { OnOk result (field.new ≡ field.old ++ (first.now ++ second.now)) }
+{
+    field.push_slice(first)?;
+    field.push_slice(second)
+}
+
+// Puts last where a message came from, by which protocol and when.
+fn push_trace(
+    field: &mut Octets,
+    client: &[u8],
+    name: &[u8],
+    protocol: &[u8],
+    date: &[u8],
+) -> Result<(), Memory>
+    ensures { OnOk result (field.new ≡ field.old
+        ++ (client.now ++ codes " by " ++ name.now ++ codes " with " ++ protocol.now ++ codes "; " ++ date.now ++ crlf)) }
+{
+    field.push_slice(client)?;
+    push_both(field, b" by ", name)?;
+    push_both(field, b" with ", protocol)?;
+    push_both(field, b"; ", date)?;
+    field.push_slice(b"\r\n")
+}
 
 /// The field that tells where a message came from, by which protocol and when.
 pub fn received_field(
@@ -19,14 +46,7 @@ pub fn received_field(
     ensures { IfOk result (λ field. field ≡ received client.now name.now protocol.now date.now) }
 {
     let mut field = Octets::from_slice(alloc, b"Received: from ")?;
-    field.push_slice(client)?;
-    field.push_slice(b" by ")?;
-    field.push_slice(name)?;
-    field.push_slice(b" with ")?;
-    field.push_slice(protocol)?;
-    field.push_slice(b"; ")?;
-    field.push_slice(date)?;
-    field.push_slice(b"\r\n")?;
+    push_trace(&mut field, client, name, protocol, date)?;
     Ok(field)
 }
 

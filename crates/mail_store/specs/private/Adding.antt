@@ -3,6 +3,10 @@ use Rattle.std.specs.Prelude.{◌≡◌, ◌≢◌, ℕ, List, Result, Ok, Err}
 use Rattle.journal_records.specs.declared.reading.ReadFault.{ReadFault}
 use Rattle.journal_records.specs.declared.reading.ReadFault.TheVariants.{Memory, NoRecord}
 use Rattle.journal_records.specs.declared.records.Record.{Record}
+use Rattle.address_grammar.specs.declared.Address.{Address}
+use Rattle.journal_records.specs.declared.records.Record.TheVariants as records
+use Rattle.journal_records.specs.Addresses.{IsTextOf, mailbox_key}
+use Rattle.mail_store.specs.Kept.{Kept}
 use Rattle.mail_store.specs.Records.{IsInOrder, IsRecord}
 use Rattle.journal_records.specs.Spelling.{fields_of}
 use Rattle.mail_store.specs.StoreState.{StoreState, with_record}
@@ -12,6 +16,19 @@ abbrev pub AddsRecord : {T : Type 0} → StoreState → StoreState → Result T 
 AddsRecord old new (Ok done) one = IsInOrder old.kept one × (new ≡ with_record old one)
 AddsRecord old new (Err Memory) one = new ≡ old
 AddsRecord old new (Err NoRecord) one = ¬ IsInOrder old.kept one × (new ≡ old)
+
+-- the account is a record, and its mailbox is known by this key
+pub record HasKey (kept : Kept) (address password key : List ℕ) : Type 0 where
+  pub in_order : IsInOrder kept (records.Account address password)
+  pub own : Address
+  pub text : IsTextOf address own
+  pub key_is : key ≡ mailbox_key own
+
+-- it has such a key, or is none
+abbrev pub IsKeyed : Result (List ℕ) ReadFault → Kept → List ℕ → List ℕ → Type 0
+IsKeyed (Ok key) kept address password = HasKey kept address password key
+IsKeyed (Err Memory) kept address password = Unit {0}
+IsKeyed (Err NoRecord) kept address password = ¬ IsInOrder kept (records.Account address password)
 
 -- a record was put last whose fields these are
 pub record Added (old new : StoreState) (fields : List ℕ) : Type 0 where

@@ -9,9 +9,9 @@ use Rattle.mail_store.specs.Acts.{Act, acts_of}
 use Rattle.mail_store.specs.Doing.{Does, IsDone}
 use Rattle.mail_store.specs.StoreState.{StoreState}
 use Rattle.journal_records.specs.declared.records.Record.{Record}
-use Rattle.smtp_session.specs.Trace.{Moment}
 use Rattle.smtp_session.specs.Machine.{Readings}
 use Rattle.smtp_session.specs.Session.{AreFitActs, HasRestIn, IsTold, IsUnfinished, KnowsState, Machine, WithReadings, line_octets, state_of, state_or_ended, turns_of}
+use Rattle.smtp_session.specs.Trace.{Moment}
 use Rattle.smtp_session.specs.declared.states.SmtpState.{SmtpState}
 use Rattle.smtp_session.specs.declared.session.Accepted.{Accepted}
 use Rattle.smtp_session.specs.declared.session.Came.{Came}

@@ -1,4 +1,4 @@
-use Rattle.std.proofs.Common.{ap, refl, subst, Option, Some, ◌∙◌, []}
+use Rattle.std.proofs.Common.{ap, refl, Some, ◌∙◌}
 use Rattle.smtp_session.specs.declared.states.SmtpState.TheVariants as smtp
 use Rattle.smtp_session.proofs.LineSteps.{known_by, no_end, nothing_rests, nothing_unfinished, reads_lines}
 use Rattle.smtp_session.proofs.session.begin.Goals as goal

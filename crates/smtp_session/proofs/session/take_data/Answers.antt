@@ -1,7 +1,6 @@
-use Rattle.std.proofs.Common.{◌+◌, ◌-◌, List, ℕ, sym, ap, subst, Err, IsTrue}
+use Rattle.std.proofs.Common.{◌+◌, ◌-◌}
 use Rattle.std.proofs.lemmas.Result.{err_from_is_err_and}
 use Rattle.mail_wire.specs.declared.outside.Fault.TheVariants as fault
-use Rattle.smtp_grammar.specs.Commands.{is_client}
 use Rattle.smtp_session.specs.private.Steps.{moment_of}
 use Rattle.smtp_session.specs.declared.states.SmtpState.TheVariants as smtp
 use Rattle.smtp_session.proofs.DataSteps.{end_in, Steps-data, Steps-data_fails, Steps-data_wait}

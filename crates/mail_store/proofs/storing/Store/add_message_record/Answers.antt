@@ -1,4 +1,4 @@
-use Rattle.std.proofs.Common.{◌≡◌, ◌+◌, ◌≤◌, List, [], ◌∷◌, ◌++◌, length, true, subst, ap, ◌∙◌, arith}
+use Rattle.std.proofs.Common.{◌≡◌, ◌+◌, ◌≤◌, List, [], ◌∷◌, ◌++◌, length, true, refl, subst, sym, ap, ◌∙◌, arith}
 use Rattle.std.specs.List.{All}
 use Rattle.std.proofs.lemmas.List.Elements.{All-push, All-nil}
 use Rattle.mail_store.specs.declared.kept.Message.{Message}
@@ -7,7 +7,11 @@ use Rattle.mail_store.specs.private.Chains.{AreChained}
 use Rattle.mail_store.specs.private.Store.{kept_of, indexes_of}
 use Rattle.journal_records.specs.Stored.{IsStored}
 use Rattle.mail_store.proofs.IndexLemmas.{AreIndexes-messages}
+use Rattle.mail_store.proofs.QueueLemmas.{refutes}
 use Rattle.mail_store.proofs.storing.Store.add_message_record.Goals as goal
+
+pub returns-then-not-branch : goal.returns-then-not-branch
+returns-then-not-branch c = (λ h. refutes c.if-not-branch.true (c.in_ok-is_stored.ensures.1 (subst IsStored (sym c.as_slice.ensures) h.3)), refl)
 
 pub invariant_of-self-2 : goal.invariant_of-self-2
 invariant_of-self-2 c =
@@ -15,7 +19,7 @@ invariant_of-self-2 c =
     let fits = c.message_fits.ensures.0 c.if-not-message_fits.false in
     let room : length c.self.inside.messages.items + 1 ≤ THINGS_MAX = omega (arith, c.len-count.ensures, fits.3) in
     let is_stored = λ (message : Message). IsStored message.octets in
-    let stored : All is_stored (made ∷ []) = All-push is_stored [] made (All-nil is_stored) (subst IsStored c.as_slice.ensures c.in_ok-judge.ensures) in
+    let stored : All is_stored (made ∷ []) = All-push is_stored [] made (All-nil is_stored) (subst IsStored c.as_slice.ensures (c.in_ok-is_stored.ensures.0 c.if-not-branch.false)) in
     let messages : c.put_message.new.messages.items ≡ c.self.inside.messages.items ++ made ∷ [] = c.put_message.ensures.messages ∙ ap (λ (l : List Message). l ++ made ∷ []) c.in_ok-reserve.ensures.items in
     let chained = subst (λ (l : List Message). AreChained l c.put_message.new.contents.items c.put_message.new.previous.items) messages c.put_message.ensures.chained in
     record {

@@ -1,22 +1,11 @@
-use Rattle.std.proofs.Common.{◌≡◌, [], true, false, None, ap₂, ◌+◌, ◌≤◌, ◌<◌, List, ◌++◌, length, map, sym, ap, subst, ◌∙◌}
-use Rattle.std.specs.List.{All, flat_map}
-use Rattle.std.specs.Option.{option_to_list}
+use Rattle.std.proofs.Common.{◌≡◌, true, false, sym, ap, subst, ◌∙◌}
+use Rattle.std.specs.List.{flat_map}
 use Rattle.std.proofs.lemmas.Result.{err_from_is_err_and}
 use Rattle.mail_store.specs.declared.changing.Parcel.{Parcel}
-use Rattle.mail_store.specs.declared.kept.Entry.{Entry}
-use Rattle.mail_store.specs.declared.kept.Message.{Message}
-use Rattle.mail_store.specs.declared.limits.TheConstants.{THINGS_MAX}
-use Rattle.mail_store.specs.Changing.{inboxes_of, IsDeliverable, delivered, delivery_refusal}
-use Rattle.mail_store.specs.private.Delivering.{copied}
-use Rattle.mail_store.specs.Kept.{after_all}
-use Rattle.mail_store.specs.Records.{AreRecords}
+use Rattle.mail_store.specs.Changing.{IsRefusedAs, delivered, delivery_refusal}
 use Rattle.journal_records.specs.Spelling.{record_text}
-use Rattle.mail_store.specs.private.Store.{kept_of, indexes_of, state_of}
-use Rattle.mail_store.specs.StoreState.{StoreState}
 use Rattle.mail_store.proofs.AccountLemmas.{refused_as}
-use Rattle.mail_store.proofs.ChangeLemmas.{changes-unwritten, changes-written, refused-unwritten}
-use Rattle.mail_store.proofs.DeliveryLemmas.{AreRecords-delivered, copies_known, copies_few, delivery_free}
-use Rattle.mail_store.proofs.EntryLemmas.{changes-nothing, entry-few, AreIndexes-delivered, after-delivered}
+use Rattle.mail_store.proofs.EntryLemmas.{changes-nothing}
 use Rattle.mail_store.proofs.storing.Store.deliver.Goals as goal
 
 true_false : true ≡ false → ⊥
@@ -31,93 +20,9 @@ pub returns-then-is_empty-clause-changes : goal.returns-then-is_empty-clause-cha
 returns-then-is_empty-clause-changes g c =
     changes-nothing c.args.self.now (g.J.Keeper.tells c.args.keeper.now).octets (delivered c.args.self.now.kept c.args.delivery.now) c.in_ok-parcel.parcel.text c.in_ok-parcel.ensures.text (c.is_empty.ensures.0 c.if-is_empty.true)
 
-pub returns-in_err-write-clause-changes : goal.returns-in_err-write-clause-changes
-returns-in_err-write-clause-changes g c =
-    let failed = err_from_is_err_and c.from_residual-in_err-write.result c.from_residual-in_err-write.ensures.1 in
-    let delivery = c.args.delivery.now in
-    let parcel = c.in_ok-parcel.parcel in
-    let small = delivery_free (state_of c.self.inside) delivery (subst (λ s. delivery_refusal s delivery ≡ None) (sym c.self.view_is) c.in_ok-parcel.ensures.refusal) in
-    let old = state_of c.self.inside in
-    let deliverable = subst (λ s. IsDeliverable s delivery) (sym c.self.view_is) c.requires.deliverable in
-    let them = AreRecords-delivered old (indexes_of c.self.inside) delivery c.self.invariant.indexes c.self.invariant.message_bound deliverable small in
-    let text = c.as_slice.ensures ∙ c.in_ok-parcel.ensures.text in
-    let all = ap (λ s. delivered s.kept delivery) c.self.view_is in
-    let n = ap₂ (λ m e. let s : StoreState = record { kept = record (kept_of c.self.inside) { messages = m; entries = e }; message_max = c.self.inside.message_max; failed = c.write.new.failed } in s)
-    c.in_ok-reserve_delivery.ensures.messages c.in_ok-reserve_delivery.ensures.entries in
-    rw (failed.1, failed.2)
-    (changes-unwritten (Unit {0}) c.args.self.now old _ c.write.new.failed (g.J.Keeper.tells c.args.keeper.now).octets (g.J.Keeper.tells c.write.new.keeper).octets
-    c.in_err-write.field-0.0 (delivered c.args.self.now.kept delivery) c.as_slice.result.now c.self.view_is (subst (AreRecords old.kept) all them) text n c.in_err-write.ensures.writes)
-
-pub returns-in_err-reserve_delivery-clause-nothing : goal.returns-in_err-reserve_delivery-clause-nothing
-returns-in_err-reserve_delivery-clause-nothing g c = λ none.
-    absurd (true_false (sym (c.is_empty.ensures.1 (c.in_ok-parcel.ensures.text ∙ ap (flat_map record_text) none)) ∙ c.if-is_empty.false))
-
-pub returns-in_err-write-clause-nothing : goal.returns-in_err-write-clause-nothing
-returns-in_err-write-clause-nothing g c = λ none.
-    absurd (true_false (sym (c.is_empty.ensures.1 (c.in_ok-parcel.ensures.text ∙ ap (flat_map record_text) none)) ∙ c.if-is_empty.false))
+pub returns-clause-refusal : goal.returns-clause-refusal
+returns-clause-refusal g c = subst (IsRefusedAs c.put_delivery.result) (sym c.in_ok-parcel.ensures.refusal) c.put_delivery.ensures.refusal
 
 pub returns-clause-nothing : goal.returns-clause-nothing
 returns-clause-nothing g c = λ none.
     absurd (true_false (sym (c.is_empty.ensures.1 (c.in_ok-parcel.ensures.text ∙ ap (flat_map record_text) none)) ∙ c.if-is_empty.false))
-
-pub put_parcel-requires-clause-few : goal.put_parcel-requires-clause-few
-put_parcel-requires-clause-few g c =
-    let delivery = c.args.delivery.now in
-    let parcel = c.in_ok-parcel.parcel in
-    let small = delivery_free (state_of c.self.inside) delivery (subst (λ s. delivery_refusal s delivery ≡ None) (sym c.self.view_is) c.in_ok-parcel.ensures.refusal) in
-    rw c.in_ok-reserve_delivery.ensures.messages
-    (copies_few (kept_of c.self.inside) c.self.inside.message_max delivery parcel.copies.items small
-    (c.in_ok-parcel.ensures.copies ∙ ap (λ s. map (copied delivery.date delivery.local_octets) (inboxes_of s.kept delivery.local)) (sym c.self.view_is)))
-
-pub put_parcel-requires-clause-known : goal.put_parcel-requires-clause-known
-put_parcel-requires-clause-known g c =
-    let delivery = c.args.delivery.now in
-    let copies = c.in_ok-parcel.ensures.copies ∙ ap (λ s. map (copied delivery.date delivery.local_octets) (inboxes_of s.kept delivery.local)) (sym c.self.view_is) in
-    copies_known (kept_of c.self.inside) (indexes_of c.self.inside) delivery.date delivery.local_octets delivery.local c.in_ok-parcel.parcel.copies.items c.self.invariant.indexes
-    (subst (λ s. All (λ account. account < length s.kept.accounts) delivery.local) (sym c.self.view_is) c.requires.deliverable.known) copies
-
-pub put_parcel-requires-clause-few_recipients : goal.put_parcel-requires-clause-few_recipients
-put_parcel-requires-clause-few_recipients g c =
-    let delivery = c.args.delivery.now in
-    let parcel = c.in_ok-parcel.parcel in
-    let small = delivery_free (state_of c.self.inside) delivery (subst (λ s. delivery_refusal s delivery ≡ None) (sym c.self.view_is) c.in_ok-parcel.ensures.refusal) in
-    let entry = c.in_ok-parcel.ensures.entry in
-    entry-few (kept_of c.self.inside) (indexes_of c.self.inside) c.self.inside.message_max delivery entry.0 parcel.entry c.self.invariant.indexes small entry.1 entry.2
-
-pub invariant_of-self-2 : goal.invariant_of-self-2
-invariant_of-self-2 g c =
-    let delivery = c.args.delivery.now in
-    let parcel = c.in_ok-parcel.parcel in
-    let small = delivery_free (state_of c.self.inside) delivery (subst (λ s. delivery_refusal s delivery ≡ None) (sym c.self.view_is) c.in_ok-parcel.ensures.refusal) in
-    let entry = c.in_ok-parcel.ensures.entry in
-    let copies = c.in_ok-parcel.ensures.copies ∙ ap (λ s. map (copied delivery.date delivery.local_octets) (inboxes_of s.kept delivery.local)) (sym c.self.view_is) in
-    let messages = c.put_parcel.ensures.messages ∙ ap (λ (l : List Message). l ++ parcel.copies.items) c.in_ok-reserve_delivery.ensures.messages in
-    let entries = c.put_parcel.ensures.entries ∙ ap (λ (l : List Entry). l ++ option_to_list parcel.entry) c.in_ok-reserve_delivery.ensures.entries in
-    record {
-      indexes = AreIndexes-delivered (kept_of c.self.inside) (indexes_of c.self.inside) c.self.inside.message_max delivery parcel.copies.items entry.0 parcel.entry
-          c.put_parcel.new.messages.items c.put_parcel.new.entries.items c.put_parcel.new.contents.items c.put_parcel.new.previous.items c.put_parcel.new.recipients
-          c.self.invariant.indexes c.requires.deliverable.local_tree small copies entry.1 entry.2 messages entries
-          c.put_parcel.ensures.chained c.put_parcel.ensures.count c.put_parcel.ensures.recipients;
-      message_bound = c.self.invariant.message_bound;
-    }
-
-pub returns-clause-changes : goal.returns-clause-changes
-returns-clause-changes g c =
-    let delivery = c.args.delivery.now in
-    let parcel = c.in_ok-parcel.parcel in
-    let small = delivery_free (state_of c.self.inside) delivery (subst (λ s. delivery_refusal s delivery ≡ None) (sym c.self.view_is) c.in_ok-parcel.ensures.refusal) in
-    let entry = c.in_ok-parcel.ensures.entry in
-    let old = state_of c.self.inside in
-    let deliverable = subst (λ s. IsDeliverable s delivery) (sym c.self.view_is) c.requires.deliverable in
-    let them = AreRecords-delivered old (indexes_of c.self.inside) delivery c.self.invariant.indexes c.self.invariant.message_bound deliverable small in
-    let text = c.as_slice.ensures ∙ c.in_ok-parcel.ensures.text in
-    let all = ap (λ s. delivered s.kept delivery) c.self.view_is in
-    let copies = c.in_ok-parcel.ensures.copies ∙ ap (λ s. map (copied delivery.date delivery.local_octets) (inboxes_of s.kept delivery.local)) (sym c.self.view_is) in
-    let messages = c.put_parcel.ensures.messages ∙ ap (λ (l : List Message). l ++ parcel.copies.items) c.in_ok-reserve_delivery.ensures.messages in
-    let entries = c.put_parcel.ensures.entries ∙ ap (λ (l : List Entry). l ++ option_to_list parcel.entry) c.in_ok-reserve_delivery.ensures.entries in
-    let kept = after-delivered old.kept delivery parcel.copies.items entry.0 parcel.entry c.put_parcel.new.messages.items c.put_parcel.new.entries.items
-    copies entry.1 entry.2 messages entries in
-    let n = ap (λ k. let s : StoreState = record { kept = k; message_max = c.self.inside.message_max; failed = c.write.new.failed } in s) (kept ∙ ap (after_all old.kept) all) in
-    let written = c.in_ok-write.ensures.writes in
-    changes-written c.args.self.now old c.write.new.failed _ (g.J.Keeper.tells c.args.keeper.now).octets (g.J.Keeper.tells c.write.new.keeper).octets (delivered c.args.self.now.kept delivery)
-    c.as_slice.result.now c.self.view_is (subst (AreRecords old.kept) all them) text written.0 written.1 n
