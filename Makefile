@@ -13,13 +13,13 @@ endef
 
 help:
 	@echo 'make run        builds the program before any proof, shows the surrogate of a message, and keeps nothing'
-	@echo 'make build      proves and builds the program, and leaves it at $(PROGRAM); the first time takes about half an hour'
+	@echo 'make build      proves and builds the program, and leaves it at $(PROGRAM); the first time takes 35 minutes'
 	@echo 'make install    does the same, and copies the program and its man page below PREFIX, which is $(PREFIX)'
 	@echo 'make uninstall  takes these two files away'
-	@echo 'make test       proves everything and runs all tests; the first time takes about an hour'
+	@echo 'make test       proves everything, tries wrong bodies, and runs all tests; the first time takes longer still'
 	@echo 'make bench      measures the program (needs python3, valgrind and GNU time)'
 	@echo 'make figures    does the same, and writes the figures into docs/PERFORMANCE.md'
-	@echo 'The times are rough, for four processors.'
+	@echo 'The time was measured on a quiet machine of four processors.'
 
 # rt try proves nothing, and takes the program away when it has run
 run:
