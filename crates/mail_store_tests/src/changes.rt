@@ -22,21 +22,13 @@ const DATE: [u8; 26] = *b"01-Jan-1970 00:00:00 +0000";
 const BEGUN: [u8; 44] =
     *b"MAILJNL1\0\0\0\x0a\x02\0\0\0\x05x.org\0\0\0\x12\x01\0\0\0\x07a@x.org\0\0\0\x02pw";
 
+// The number of no call.
+const NEVER: u64 = u64::MAX;
+
 // A keeper of these octets, whose call of this number fails when three octets went over.
 fn keeper_of(alloc: Global, octets: &[u8], call: u64) -> Result<MemKeeper, Fail> {
     let failures = Vec::from_slice(alloc, &[Failure { call, kept: 3 }])?;
     Ok(MemKeeper::new(Octets::from_slice(alloc, octets)?, failures))
-}
-
-// A keeper of these octets that never fails.
-fn sure_keeper(alloc: Global, octets: &[u8]) -> Result<MemKeeper, Fail> {
-    Ok(MemKeeper::new(Octets::from_slice(alloc, octets)?, Vec::new(alloc)))
-}
-
-// The store of these octets.
-fn opened(alloc: Global, octets: &[u8]) -> Result<Store, Fail> {
-    let mut keeper = sure_keeper(alloc, octets)?;
-    Ok(Store::open(alloc, &mut keeper, 1000)?)
 }
 
 // Whether adding a domain answers this.
@@ -194,17 +186,28 @@ fn finds(store: &Store, alloc: Global, text: &str, account: Option<u32>) -> Resu
     Ok(store.find_account(&address)? == account)
 }
 
+// Whether the mailbox that was begun with is found, and no other is.
+fn knows_mailbox(store: &Store, alloc: Global) -> Result<bool, Fail> {
+    for (text, account) in [("A@x.org", Some(0)), ("b@x.org", None)] {
+        if !finds(store, alloc, text, account)? {
+            return Ok(false);
+        }
+    }
+    Ok(store.login(b"A@x.org", b"pw")? == Some(0))
+}
+
 // Whether the store has the domain and the account that were begun with, and no others.
 fn has_begun(store: &Store, alloc: Global) -> Result<bool, Fail> {
     let counted = store.account_count() == 1 && store.folder_count() == 1;
-    Ok(
-        counted
-            && store.name() == "x.org"
-            && store.is_local("x.ORG")?
-            && !store.is_local("y.org")?
-            && finds(store, alloc, "A@x.org", Some(0))?
-            && finds(store, alloc, "b@x.org", None)?,
-    )
+    if !counted || store.name() != "x.org" {
+        return Ok(false);
+    }
+    for (domain, is) in [("x.ORG", true), ("y.org", false)] {
+        if store.is_local(domain)? != is {
+            return Ok(false);
+        }
+    }
+    knows_mailbox(store, alloc)
 }
 
 // Whether a domain and its account are added, each once.
@@ -219,21 +222,12 @@ fn is_begun(store: &mut Store, keeper: &mut MemKeeper, alloc: Global) -> Result<
     Ok(is)
 }
 
-#[test]
-fn a_domain_and_an_account_are_written(rt: HostRuntime) -> Result<(), Fail> {
-    let mut keeper = MemKeeper::new(Octets::new(rt.alloc()), Vec::new(rt.alloc()));
-    let mut store = Store::open(rt.alloc(), &mut keeper, 1000)?;
-    assert!(rt; is_begun(&mut store, &mut keeper, rt.alloc())?);
-    assert!(rt; keeper.octets() == BEGUN.as_slice() && has_begun(&store, rt.alloc())?);
-    Ok(())
-}
-
-#[test]
-fn a_written_account_is_there_again(rt: HostRuntime) -> Result<(), Fail> {
-    let store = opened(rt.alloc(), &BEGUN)?;
-    assert!(rt; has_begun(&store, rt.alloc())?);
-    assert!(rt; store.login(b"A@x.org", b"pw")? == Some(0));
-    Ok(())
+// Whether a domain and its account are written, and known.
+fn begins(store: &mut Store, keeper: &mut MemKeeper, alloc: Global) -> Result<bool, Fail> {
+    if !is_begun(store, keeper, alloc)? || keeper.octets() != BEGUN.as_slice() {
+        return Ok(false);
+    }
+    has_begun(store, alloc)
 }
 
 // The records of a message for the first two accounts and for the recipient elsewhere.
@@ -255,26 +249,23 @@ fn is_written_for_two(
 
 // Whether the first two accounts have the message alone.
 fn two_have_it(store: &Store) -> Result<bool, Fail> {
-    Ok(has_only(store, 0, 1)? && has_only(store, 1, 1)?)
+    for account in 0..2 {
+        if !has_only(store, account, 1)? {
+            return Ok(false);
+        }
+    }
+    Ok(true)
 }
 
-#[test]
-fn a_message_is_delivered_to_each(rt: HostRuntime) -> Result<(), Fail> {
-    // the keeper's call behind the delivery fails
-    let mut keeper = keeper_of(rt.alloc(), &BEGUN, 8)?;
-    let mut store = Store::open(rt.alloc(), &mut keeper, 1000)?;
-    assert!(rt; is_written_for_two(&mut store, &mut keeper, rt.alloc())?);
-    assert!(rt; two_have_it(&store)? && two_have_it(&opened(rt.alloc(), keeper.octets())?)?);
-    assert!(rt;
-        adds_domain(
-            &mut store,
-            &mut keeper,
-            rt.alloc(),
-            "y.org",
-            Err(StoreFault::Keeper)
-        )?
-    );
-    Ok(())
+// Whether a message is delivered to two accounts, and the keeper's failing call behind it is told.
+fn delivers(store: &mut Store, keeper: &mut MemKeeper, alloc: Global) -> Result<bool, Fail> {
+    if !is_written_for_two(store, keeper, alloc)? || !two_have_it(store)? {
+        return Ok(false);
+    }
+    if !is_again(alloc, keeper.octets(), Again::TwoHaveIt)? {
+        return Ok(false);
+    }
+    adds_domain(store, keeper, alloc, "y.org", Err(StoreFault::Keeper))
 }
 
 // Whether the second of two messages is left once the first was expunged, which goes once.
@@ -284,36 +275,101 @@ fn second_is_left(store: &mut Store, keeper: &mut MemKeeper, alloc: Global) -> R
             return Ok(false);
         }
     }
-    let both = !has_only(store, 0, 2)?;
-    let gone = expunges(store, keeper, 0, Ok(()))?;
-    Ok(both && gone && expunges(store, keeper, 0, Err(StoreFault::NoSuch))?)
+    if has_only(store, 0, 2)? {
+        return Ok(false);
+    }
+    for answer in [Ok(()), Err(StoreFault::NoSuch)] {
+        if !expunges(store, keeper, 0, answer)? {
+            return Ok(false);
+        }
+    }
+    has_only(store, 0, 2)
+}
+
+// Whether the second message is left, and is there again.
+fn leaves_second(store: &mut Store, keeper: &mut MemKeeper, alloc: Global) -> Result<bool, Fail> {
+    if !second_is_left(store, keeper, alloc)? {
+        return Ok(false);
+    }
+    is_again(alloc, keeper.octets(), Again::SecondIsLeft)
+}
+
+// Whether a failed append is told, and leaves what was begun.
+fn tells_failure(store: &mut Store, keeper: &mut MemKeeper, alloc: Global) -> Result<bool, Fail> {
+    let told = adds_domain(store, keeper, alloc, "y.org", Err(StoreFault::Keeper))?;
+    let len = keeper.octets().len();
+    if !told || !store.failed() || len != BEGUN.len() + 3 || !has_begun(store, alloc)? {
+        return Ok(false);
+    }
+    is_again(alloc, keeper.octets(), Again::Begun)
+}
+
+// What is there again.
+#[derive(Clone, Copy)]
+enum Again {
+    Begun,
+    TwoHaveIt,
+    SecondIsLeft,
+}
+
+// Whether this holds of the store of these octets.
+fn is_again(alloc: Global, octets: &[u8], again: Again) -> Result<bool, Fail> {
+    let mut keeper = keeper_of(alloc, octets, NEVER)?;
+    let store = Store::open(alloc, &mut keeper, 1000)?;
+    match again {
+        Again::Begun => has_begun(&store, alloc),
+        Again::TwoHaveIt => two_have_it(&store),
+        Again::SecondIsLeft => has_only(&store, 0, 2),
+    }
+}
+
+// What is tried.
+#[derive(Clone, Copy)]
+enum Trial {
+    Begins,
+    Delivers,
+    LeavesSecond,
+    TellsFailure,
+}
+
+// Whether the trial goes well over a keeper of these octets, whose call of this number fails.
+fn goes_well(alloc: Global, octets: &[u8], call: u64, trial: Trial) -> Result<bool, Fail> {
+    let mut keeper = keeper_of(alloc, octets, call)?;
+    let mut store = Store::open(alloc, &mut keeper, 1000)?;
+    match trial {
+        Trial::Begins => begins(&mut store, &mut keeper, alloc),
+        Trial::Delivers => delivers(&mut store, &mut keeper, alloc),
+        Trial::LeavesSecond => leaves_second(&mut store, &mut keeper, alloc),
+        Trial::TellsFailure => tells_failure(&mut store, &mut keeper, alloc),
+    }
+}
+
+#[test]
+fn a_domain_and_an_account_are_written(rt: HostRuntime) -> Result<(), Fail> {
+    assert!(rt; goes_well(rt.alloc(), b"", NEVER, Trial::Begins)?);
+    Ok(())
+}
+
+#[test]
+fn a_written_account_is_there_again(rt: HostRuntime) -> Result<(), Fail> {
+    assert!(rt; is_again(rt.alloc(), &BEGUN, Again::Begun)?);
+    Ok(())
+}
+
+#[test]
+fn a_message_is_delivered_to_each(rt: HostRuntime) -> Result<(), Fail> {
+    assert!(rt; goes_well(rt.alloc(), &BEGUN, 8, Trial::Delivers)?);
+    Ok(())
 }
 
 #[test]
 fn an_expunged_message_is_gone(rt: HostRuntime) -> Result<(), Fail> {
-    let mut keeper = sure_keeper(rt.alloc(), &BEGUN)?;
-    let mut store = Store::open(rt.alloc(), &mut keeper, 1000)?;
-    assert!(rt; second_is_left(&mut store, &mut keeper, rt.alloc())?);
-    assert!(rt; has_only(&store, 0, 2)? && has_only(&opened(rt.alloc(), keeper.octets())?, 0, 2)?);
+    assert!(rt; goes_well(rt.alloc(), &BEGUN, NEVER, Trial::LeavesSecond)?);
     Ok(())
 }
 
 #[test]
 fn a_failed_append_is_told(rt: HostRuntime) -> Result<(), Fail> {
-    let mut keeper = keeper_of(rt.alloc(), &BEGUN, 6)?;
-    let mut store = Store::open(rt.alloc(), &mut keeper, 1000)?;
-    assert!(rt;
-        adds_domain(
-            &mut store,
-            &mut keeper,
-            rt.alloc(),
-            "y.org",
-            Err(StoreFault::Keeper)
-        )?
-    );
-    assert!(rt; store.failed() && has_begun(&store, rt.alloc())?);
-    assert!(rt; keeper.octets().len() == BEGUN.len() + 3);
-    let again = opened(rt.alloc(), keeper.octets())?;
-    assert!(rt; !again.failed() && has_begun(&again, rt.alloc())?);
+    assert!(rt; goes_well(rt.alloc(), &BEGUN, 6, Trial::TellsFailure)?);
     Ok(())
 }

@@ -36,11 +36,6 @@ fn opened(alloc: Global, parts: &[&[u8]]) -> Result<Store, Fail> {
     Ok(Store::open(alloc, &mut keeper, 1000)?)
 }
 
-// The store of a mailbox with a message.
-fn mailbox(alloc: Global) -> Result<Store, Fail> {
-    opened(alloc, &[&FIRST, &DOMAIN, &ACCOUNT, &MESSAGE])
-}
-
 // Whether a keeper of these parts has so many octets once its store was opened, and these first.
 fn leaves(alloc: Global, parts: &[&[u8]], len: usize, first: &[u8]) -> Result<bool, Fail> {
     let mut keeper = keeper_of(alloc, parts, Vec::new(alloc))?;
@@ -57,17 +52,8 @@ fn is_refused(alloc: Global, parts: &[&[u8]], fault: OpenFault) -> Result<bool, 
     }
 }
 
-#[test]
-fn a_store_is_there_again(rt: HostRuntime) -> Result<(), Fail> {
-    let store = mailbox(rt.alloc())?;
-    assert!(rt; store.name() == "example.org" && !store.failed() && store.message_max() == 1000);
-    assert!(rt; store.account_count() == 1 && store.message_count() == 1);
-    Ok(())
-}
-
-#[test]
-fn a_password_lets_its_account_in(rt: HostRuntime) -> Result<(), Fail> {
-    let store = mailbox(rt.alloc())?;
+// Whether each name and password lets its account in, and no other does.
+fn lets_in(store: &Store) -> Result<bool, Fail> {
     let rows = [
         ("ann@example.org", "pw", Some(0)),
         ("Ann@Example.org", "pw", Some(0)),
@@ -75,12 +61,11 @@ fn a_password_lets_its_account_in(rt: HostRuntime) -> Result<(), Fail> {
         ("bob@example.org", "pw", None),
     ];
     for (name, password, account) in rows {
-        assert!(rt;
-            store.login(name.as_bytes(), password.as_bytes())? == account,
-            "{name}"
-        );
+        if store.login(name.as_bytes(), password.as_bytes())? != account {
+            return Ok(false);
+        }
     }
-    Ok(())
+    Ok(true)
 }
 
 // Whether the first account has the message alone.
@@ -103,26 +88,59 @@ fn has_message(store: &Store) -> Result<bool, Fail> {
     )
 }
 
+// Whether the store has this name, and so many accounts and messages.
+fn has(store: &Store, name: &str, accounts: usize, messages: usize) -> bool {
+    store.name() == name
+        && store.account_count() == accounts
+        && store.message_count() == messages
+        && store.message_max() == 1000
+        && !store.failed()
+}
+
+// What is there.
+#[derive(Clone, Copy)]
+enum Held {
+    Nothing,
+    Domain,
+    Mailbox,
+    Password,
+    Message,
+}
+
+// Whether this holds of the store of a keeper of these parts.
+fn holds(alloc: Global, parts: &[&[u8]], held: Held) -> Result<bool, Fail> {
+    let store = opened(alloc, parts)?;
+    match held {
+        Held::Nothing => Ok(has(&store, "localhost", 0, 0)),
+        Held::Domain => Ok(has(&store, "example.org", 0, 0)),
+        Held::Mailbox => Ok(has(&store, "example.org", 1, 1)),
+        Held::Password => lets_in(&store),
+        Held::Message => has_message(&store),
+    }
+}
+
 #[test]
-fn a_message_is_there_again(rt: HostRuntime) -> Result<(), Fail> {
-    assert!(rt; has_message(&mailbox(rt.alloc())?)?);
+fn a_mailbox_is_there_again(rt: HostRuntime) -> Result<(), Fail> {
+    let parts = [FIRST.as_slice(), &DOMAIN, &ACCOUNT, &MESSAGE];
+    for held in [Held::Mailbox, Held::Password, Held::Message] {
+        assert!(rt; holds(rt.alloc(), &parts, held)?);
+    }
     Ok(())
 }
 
 #[test]
 fn an_empty_keeper_gets_a_journal(rt: HostRuntime) -> Result<(), Fail> {
-    let store = opened(rt.alloc(), &[])?;
-    assert!(rt; store.account_count() == 0 && store.name() == "localhost");
-    assert!(rt; leaves(rt.alloc(), &[], 8, &FIRST)?);
-    assert!(rt; leaves(rt.alloc(), &[&FIRST[..3]], 8, &FIRST)?);
+    for had in [b"".as_slice(), &FIRST[..3]] {
+        assert!(rt; holds(rt.alloc(), &[had], Held::Nothing)?);
+        assert!(rt; leaves(rt.alloc(), &[had], 8, &FIRST)?);
+    }
     Ok(())
 }
 
 #[test]
 fn a_cut_record_is_cut_off(rt: HostRuntime) -> Result<(), Fail> {
     let parts = [FIRST.as_slice(), &DOMAIN, &ACCOUNT[..29]];
-    let store = opened(rt.alloc(), &parts)?;
-    assert!(rt; store.account_count() == 0 && store.name() == "example.org");
+    assert!(rt; holds(rt.alloc(), &parts, Held::Domain)?);
     assert!(rt; leaves(rt.alloc(), &parts, 28, &FIRST)?);
     Ok(())
 }
