@@ -4,8 +4,6 @@ pub mod StuffedPieces
 pub mod StuffedLines
 pub mod TopLemmas
 pub mod ListLemmas
-pub mod FitLemmas
-pub mod FeedLemmas
 pub mod RowLemmas
 pub mod MaildropLemmas
 pub mod TakenLemmas

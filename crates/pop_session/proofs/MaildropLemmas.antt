@@ -59,22 +59,6 @@ knows-unmarked store maildrop knows = record {
   distinct = rw (all_marked-ids false maildrop) knows.distinct;
 }
 
--- a message that isn't expunged is there
-pub live-below : (messages : List Message) (id : ℕ) → IsLive (slice_get messages id) → id < length messages
-live-below [] zero live = absurd live
-live-below [] (suc id) live = absurd live
-live-below (message ∷ messages) zero live = omega arith
-live-below (message ∷ messages) (suc id) live = let below = live-below messages id live in omega (arith, below)
-
-all-below : (messages : List Message) (maildrop : List MaildropMessage) → AllByRecursion (λ one. IsLive (slice_get messages one.listed.id)) maildrop
-    → AllByRecursion (λ one. one.listed.id < length messages) maildrop
-all-below messages [] live = tt
-all-below messages (one ∷ maildrop) live = (live-below messages one.listed.id live.0, all-below messages maildrop live.1)
-
--- the store has each message of the maildrop
-pub knows-below : (store : StoreState) (maildrop : List MaildropMessage) → Knows store maildrop → AllByRecursion (λ one. one.listed.id < length store.kept.messages) maildrop
-knows-below store maildrop knows = all-below store.kept.messages maildrop knows.live
-
 -- ---- the messages at login
 
 unmarked-all : (P : ℕ → Type 0) (listing : List Listed) → AllByRecursion (λ one. P one.id) listing → AllByRecursion (λ one. P one.listed.id) (map unmarked listing)

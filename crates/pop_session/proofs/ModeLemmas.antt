@@ -8,10 +8,12 @@ use Rattle.mail_wire.proofs.TurnsLemmas.{turns-stop}
 use Rattle.mail_store.specs.declared.kept.Listed.{Listed}
 use Rattle.journal_records.specs.declared.records.Record.{Record}
 use Rattle.mail_store.specs.Acts.{Act}
+use Rattle.session_core.specs.Grammar.{turn_by, turn_in}
 use Rattle.mail_store.specs.Following.{records_of}
 use Rattle.mail_store.specs.Kept.{logged_in}
 use Rattle.mail_store.specs.StoreState.{StoreState, with_records}
-use Rattle.surrogate_cache.specs.Served.{Mode, legacy, enabled, Meanings}
+use Rattle.surrogate_cache.specs.Served.{Mode, legacy}
+use Rattle.session_core.specs.Meanings.{Meanings}
 use Rattle.pop_session.specs.declared.command.Keyword.{Keyword}
 use Rattle.pop_session.specs.declared.command.Keyword.TheVariants as keyword
 use Rattle.pop_session.specs.declared.states.MaildropMessage.{MaildropMessage}
@@ -19,8 +21,8 @@ use Rattle.pop_session.specs.Commands.{Command, command_of}
 use Rattle.mail_wire.specs.Numbers.{number_of}
 use Rattle.pop_session.specs.History.{after_command, after_commands, commands_by, commands_up_to, commands_in, IsOfMode, is_utf8, enables, some_enables, mode_behind, IsQuit}
 use Rattle.pop_session.specs.Machine.{Part, line, shown, State, authorization, transaction, ended, done, out_of_order, syntax_error, message_at, step, authorization_step, transaction_step, dele_message, dele_step, pass_step}
-use Rattle.pop_session.specs.Session.{Machine, next_turn, turn_by, turn_in, turns_of, start_of}
-use Rattle.pop_session.proofs.RowLemmas.{authorization_changes, dele_changes}
+use Rattle.pop_session.specs.PopLaws.{step_quiet}
+use Rattle.pop_session.specs.Session.{Machine, pop_grammar, pop_protocol, turns_of, start_of, wants_in}
 
 -- ---- one command
 
@@ -93,33 +95,6 @@ step_mode meanings (transaction is maildrop) store command mode same =
     (transaction_mode meanings is maildrop store command.keyword command.argument)
 step_mode meanings ended store command mode same = tt
 
-transaction_quiet : (meanings : Meanings) (mode : Mode) (maildrop : List MaildropMessage) (store : StoreState) (word : Keyword) (argument : Option (List ℕ))
-    → ((word ≡ keyword.Quit) × (argument ≡ None)) ⊎ ((transaction_step meanings mode maildrop store word argument).changes ≡ [])
-transaction_quiet meanings mode maildrop store keyword.Dele None = inr refl
-transaction_quiet meanings mode maildrop store keyword.Dele (Some text) = inr (dele_changes mode maildrop (number_of text))
-transaction_quiet meanings mode maildrop store keyword.Rset None = inr refl
-transaction_quiet meanings mode maildrop store keyword.Rset (Some text) = inr refl
-transaction_quiet meanings mode maildrop store keyword.Quit None = inl (refl, refl)
-transaction_quiet meanings mode maildrop store keyword.Quit (Some text) = inr refl
-transaction_quiet meanings mode maildrop store keyword.User argument = inr refl
-transaction_quiet meanings mode maildrop store keyword.Pass argument = inr refl
-transaction_quiet meanings mode maildrop store keyword.Utf8 argument = inr refl
-transaction_quiet meanings mode maildrop store keyword.Stat argument = inr refl
-transaction_quiet meanings mode maildrop store keyword.List argument = inr refl
-transaction_quiet meanings mode maildrop store keyword.Retr argument = inr refl
-transaction_quiet meanings mode maildrop store keyword.Capa argument = inr refl
-transaction_quiet meanings mode maildrop store keyword.Uidl argument = inr refl
-transaction_quiet meanings mode maildrop store keyword.Top argument = inr refl
-transaction_quiet meanings mode maildrop store keyword.Noop argument = inr refl
-transaction_quiet meanings mode maildrop store keyword.Other argument = inr refl
-
--- a command changes nothing, but QUIT after login
-pub step_quiet : (meanings : Meanings) (state : State) (store : StoreState) (command : Command) → IsQuit state command ⊎ ((step meanings state store command).changes ≡ [])
-unfolding step
-step_quiet meanings (authorization mode user) store command = inr (authorization_changes meanings mode user store command.keyword command.argument)
-step_quiet meanings (transaction mode maildrop) store command = transaction_quiet meanings mode maildrop store command.keyword command.argument
-step_quiet meanings ended store command = inr refl
-
 -- QUIT ends the session
 quit_ends : (meanings : Meanings) (state : State) (store : StoreState) (command : Command) → IsQuit state command → (step meanings state store command).state ≡ ended
 unfolding step
@@ -180,20 +155,19 @@ pub record IsLeft (meanings : Meanings) (machine : Machine) (commands : List Com
 
 -- the machine behind so many turns
 abbrev pub left_by : Meanings → ℕ → Machine → List ℕ → Machine
-left_by meanings n machine octets = (turns (next_turn meanings) n machine octets).after
+left_by meanings n machine octets = (turns (pop_protocol.next meanings) n machine octets).after
 
 -- the machine behind this turn and so many more
 abbrev pub left_behind : Meanings → ℕ → Machine → List ℕ → Option (Turn Machine (Act Part)) → Machine
 left_behind meanings n machine octets first =
-    (option_map_or (λ turn. behind turn.parts (turns (next_turn meanings) n turn.after turn.rest)) first (stay machine octets)).after
+    (option_map_or (λ turn. behind turn.parts (turns (pop_protocol.next meanings) n turn.after turn.rest)) first (stay machine octets)).after
 
 long_line_ends : (meanings : Meanings) (n : ℕ) (store : StoreState) (octets : List ℕ) → left_by meanings n (at_end store) octets ≡ at_end store
-unfolding next_turn
-long_line_ends meanings n store octets = ap (λ (t : Turn Machine (Act Part)). t.after) (turns-stop (next_turn meanings) n (at_end store) octets refl)
+long_line_ends meanings n store octets = ap (λ (t : Turn Machine (Act Part)). t.after) (turns-stop (pop_protocol.next meanings) n (at_end store) octets refl)
 
 framed_left : (meanings : Meanings) (n : ℕ) (machine : Machine) (octets : List ℕ) (framed : Framed)
     → ((next : Machine) (rest : List ℕ) → IsLeft meanings next (commands_up_to n rest) (left_by meanings n next rest))
-    → IsLeft meanings machine (commands_by (commands_up_to n) framed) (left_behind meanings n machine octets (turn_by meanings machine framed))
+    → IsLeft meanings machine (commands_by (commands_up_to n) framed) (left_behind meanings n machine octets (turn_by pop_grammar meanings machine framed))
 framed_left meanings n machine octets waiting more = record { store = refl; state = inl refl }
 framed_left meanings n machine octets (whole text rest) more =
     let left = more (after_command meanings machine (command_of text)) rest in record { store = left.store; state = left.state }
@@ -203,7 +177,7 @@ framed_left meanings n machine octets (too_long rest) more =
 
 state_left : (meanings : Meanings) (n : ℕ) (state : State) (machine : Machine) (octets : List ℕ) → machine.state ≡ state
     → ((next : Machine) (rest : List ℕ) → IsLeft meanings next (commands_up_to n rest) (left_by meanings n next rest))
-    → IsLeft meanings machine (commands_by (commands_up_to n) (next_line octets)) (left_behind meanings n machine octets (turn_in meanings state machine octets))
+    → IsLeft meanings machine (commands_by (commands_up_to n) (next_line octets)) (left_behind meanings n machine octets (turn_in pop_grammar meanings machine (wants_in state) octets))
 state_left meanings n (authorization mode user) machine octets is more = framed_left meanings n machine octets (next_line octets) more
 state_left meanings n (transaction mode maildrop) machine octets is more = framed_left meanings n machine octets (next_line octets) more
 state_left meanings n ended machine octets is more =
@@ -214,7 +188,7 @@ state_left meanings n ended machine octets is more =
     }
 
 turns_left : (meanings : Meanings) (n : ℕ) (machine : Machine) (octets : List ℕ) → IsLeft meanings machine (commands_up_to n octets) (left_by meanings n machine octets)
-unfolding turns next_turn commands_up_to
+unfolding turns commands_up_to
 turns_left meanings zero machine octets = record { store = refl; state = inl refl }
 turns_left meanings (suc n) machine octets = state_left meanings n machine.state machine octets refl (turns_left meanings n)
 

@@ -1,27 +1,36 @@
--- The rows of each state, and what they leave in the store and the keeper.
-use Rattle.std.proofs.Common.{◌≡◌, ℕ, zero, suc, ◌-◌, ◌*◌, ◌^◌, ◌<◌, ◌≤◌, List, [], ◌∷◌, length, min, arith, ap, sym, ◌∙◌, ◌⊎◌, inl, inr, Bool, true, false, refl, Some, None, Option, Ok, Err, Result}
-use Rattle.std.specs.Prelude.{IfOk, nat_le}
+-- The rows of each state, as they are carried out.
+use Rattle.std.proofs.Common.{◌≡◌, ℕ, zero, suc, ◌-◌, ◌*◌, ◌^◌, ◌<◌, ◌≤◌, List, [], length, min, arith, ap, sym, ◌∙◌, ◌⊎◌, inl, inr, Bool, true, false, refl, Some, None, Option, Ok, Err, Result}
+use Rattle.std.specs.Prelude.{IfOk, nat_le, option_and_then, slice_get}
 use Rattle.std.specs.Option.{option_map}
 use Rattle.std.proofs.Math.Nat.{min-eq_left}
 use Rattle.std.proofs.lemmas.Bool.Decides.{nat_tests}
-use Rattle.std.proofs.lemmas.Option.{slice_get_past}
-use Rattle.mail_wire.specs.Moves.{Gives, GivesPrefix}
-use Rattle.mail_wire.specs.Telling.{Telling}
+use Rattle.std.proofs.lemmas.List.Elements.{All-nil}
+use Rattle.std.proofs.lemmas.Option.{slice_get_past, slice_get_within}
 use Rattle.mail_wire.specs.declared.outside.Fault.{Fault}
 use Rattle.mail_wire.specs.declared.outside.Fault.TheVariants as fault
-use Rattle.mail_store.specs.Doing.{Does}
-use Rattle.mail_store.specs.Kept.{logged_in}
-use Rattle.mail_store.specs.StoreState.{StoreState}
-use Rattle.mail_store.proofs.DoingLemmas.{Does-reply, Does-err}
-use Rattle.surrogate_cache.specs.Served.{Mode, legacy, enabled, Meanings}
-use Rattle.pop_session.specs.Replies.{AreFit, part_octets, reply_octets}
+use Rattle.mail_store.specs.Following.{records_of}
+use Rattle.mail_store.specs.Kept.{change_at}
+use Rattle.mail_store.specs.StoreState.{StoreState, with_records}
 use Rattle.mail_store.specs.declared.kept.Listed.{Listed}
-use Rattle.pop_session.specs.private.Saturated.{saturated}
-use Rattle.pop_session.specs.declared.command.TopNumbers.{TopNumbers}
+use Rattle.mail_store.proofs.DoingLemmas.{changes_in-acts}
+use Rattle.surrogate_cache.specs.Served.{Mode}
+use Rattle.session_core.specs.Around.{Around, IsTold}
+use Rattle.session_core.specs.Doing.{Does, Replies}
+use Rattle.session_core.specs.Grammar.{Answers, AnswersBy, StandsNext}
+use Rattle.session_core.specs.Keeps.{fault_of}
+use Rattle.session_core.specs.Meanings.{Meanings, WithMeanings}
+use Rattle.session_core.proofs.DoingLemmas.{Does-replies, DoesFirst-none}
 use Rattle.pop_session.specs.declared.command.Keyword.{Keyword}
 use Rattle.pop_session.specs.declared.command.Keyword.TheVariants as keyword
+use Rattle.pop_session.specs.declared.command.TopNumbers.{TopNumbers}
 use Rattle.pop_session.specs.declared.states.MaildropMessage.{MaildropMessage}
-use Rattle.pop_session.specs.Machine.{Part, Step, acts_in, answers, dele_message, dele_step, message_at, no_such_message, of_top, top_reply, transaction, authorization_step, pass_step, transaction_step, transaction_reply}
+use Rattle.pop_session.specs.declared.states.PopState.{PopState}
+use Rattle.pop_session.specs.Commands.{command_of}
+use Rattle.pop_session.specs.Machine.{Part, Step, acts_in, answers, dele_step, done, marked, unless_deleted, with_deleted, message_at, no_such_message, of_top, transaction, transaction_step, transaction_reply, step}
+use Rattle.pop_session.specs.Replies.{part_octets, reply_octets}
+use Rattle.pop_session.specs.Session.{PopStands, Takes, after_step, pop_grammar}
+use Rattle.pop_session.specs.States.{KnowsState, state_of, state_or_ended}
+use Rattle.pop_session.specs.private.Saturated.{saturated}
 
 -- the rows that change the state
 abbrev pub is_changing : Keyword → Option (List ℕ) → Bool
@@ -50,61 +59,63 @@ transaction_step-other meanings mode maildrop store keyword.Top argument is = re
 transaction_step-other meanings mode maildrop store keyword.Noop argument is = refl
 transaction_step-other meanings mode maildrop store keyword.Other argument is = refl
 
-pass_changes : (mode : Mode) (store : StoreState) (found : Option ℕ) → (pass_step mode store found).changes ≡ []
-pass_changes mode store None = refl
-pass_changes mode store (Some account) = refl
+-- ---- steps that were carried out
 
--- no row of AUTHORIZATION changes the store
-pub authorization_changes : (meanings : Meanings) (mode : Mode) (user : Option (List ℕ)) (store : StoreState) (word : Keyword) (argument : Option (List ℕ))
-    → (authorization_step meanings mode user store word argument).changes ≡ []
-authorization_changes meanings mode user store keyword.Stat argument = refl
-authorization_changes meanings mode user store keyword.List argument = refl
-authorization_changes meanings mode user store keyword.Uidl argument = refl
-authorization_changes meanings mode user store keyword.Retr argument = refl
-authorization_changes meanings mode user store keyword.Top argument = refl
-authorization_changes meanings mode user store keyword.Dele argument = refl
-authorization_changes meanings mode user store keyword.Rset argument = refl
-authorization_changes meanings mode user store keyword.Noop argument = refl
-authorization_changes meanings mode user store keyword.Other argument = refl
-authorization_changes meanings mode user store keyword.Capa None = refl
-authorization_changes meanings mode user store keyword.Capa (Some text) = refl
-authorization_changes meanings mode user store keyword.Utf8 None = refl
-authorization_changes meanings mode user store keyword.Utf8 (Some text) = refl
-authorization_changes meanings mode user store keyword.User None = refl
-authorization_changes meanings mode user store keyword.User (Some []) = refl
-authorization_changes meanings mode user store keyword.User (Some (x ∷ name)) = refl
-authorization_changes meanings mode None store keyword.Pass None = refl
-authorization_changes meanings mode (Some name) store keyword.Pass None = refl
-authorization_changes meanings mode None store keyword.Pass (Some password) = refl
-authorization_changes meanings mode (Some name) store keyword.Pass (Some password) = pass_changes mode store (logged_in meanings.path_of store.kept name password)
-authorization_changes meanings mode user store keyword.Quit None = refl
-authorization_changes meanings mode user store keyword.Quit (Some text) = refl
+-- a reply, and nothing is changed
+pub takes_reply : (a b : Around) (result : Result (Option PopState) Fault) (taken : Meanings → Step) → ((meanings : Meanings) → (taken meanings).changes ≡ [])
+    → WithMeanings (λ meanings. Replies a b (fault_of result) (reply_octets meanings (taken meanings).reply)) → WithMeanings (λ meanings. IfOk result (λ next. state_or_ended next ≡ (taken meanings).state))
+    → IfOk result (λ next. KnowsState b.desk.store (state_or_ended next)) → Takes a b result taken
+takes_reply a b result taken none replies next known = record {
+  does = λ meanings are. rw (none meanings) (Does-replies (part_octets meanings) a b (fault_of result) (taken meanings).reply (replies meanings are));
+  next = next;
+  known = known;
+}
 
-message_changes : (mode : Mode) (maildrop : List MaildropMessage) (number : ℕ) (found : Option Listed) → (dele_message mode maildrop number found).changes ≡ []
-message_changes mode maildrop number None = refl
-message_changes mode maildrop number (Some one) = refl
+-- or a fault in it
+pub takes_failed : (a b : Around) (met : Fault) (taken : Meanings → Step) → ((meanings : Meanings) → (taken meanings).changes ≡ [])
+    → WithMeanings (λ meanings. Replies a b (Some met) (reply_octets meanings (taken meanings).reply)) → Takes a b (Err met) taken
+takes_failed a b met taken none replies = takes_reply a b (Err met) taken none replies (λ meanings are. tt) tt
 
--- nor does DELE
-pub dele_changes : (mode : Mode) (maildrop : List MaildropMessage) (number : Option ℕ) → (dele_step mode maildrop number).changes ≡ []
-dele_changes mode maildrop None = refl
-dele_changes mode maildrop (Some number) = message_changes mode maildrop number (message_at maildrop number)
+-- a fault before it
+pub takes_stop : (a : Around) (met : Fault) (taken : Meanings → Step) → (met ≡ fault.Keeper → ⊥) → Takes a a (Err met) taken
+takes_stop a met taken fine = record {
+  does = λ meanings are. DoesFirst-none (part_octets meanings) a met (acts_in (taken meanings)) fine;
+  next = λ meanings are. tt;
+  known = tt;
+}
 
--- a step that gives its reply, and changes nothing
-pub reply_given : {T : Type 0} (meanings : Meanings) (a b : Telling) (old : StoreState) (had : Option (List ℕ)) (x : T) (taken : Step) → taken.changes ≡ [] → Gives a b (reply_octets meanings taken.reply)
-    → Does (part_octets meanings) a b old old had had (Ok x) (acts_in taken)
-reply_given meanings a b old had x taken none gave = Does-reply (part_octets meanings) a b old had (Ok x) taken.changes taken.reply none gave (λ bad. cc)
+-- the same of a step that is told otherwise
+pub takes_as : (a b : Around) (result : Result (Option PopState) Fault) (taken other : Meanings → Step) → ((meanings : Meanings) → other meanings ≡ taken meanings) → Takes a b result taken → Takes a b result other
+takes_as a b result taken other same takes = record {
+  does = λ meanings are. rw (same meanings) (takes.does meanings are);
+  next = λ meanings are. rw (same meanings) (takes.next meanings are);
+  known = takes.known;
+}
 
--- or fails in it
-pub reply_fails : (T U : Type 0) (meanings : Meanings) (a b : Telling) (old : StoreState) (had : Option (List ℕ)) (result : Result T Fault) (met : Fault) (taken : Step) → taken.changes ≡ []
-    → GivesPrefix a b (reply_octets meanings taken.reply) → result ≡ Err met → (result ≡ Err fault.Keeper → ⊥) → Does {T = U} (part_octets meanings) a b old old had had (Err met) (acts_in taken)
-reply_fails T U meanings a b old had result met taken none gave was fine = Does-err T U (part_octets meanings) a b old old had had met (acts_in taken)
-    (Does-reply {T = T} (part_octets meanings) a b old had (Err met) taken.changes taken.reply none gave (λ bad. fine (was ∙ bad)))
+-- the session behind a step stands for what it leaves
+stands_behind : (a b : Around) (found : Option PopState) (taken : Step) (more : List ℕ) → state_or_ended found ≡ taken.state → b.desk.store ≡ with_records a.desk.store (records_of taken.changes)
+    → StandsNext pop_grammar PopStands more found b.desk (after_step a.desk.store taken)
+stands_behind a b None taken more next store = rw (← next) refl
+stands_behind a b (Some session) taken more next store = rw (← next, ← store) refl
 
--- the keyword that is left of the three that ask for one message
-pub is_list : (word : Keyword) → (word ≡ keyword.List) ⊎ (word ≡ keyword.Uidl) ⊎ (word ≡ keyword.Retr) → (word ≡ keyword.Retr → ⊥) → (word ≡ keyword.Uidl → ⊥) → word ≡ keyword.List
-is_list word (inl is) retr uidl = is
-is_list word (inr (inl is)) retr uidl = absurd (uidl is)
-is_list word (inr (inr is)) retr uidl = absurd (retr is)
+row_done : (meanings : Meanings) (a b : Around) (result : Result (Option PopState) Fault) (more : List ℕ) (taken : Step) → Does (part_octets meanings) a b (fault_of result) (acts_in taken)
+    → IfOk result (λ next. state_or_ended next ≡ taken.state)
+    → AnswersBy pop_grammar PopStands meanings a b result more (record { acts = acts_in taken; after = after_step a.desk.store taken })
+row_done meanings a b (Ok found) more taken does next =
+    record { does = does; next = stands_behind a b found taken more next (rw (changes_in-acts {P = Part} taken.changes taken.reply) at does.follows.store) }
+row_done meanings a b (Err met) more taken does next = record { does = does; next = tt }
+
+-- the step of a line is its row
+pub answers_step : (a b : Around) (session : PopState) (text : List ℕ) (result : Result (Option PopState) Fault)
+    → Takes a b result (λ meanings. step meanings (state_of session) a.desk.store (command_of text)) → Answers pop_grammar PopStands a b session text result
+answers_step a b session text result takes = record {
+  told = [];
+  are_told = All-nil (IsTold a.clock);
+  answers = λ meanings are more machine stood.
+      rw stood (row_done meanings a b result more (step meanings (state_of session) a.desk.store (command_of text)) (takes.does meanings are) (takes.next meanings are));
+}
+
+-- ---- TRANSACTION
 
 -- ---- TOP
 
@@ -159,15 +170,23 @@ top-found maildrop (Some n) numbers one small is message =
       lines = sym (ap (λ (t : TopNumbers). t.lines) (same_numbers numbers n is));
     }
 
--- whether TOP's reply is fit doesn't depend on how many lines it shows
-pub top-fit : (meanings : Meanings) (mode : Mode) (store : StoreState) (lines more number : ℕ) (one : Listed) → AreFit meanings (top_reply meanings mode store lines number one)
-    → AreFit meanings (top_reply meanings mode store more number one)
-top-fit meanings legacy store lines more number one fit = fit
-top-fit meanings enabled store lines more number one fit = fit
+-- ---- DELE
 
--- what holds whatever the answer is
-pub IfOk-always : {T E : Type 0} (result : Result T E) (Q : Type 0) → Q → IfOk result (λ x. Q)
-IfOk-always (Ok x) Q q = q
-IfOk-always (Err e) Q q = tt
+found_within_by : (maildrop : List MaildropMessage) (place : ℕ) (one : Listed) (found : Option MaildropMessage) → slice_get maildrop place ≡ found → option_and_then unless_deleted found ≡ Some one → place < length maildrop
+found_within_by maildrop place one None is message = cc
+found_within_by maildrop place one (Some x) is message = slice_get_within maildrop place x is
 
-pub ruleset row_steps = (transaction_step-other)
+-- a message that was found is there
+pub found_within : (maildrop : List MaildropMessage) (number : ℕ) (one : Listed) → message_at maildrop number ≡ Some one → number - 1 < length maildrop
+found_within maildrop zero one message = cc
+found_within maildrop (suc place) one message = let inside = found_within_by maildrop place one (slice_get maildrop place) refl message in omega (arith, inside)
+
+-- and is marked at its place
+pub marked_at : (maildrop : List MaildropMessage) (number : ℕ) (one : Listed) → message_at maildrop number ≡ Some one → with_deleted number maildrop ≡ change_at (marked true) maildrop (number - 1)
+marked_at maildrop zero one message = cc
+marked_at maildrop (suc place) one message = let same : place ≡ suc place - 1 = omega arith in ap (change_at (marked true) maildrop) same
+
+-- the step of such a DELE
+pub dele_found : (mode : Mode) (maildrop : List MaildropMessage) (number : Option ℕ) (n : ℕ) (one : Listed) → number ≡ Some n → message_at maildrop n ≡ Some one
+    → dele_step mode maildrop number ≡ answers done (transaction mode (change_at (marked true) maildrop (n - 1)))
+dele_found mode maildrop number n one is message = rw (is, message) (ap (λ m. answers done (transaction mode m)) (marked_at maildrop n one message))

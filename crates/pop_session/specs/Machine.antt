@@ -11,7 +11,8 @@ use Rattle.mail_store.specs.Changing.{expunged}
 use Rattle.mail_store.specs.Kept.{Kept, change_at, logged_in, inbox_of, listed}
 use Rattle.mail_store.specs.StoreState.{StoreState}
 use Rattle.journal_records.specs.declared.records.Record.{Record}
-use Rattle.surrogate_cache.specs.Served.{Mode, enabled, served_by, Meanings}
+use Rattle.surrogate_cache.specs.Served.{Mode, enabled, served_by}
+use Rattle.session_core.specs.Meanings.{Meanings}
 use Rattle.pop_session.specs.declared.command.Keyword.{Keyword}
 use Rattle.pop_session.specs.declared.command.Keyword.TheVariants as keyword
 use Rattle.pop_session.specs.Commands.{Command, top_numbers_of}

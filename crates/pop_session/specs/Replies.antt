@@ -1,12 +1,12 @@
 -- The octets of a reply (RFC 1939, 3), and what may be sent in it (RFC 6856, 2; RFC 6857).
-use Rattle.std.specs.Prelude.{◌≡◌, ℕ, ◌++◌, ◌==◌, List, [], ◌∷◌, Bool, true, false, take, drop, if◌then◌else◌}
+use Rattle.std.specs.Prelude.{◌≡◌, ℕ, ◌++◌, List, [], ◌∷◌, Bool, true, false, take, drop, if◌then◌else◌}
 use Rattle.std.specs.List.{flat_map, list_all, AllByRecursion}
 use Rattle.mail_wire.specs.Dots.{stuffed}
 use Rattle.mail_wire.specs.Lines.{crlf, is_crlf}
 use Rattle.mail_wire.specs.Octets.{is_ascii}
-use Rattle.mail_store.specs.Acts.{Act, IsFitAct}
 use Rattle.surrogate_rope.specs.Layout.{HasSurrogate, HasAsciiBlocks}
-use Rattle.surrogate_cache.specs.Served.{legacy, enabled, served_by, Meanings}
+use Rattle.surrogate_cache.specs.Served.{legacy, enabled, served_by}
+use Rattle.session_core.specs.Meanings.{Meanings}
 use Rattle.pop_session.specs.Machine.{Part, line, shown}
 
 -- there are none, or they end in CRLF
@@ -41,7 +41,3 @@ IsFit meanings (shown msg enabled at len) = Unit {0}
 
 abbrev pub AreFit : Meanings → List Part → Type 0
 AreFit meanings parts = AllByRecursion (IsFit meanings) parts
-
--- what it gives may be sent
-abbrev pub AreFitActs : Meanings → List (Act Part) → Type 0
-AreFitActs meanings acts = AllByRecursion (IsFitAct (IsFit meanings)) acts

@@ -1,16 +1,25 @@
--- A session (RFC 1939, 3): the machine over a stream, and what a session value stands for.
-use Rattle.std.specs.Prelude.{◌≡◌, ℕ, List, [], codes, Option, None, Some}
+-- A session (RFC 1939, 3): its rows over a stream, and what its values stand for.
+use Rattle.std.specs.Prelude.{◌≡◌, ℕ, List, [], codes, Option, None, Some, Result, IfOk}
 use Rattle.mail_wire.specs.Turns.{Turn, all_turns}
+use Rattle.mail_wire.specs.declared.outside.Fault.{Fault}
 use Rattle.mail_store.specs.Acts.{Act, acts_of}
 use Rattle.mail_store.specs.Following.{records_of}
-use Rattle.mail_store.specs.StoreState.{StoreState, with_records}
-use Rattle.surrogate_cache.specs.Served.{legacy, Meanings}
-use Rattle.mail_wire.specs.Framing.{Framed, waiting, whole, too_long, next_line}
+use Rattle.mail_store.specs.StoreState.{StoreState, AreStored, with_records}
+use Rattle.surrogate_cache.specs.Served.{legacy}
+use Rattle.session_core.specs.Around.{Around}
+use Rattle.session_core.specs.Doing.{Does}
+use Rattle.session_core.specs.Grammar.{Grammar, Row, protocol_of}
+use Rattle.session_core.specs.Keeps.{fault_of}
+use Rattle.session_core.specs.Meanings.{Meanings, WithMeanings}
+use Rattle.session_core.specs.Protocol.{Protocol}
+use Rattle.session_core.specs.declared.desk.Desk.{Desk}
+use Rattle.session_core.specs.declared.rows.Wants.{Wants}
+use Rattle.session_core.specs.declared.rows.Wants.TheVariants as wants
 use Rattle.pop_session.specs.Commands.{command_of}
 use Rattle.pop_session.specs.Machine.{Part, State, authorization, transaction, ended, says, Step, acts_in, step}
-use Rattle.pop_session.specs.States.{state_of, KnowsState}
-use Rattle.pop_session.specs.declared.session.PopSession.{PopSession}
-use Rattle.pop_session.specs.declared.session.PopSession.TheVariants as variant
+use Rattle.pop_session.specs.Replies.{IsFit, part_octets}
+use Rattle.pop_session.specs.States.{state_of, state_or_ended, KnowsState}
+use Rattle.pop_session.specs.declared.states.PopState.{PopState}
 
 -- the machine and its store
 pub record Machine : Type 0 where
@@ -24,28 +33,6 @@ line_too_long = says (codes "-ERR line too long")
 abbrev pub after_step : StoreState → Step → Machine
 after_step store taken = record { state = taken.state; store = with_records store (records_of taken.changes) }
 
--- what a whole command brings
-abbrev pub turn_by : Meanings → Machine → Framed → Option (Turn Machine (Act Part))
-turn_by meanings machine waiting = None
-turn_by meanings machine (whole text rest) =
-    let taken = step meanings machine.state machine.store (command_of text) in
-    Some (record { parts = acts_in taken; after = after_step machine.store taken; rest = rest })
-turn_by meanings machine (too_long rest) =
-    Some (record { parts = acts_of [] line_too_long; after = record machine { state = ended }; rest = rest })
-
--- after the end no command is read
-abbrev pub turn_in : Meanings → State → Machine → List ℕ → Option (Turn Machine (Act Part))
-turn_in meanings (authorization mode user) machine octets = turn_by meanings machine (next_line octets)
-turn_in meanings (transaction mode maildrop) machine octets = turn_by meanings machine (next_line octets)
-turn_in meanings ended machine octets = None
-
-unfoldable pub next_turn : Meanings → Machine → List ℕ → Option (Turn Machine (Act Part))
-next_turn meanings machine octets = turn_in meanings machine.state machine octets
-
--- what these octets bring
-abbrev pub turns_of : Meanings → Machine → List ℕ → Turn Machine (Act Part)
-turns_of meanings machine octets = all_turns (next_turn meanings) machine octets
-
 abbrev pub greeting : List Part
 greeting = says (codes "+OK ready")
 
@@ -53,25 +40,55 @@ greeting = says (codes "+OK ready")
 abbrev pub start_of : StoreState → Machine
 start_of store = record { state = authorization legacy None; store = store }
 
--- the machine's state of a session
-abbrev pub session_state : PopSession → State
-session_state (variant.Open reading) = state_of reading.state
-session_state variant.Ended = ended
+-- after the end no command is read
+abbrev pub wants_in : State → Option Wants
+wants_in (authorization mode user) = Some wants.Line
+wants_in (transaction mode maildrop) = Some wants.Line
+wants_in ended = None
 
-abbrev pub machine_of : PopSession → StoreState → Machine
-machine_of session store = record { state = session_state session; store = store }
+-- what a line brings
+abbrev pub line_row : Meanings → Machine → List ℕ → Row Machine Part
+line_row meanings machine text =
+    let taken = step meanings machine.state machine.store (command_of text) in record { acts = acts_in taken; after = after_step machine.store taken }
 
--- the rest that a session stands for: the octets that it has kept, and after the end any
-abbrev pub HasRest : PopSession → List ℕ → Type 0
-HasRest (variant.Open reading) rest = rest ≡ reading.kept
-HasRest variant.Ended rest = Unit {0}
+abbrev pub long_row : Machine → Row Machine Part
+long_row machine = record { acts = acts_of [] line_too_long; after = record machine { state = ended } }
 
--- A session and its store stand for what these turns leave.
-pub record StandsFor (session : PopSession) (store : StoreState) (turn : Turn Machine (Act Part)) : Type 0 where
-  pub machine : machine_of session store ≡ turn.after
-  pub rest : HasRest session turn.rest
+abbrev pub pop_grammar : Grammar
+pop_grammar = record {
+  S = Machine;
+  P = Part;
+  opening = λ store. acts_of [] greeting;
+  start = λ moments store. start_of store;
+  wants = λ machine. wants_in machine.state;
+  row = line_row;
+  long_row = λ meanings machine. long_row machine;
+  spelled = part_octets;
+  Fits = IsFit;
+  IsSound = λ machine. AreStored machine.store.kept.messages;
+}
 
--- What a session needs: it has kept no whole command, and the store has the messages that it names.
-abbrev pub IsReady : PopSession → StoreState → Type 0
-IsReady (variant.Open reading) store = (next_line reading.kept ≡ waiting) × KnowsState store (state_of reading.state)
-IsReady variant.Ended store = Unit {0}
+abbrev pub pop_protocol : Protocol
+pop_protocol = protocol_of pop_grammar
+
+-- what these octets bring
+abbrev pub turns_of : Meanings → Machine → List ℕ → Turn Machine (Act Part)
+turns_of meanings machine octets = all_turns (pop_protocol.next meanings) machine octets
+
+-- ---- what values stand for
+
+abbrev pub machine_of : PopState → Desk → Machine
+machine_of session desk = record { state = state_of session; store = desk.store }
+
+abbrev pub PopStands : List ℕ → PopState → Desk → Machine → Type 0
+PopStands more session desk machine = machine ≡ machine_of session desk
+
+-- the store has the messages that the session names
+abbrev pub KnowsPop : PopState → Desk → Type 0
+KnowsPop session desk = KnowsState desk.store (state_of session)
+
+-- The step was carried out, or after a fault the first of it; the session is in its state, and the store has the messages that it names.
+pub record Takes (before now : Around) (result : Result (Option PopState) Fault) (taken : Meanings → Step) : Type 0 where
+  pub does : WithMeanings (λ meanings. Does (part_octets meanings) before now (fault_of result) (acts_in (taken meanings)))
+  pub next : WithMeanings (λ meanings. IfOk result (λ next. state_or_ended next ≡ (taken meanings).state))
+  pub known : IfOk result (λ next. KnowsState now.desk.store (state_or_ended next))

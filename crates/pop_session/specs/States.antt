@@ -5,7 +5,8 @@ use Rattle.pop_session.specs.declared.states.MaildropMessage.{MaildropMessage}
 use Rattle.mail_store.specs.Kept.{logged_in}
 use Rattle.mail_store.specs.Records.{IsLive}
 use Rattle.mail_store.specs.StoreState.{StoreState}
-use Rattle.surrogate_cache.specs.Served.{legacy, enabled, Meanings}
+use Rattle.surrogate_cache.specs.Served.{legacy, enabled}
+use Rattle.session_core.specs.Meanings.{Meanings}
 use Rattle.pop_session.specs.declared.states.PopState.{PopState}
 use Rattle.pop_session.specs.declared.states.PopState.TheVariants as pop
 use Rattle.pop_session.specs.declared.states.Login.{Login}

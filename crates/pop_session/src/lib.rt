@@ -9,4 +9,5 @@ mod states;
 mod stuffing;
 mod top;
 
-pub use session::PopSession;
+pub use session::{PopSession, serve_pop};
+pub use states::PopState;

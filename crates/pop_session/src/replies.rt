@@ -1,75 +1,57 @@
 //! Replies on messages.
-ghost use Rattle.std.specs.Prelude.{◌≡◌, ◌<◌, ◌-◌, ◌^◌, min, ℕ, ◌++◌, length, IfOk, IfSome, string_bytes, [], Err};
+ghost use Rattle.std.specs.Prelude.{◌≡◌, ◌<◌, ◌-◌, ◌^◌, min, ℕ, ◌++◌, length, IfOk, IfSome, string_bytes, []};
 ghost use Rattle.mail_wire.specs.Lines.{crlf};
-ghost use Rattle.mail_wire.specs.Moves.{GivesOrFails, HasWireCause};
-ghost use Rattle.journal_records.specs.Stored.{IsStored};
-ghost use Rattle.surrogate_rope.specs.Served.{IsShownOf, shown_octets};
-ghost use Rattle.surrogate_cache.specs.Served.{IsServed, HasServedHeaders, Meanings, WithMeanings};
+ghost use Rattle.session_core.specs.Doing.{Replies};
+ghost use Rattle.session_core.specs.Keeps.{Keeps, fault_of};
+ghost use Rattle.session_core.specs.Meanings.{Meanings, WithMeanings};
 ghost use Rattle.pop_session.specs.private.Asked.{IsAsked, IsKnown};
 ghost use Rattle.mail_wire.specs.Numbers.{number_of};
 ghost use Rattle.pop_session.specs.Machine.{size_of, uid_row, stat_reply, listing_reply, listing_one_reply, retr_reply, top_reply, message_at as message_at_of, two_numbers};
-ghost use Rattle.pop_session.specs.Replies.{reply_octets, AreFit};
+ghost use Rattle.pop_session.specs.Replies.{reply_octets};
 ghost use Rattle.pop_session.specs.States.{Knows};
 
 use crate::states::MaildropMessage;
 use crate::stuffing::give_message;
 use crate::top::top_length;
 use mail_store::{Listed, Store};
-use mail_wire::{Fault, Memory, Wire, read_number};
-use mime_tree::{TreeFault, read_tree};
+use mail_wire::{Clock, Fault, Keeper, Memory, Wire, read_number};
+use session_core::Outside;
 use std::alloc::Global;
-use surrogate_cache::{Cache, View};
-use surrogate_rope::Shown;
-
-// What a session of this kind is shown of the stored message of a number.
-fn show<V: View>(alloc: Global, cache: &mut Cache, id: u32, octets: &[u8]) -> Result<Shown, Memory>
-    requires { IsStored octets.now }
-    ensures shown { IfOk result (IsShownOf octets.now) }
-    ensures served { IfOk result (λ shown. IsServed V.mode octets.now (shown_octets octets.now shown)) }
-    ensures headers { IfOk result (λ shown. HasServedHeaders V.mode (shown_octets octets.now shown)) }
-{
-    match read_tree(alloc, octets) {
-        Ok(tree) => V::show(alloc, cache, id, octets, tree),
-        Err(TreeFault::Memory) => Err(Memory),
-        // It has a tree.
-        Err(_) => unreachable!(),
-    }
-}
+use surrogate_cache::View;
 
 // How many octets a session of this kind is served of a message.
-fn size<V: View>(
-    alloc: Global,
-    cache: &mut Cache,
-    store: &Store,
+fn size<V: View, W: Wire, J: Keeper, C: Clock>(
     one: &Listed,
+    outside: &mut Outside<W, J, C>,
 ) -> Result<usize, Memory>
-    requires { one.now.id < length store.now.kept.messages }
-    ensures { IfOk result (λ n. WithMeanings (λ meanings. n ≡ size_of meanings V.mode store.now one.now)) }
+    requires { one.now.id < length outside.old.desk.store.kept.messages }
+    ensures size { IfOk result (λ n. WithMeanings (λ meanings. n ≡ size_of meanings V.mode outside.old.desk.store one.now)) }
+    ensures same { outside.new ≡ outside.old }
 {
-    let octets = store.octets(one.id);
-    let shown = show::<V>(alloc, cache, one.id, octets)?;
+    let shown = outside.show::<V>(one.id)?;
+    let octets = outside.octets(one.id);
     Ok(shown.size(octets))
 }
 
 /// How many messages aren't marked, and the sum of their sizes.
-pub fn stat<V: View>(
-    alloc: Global,
-    cache: &mut Cache,
-    store: &Store,
+pub fn stat<V: View, W: Wire, J: Keeper, C: Clock>(
     maildrop: &[MaildropMessage],
+    outside: &mut Outside<W, J, C>,
 ) -> Result<String, Memory>
-    requires { Knows store.now maildrop.now }
-    ensures { IfOk result (λ text. WithMeanings (λ meanings.
-        string_bytes text ≡ reply_octets meanings (stat_reply meanings V.mode store.now maildrop.now))) }
+    requires { Knows outside.old.desk.store maildrop.now }
+    ensures text { IfOk result (λ text. WithMeanings (λ meanings.
+        string_bytes text ≡ reply_octets meanings (stat_reply meanings V.mode outside.old.desk.store maildrop.now))) }
+    ensures same { outside.new ≡ outside.old }
 {
     let mut count: usize = 0;
     let mut total: u128 = 0;
     for one in maildrop {
         if !one.deleted {
             count += 1;
-            total += size::<V>(alloc, cache, store, &one.listed)? as u128;
+            total += size::<V, W, J, C>(&one.listed, outside)? as u128;
         }
     }
+    let alloc = outside.alloc();
     Ok(format!(in alloc; "+OK {count} {total}\r\n")?)
 }
 
@@ -80,20 +62,20 @@ fn listing_line(alloc: Global, number: usize, value: usize) -> Result<String, Me
 }
 
 /// A line for each message that isn't marked, with its size.
-pub fn list<V: View>(
-    alloc: Global,
-    cache: &mut Cache,
-    store: &Store,
+pub fn list<V: View, W: Wire, J: Keeper, C: Clock>(
     maildrop: &[MaildropMessage],
+    outside: &mut Outside<W, J, C>,
 ) -> Result<String, Memory>
-    requires { Knows store.now maildrop.now }
-    ensures { IfOk result (λ text. WithMeanings (λ meanings.
-        string_bytes text ≡ reply_octets meanings (listing_reply (size_of meanings V.mode store.now) maildrop.now))) }
+    requires { Knows outside.old.desk.store maildrop.now }
+    ensures text { IfOk result (λ text. WithMeanings (λ meanings.
+        string_bytes text ≡ reply_octets meanings (listing_reply (size_of meanings V.mode outside.old.desk.store) maildrop.now))) }
+    ensures same { outside.new ≡ outside.old }
 {
+    let alloc = outside.alloc();
     let mut text = String::from_str(alloc, "+OK\r\n")?;
     for (place, one) in maildrop.iter().enumerate() {
         if !one.deleted {
-            let size = size::<V>(alloc, cache, store, &one.listed)?;
+            let size = size::<V, W, J, C>(&one.listed, outside)?;
             let line = listing_line(alloc, place + 1, size)?;
             text.push_str(line.as_str())?;
         }
@@ -118,18 +100,18 @@ pub fn uidl(alloc: Global, maildrop: &[MaildropMessage]) -> Result<String, Memor
 }
 
 /// The line of one message, with its size.
-pub fn list_one<V: View>(
-    alloc: Global,
-    cache: &mut Cache,
-    store: &Store,
+pub fn list_one<V: View, W: Wire, J: Keeper, C: Clock>(
     number: u64,
     one: &Listed,
+    outside: &mut Outside<W, J, C>,
 ) -> Result<String, Memory>
-    requires { one.now.id < length store.now.kept.messages }
-    ensures { IfOk result (λ text. WithMeanings (λ meanings.
-        string_bytes text ≡ reply_octets meanings (listing_one_reply (size_of meanings V.mode store.now) number one.now))) }
+    requires { one.now.id < length outside.old.desk.store.kept.messages }
+    ensures text { IfOk result (λ text. WithMeanings (λ meanings.
+        string_bytes text ≡ reply_octets meanings (listing_one_reply (size_of meanings V.mode outside.old.desk.store) number one.now))) }
+    ensures same { outside.new ≡ outside.old }
 {
-    let size = size::<V>(alloc, cache, store, one)?;
+    let size = size::<V, W, J, C>(one, outside)?;
+    let alloc = outside.alloc();
     Ok(format!(in alloc; "+OK {number} {size}\r\n")?)
 }
 
@@ -142,46 +124,33 @@ pub fn uidl_one(alloc: Global, number: u64, one: &Listed) -> Result<String, Memo
 }
 
 /// The octets of a message.
-pub fn retr<V: View, W: Wire>(
-    alloc: Global,
-    cache: &mut Cache,
-    store: &Store,
+pub fn retr<V: View, W: Wire, J: Keeper, C: Clock>(
     one: &Listed,
-    wire: &mut W,
+    outside: &mut Outside<W, J, C>,
 ) -> Result<(), Fault>
-    requires { one.now.id < length store.now.kept.messages }
-    ensures gives { WithMeanings (λ meanings.
-        GivesOrFails (W.tells wire.old) (W.tells wire.new) result (reply_octets meanings (retr_reply meanings V.mode store.now 0 one.now))) }
-    ensures fit { IfOk result (λ _. WithMeanings (λ meanings. AreFit meanings (retr_reply meanings V.mode store.now 0 one.now))) }
-    ensures cause { HasWireCause (W.tells wire.old) (W.tells wire.new) result Fault.Wire }
-    ensures keeper { ¬ (result ≡ Err Fault.Keeper) }
+    requires { one.now.id < length outside.old.desk.store.kept.messages }
+    ensures replies { WithMeanings (λ meanings. Replies outside.old outside.new (fault_of result) (reply_octets meanings (retr_reply meanings V.mode outside.old.desk.store 0 one.now))) }
+    ensures keeps { Keeps outside.old outside.new (fault_of result) }
 {
-    let octets = store.octets(one.id);
-    let shown = show::<V>(alloc, cache, one.id, octets)?;
-    let size = shown.size(octets);
-    give_message(alloc, &shown, octets, size, wire)
+    let shown = outside.show::<V>(one.id)?;
+    let len = shown.size(outside.octets(one.id));
+    give_message(one.id, &shown, len, outside)
 }
 
 /// The header of a message, and so many lines behind its empty line.
-pub fn top<V: View, W: Wire>(
-    alloc: Global,
-    cache: &mut Cache,
-    store: &Store,
+pub fn top<V: View, W: Wire, J: Keeper, C: Clock>(
     one: &Listed,
     lines: u64,
-    wire: &mut W,
+    outside: &mut Outside<W, J, C>,
 ) -> Result<(), Fault>
-    requires { one.now.id < length store.now.kept.messages }
-    ensures gives { WithMeanings (λ meanings. (n : ℕ) → min n (2 ^ 64 - 1) ≡ lines →
-        GivesOrFails (W.tells wire.old) (W.tells wire.new) result (reply_octets meanings (top_reply meanings V.mode store.now n 0 one.now))) }
-    ensures fit { IfOk result (λ _. WithMeanings (λ meanings. AreFit meanings (top_reply meanings V.mode store.now lines 0 one.now))) }
-    ensures cause { HasWireCause (W.tells wire.old) (W.tells wire.new) result Fault.Wire }
-    ensures keeper { ¬ (result ≡ Err Fault.Keeper) }
+    requires { one.now.id < length outside.old.desk.store.kept.messages }
+    ensures replies { WithMeanings (λ meanings. (n : ℕ) → min n (2 ^ 64 - 1) ≡ lines →
+        Replies outside.old outside.new (fault_of result) (reply_octets meanings (top_reply meanings V.mode outside.old.desk.store n 0 one.now))) }
+    ensures keeps { Keeps outside.old outside.new (fault_of result) }
 {
-    let octets = store.octets(one.id);
-    let shown = show::<V>(alloc, cache, one.id, octets)?;
-    let len = top_length(&shown, octets, lines);
-    give_message(alloc, &shown, octets, len, wire)
+    let shown = outside.show::<V>(one.id)?;
+    let len = top_length(&shown, outside.octets(one.id), lines);
+    give_message(one.id, &shown, len, outside)
 }
 
 /// What a text asks for that is to be the number of a message.

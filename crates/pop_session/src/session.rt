@@ -1,28 +1,29 @@
-//! A session over a wire.
-ghost use Rattle.std.specs.Prelude.{◌≡◌, ℕ, ◌++◌, List, None, Some, IfOk, Err, IsTrue, ◌↔◌, length, ◌⊎◌, ◌≤◌, false, []};
+//! The rows of a session, and serving it.
+ghost use Rattle.std.specs.Prelude.{◌≡◌, Some, IfOk, ◌⊎◌, map, false, refl};
 ghost use Rattle.std.specs.Option.{option_copied};
-ghost use Rattle.mail_wire.specs.Keeping.{HasKeeperCause};
-ghost use Rattle.mail_wire.specs.Moves.{GivesOrFails, HasWireCause};
-ghost use Rattle.mail_store.specs.Doing.{Does};
-ghost use Rattle.mail_store.specs.Kept.{name_of};
-ghost use Rattle.mail_store.specs.StoreState.{StoreState};
-ghost use Rattle.surrogate_cache.specs.Served.{Meanings, WithMeanings};
-ghost use Rattle.pop_session.specs.Commands.{command_of};
 ghost use Rattle.mail_wire.specs.Numbers.{number_of};
-ghost use Rattle.pop_session.specs.Machine.{transaction, ended, authorization_step, transaction_step, transaction_reply, dele_step, quit_step, step, acts_in};
-ghost use Rattle.pop_session.specs.Replies.{part_octets, reply_octets, AreFit, AreFitActs};
-ghost use Rattle.pop_session.specs.Session.{machine_of, turns_of, StandsFor, IsReady, HasRest, greeting, start_of, session_state};
-ghost use Rattle.pop_session.specs.States.{state_or_ended, state_of, KnowsState, Knows};
+ghost use Rattle.session_core.specs.Desks.{IsOpen};
+ghost use Rattle.session_core.specs.Doing.{Replies};
+ghost use Rattle.session_core.specs.Keeps.{Keeps, fault_of};
+ghost use Rattle.session_core.specs.Meanings.{WithMeanings};
+ghost use Rattle.session_core.specs.Served.{met_of};
+ghost use Rattle.session_core.specs.Serving.{ServesBy};
+ghost use Rattle.session_core.specs.declared.rows.Wants.TheVariants.{Line};
+ghost use Rattle.pop_session.specs.Machine.{transaction, answers, done, marked, authorization_step, transaction_step, transaction_reply, dele_step, quit_step};
+ghost use Rattle.pop_session.specs.PopLaws.{agrees_by, opening_fits_by, rows_fit_by, long_rows_fit_by};
+ghost use Rattle.pop_session.specs.Replies.{reply_octets};
+ghost use Rattle.pop_session.specs.Session.{pop_grammar, pop_protocol, PopStands, KnowsPop, Takes};
+ghost use Rattle.pop_session.specs.States.{state_or_ended, KnowsState, Knows};
 
 use crate::command::{Command, Keyword, is_of_transaction, read_command, read_top_numbers};
 use crate::replies::{
     Asked, find_message, list, list_one, message_at, retr, stat, top, uidl, uidl_one,
 };
 use crate::states::{Authorization, Kind, Login, MaildropMessage, Pop, PopState, Transaction};
-use mail_store::{Store, StoreFault};
-use mail_wire::{Fault, FoundLine, Keeper, Memory, Octets, Wire, find_line, give_all};
+use mail_store::Store;
+use mail_wire::{Clock, Fault, Keeper, Memory, Wire};
+use session_core::{Framed, Outside, Rows, Served, Session, Wants, serve};
 use std::alloc::Global;
-use surrogate_cache::Cache;
 
 const DONE: &[u8] = b"+OK\r\n";
 
@@ -79,414 +80,258 @@ fn answer_authorization<V: Kind>(
 }
 
 // A command of AUTHORIZATION.
-#[tactic(auto, using(crate::proofs::FitLemmas::fit_steps))]
-fn give_authorization<V: Kind, W: Wire>(
-    alloc: Global,
+fn authorize<V: Kind, W: Wire, J: Keeper, C: Clock>(
     pop: Pop<Authorization, V>,
     command: Command,
-    store: &Store,
-    wire: &mut W,
+    outside: &mut Outside<W, J, C>,
 ) -> Result<Option<PopState>, Fault>
-    ensures gives { WithMeanings (λ meanings. GivesOrFails (W.tells wire.old) (W.tells wire.new) result
-        (reply_octets meanings (authorization_step meanings V.mode pop.state.user store.now command.entry.keyword (option_copied command.entry.argument)).reply)) }
-    ensures fit { IfOk result (λ _. WithMeanings (λ meanings. AreFit meanings (authorization_step meanings V.mode pop.state.user store.now command.entry.keyword (option_copied command.entry.argument)).reply)) }
-    ensures next { IfOk result (λ next. WithMeanings (λ meanings. state_or_ended next ≡ (authorization_step meanings V.mode pop.state.user store.now command.entry.keyword (option_copied command.entry.argument)).state)) }
-    ensures known { IfOk result (λ next. KnowsState store.now (state_or_ended next)) }
-    ensures cause { HasWireCause (W.tells wire.old) (W.tells wire.new) result Fault.Wire }
-    ensures keeper { ¬ (result ≡ Err Fault.Keeper) }
+    ensures takes { Takes outside.old outside.new result
+        (λ meanings. authorization_step meanings V.mode pop.state.user outside.old.desk.store command.entry.keyword (option_copied command.entry.argument)) }
+    ensures keeps { Keeps outside.old outside.new (fault_of result) }
 {
-    let answer = answer_authorization(alloc, pop, command, store)?;
-    give_all(wire, answer.reply)?;
+    let answer = answer_authorization(outside.alloc(), pop, command, outside.store())?;
+    outside.give(answer.reply)?;
     Ok(answer.next)
 }
 
 // The replies of TRANSACTION that ask for one message.
-#[tactic(auto, using(crate::proofs::FitLemmas::fit_steps))]
-fn give_of_message<V: Kind, W: Wire>(
-    alloc: Global,
-    cache: &mut Cache,
+fn give_of_message<V: Kind, W: Wire, J: Keeper, C: Clock>(
     keyword: Keyword,
     text: &[u8],
     maildrop: &[MaildropMessage],
-    store: &Store,
-    wire: &mut W,
+    outside: &mut Outside<W, J, C>,
 ) -> Result<(), Fault>
     requires keyword { (keyword ≡ Keyword.List) ⊎ (keyword ≡ Keyword.Uidl) ⊎ (keyword ≡ Keyword.Retr) }
-    requires known { Knows store.now maildrop.now }
-    ensures gives { WithMeanings (λ meanings. GivesOrFails (W.tells wire.old) (W.tells wire.new) result
-        (reply_octets meanings (transaction_reply meanings V.mode maildrop.now store.now keyword (Some text.now)))) }
-    ensures fit { IfOk result (λ _. WithMeanings (λ meanings. AreFit meanings (transaction_reply meanings V.mode maildrop.now store.now keyword (Some text.now)))) }
-    ensures cause { HasWireCause (W.tells wire.old) (W.tells wire.new) result Fault.Wire }
-    ensures keeper { ¬ (result ≡ Err Fault.Keeper) }
+    requires known { Knows outside.old.desk.store maildrop.now }
+    ensures replies { WithMeanings (λ meanings. Replies outside.old outside.new (fault_of result)
+        (reply_octets meanings (transaction_reply meanings V.mode maildrop.now outside.old.desk.store keyword (Some text.now)))) }
+    ensures keeps { Keeps outside.old outside.new (fault_of result) }
 {
-    let (number, one) = match find_message(store, maildrop, text) {
-        Asked::NotNumber => return give_all(wire, SYNTAX),
-        Asked::NoSuch => return give_all(wire, NO_SUCH_MESSAGE),
+    let (number, one) = match find_message(outside.store(), maildrop, text) {
+        Asked::NotNumber => return outside.give(SYNTAX),
+        Asked::NoSuch => return outside.give(NO_SUCH_MESSAGE),
         Asked::Found { number, one } => (number, one),
     };
     match keyword {
-        Keyword::Retr => retr::<V, W>(alloc, cache, store, &one, wire),
+        Keyword::Retr => retr::<V, W, J, C>(&one, outside),
         Keyword::Uidl => {
-            let text = uidl_one(alloc, number, &one)?;
-            give_all(wire, text.as_bytes())
+            let text = uidl_one(outside.alloc(), number, &one)?;
+            outside.give(text.as_bytes())
         }
         _ => {
-            let text = list_one::<V>(alloc, cache, store, number, &one)?;
-            give_all(wire, text.as_bytes())
+            let text = list_one::<V, W, J, C>(number, &one, outside)?;
+            outside.give(text.as_bytes())
         }
     }
 }
 
 // TOP, with the text of its two numbers.
-#[tactic(auto, using(crate::proofs::FitLemmas::fit_steps))]
-fn give_top<V: Kind, W: Wire>(
-    alloc: Global,
-    cache: &mut Cache,
+fn give_top<V: Kind, W: Wire, J: Keeper, C: Clock>(
     text: &[u8],
     maildrop: &[MaildropMessage],
-    store: &Store,
-    wire: &mut W,
+    outside: &mut Outside<W, J, C>,
 ) -> Result<(), Fault>
-    requires { Knows store.now maildrop.now }
-    ensures gives { WithMeanings (λ meanings. GivesOrFails (W.tells wire.old) (W.tells wire.new) result
-        (reply_octets meanings (transaction_reply meanings V.mode maildrop.now store.now Keyword.Top (Some text.now)))) }
-    ensures fit { IfOk result (λ _. WithMeanings (λ meanings. AreFit meanings (transaction_reply meanings V.mode maildrop.now store.now Keyword.Top (Some text.now)))) }
-    ensures cause { HasWireCause (W.tells wire.old) (W.tells wire.new) result Fault.Wire }
-    ensures keeper { ¬ (result ≡ Err Fault.Keeper) }
+    requires { Knows outside.old.desk.store maildrop.now }
+    ensures replies { WithMeanings (λ meanings. Replies outside.old outside.new (fault_of result)
+        (reply_octets meanings (transaction_reply meanings V.mode maildrop.now outside.old.desk.store Keyword.Top (Some text.now)))) }
+    ensures keeps { Keeps outside.old outside.new (fault_of result) }
 {
     let Some(numbers) = read_top_numbers(text) else {
-        return give_all(wire, SYNTAX);
+        return outside.give(SYNTAX);
     };
-    match message_at(store, maildrop, numbers.number) {
-        Some(one) => top::<V, W>(alloc, cache, store, &one, numbers.lines, wire),
-        None => give_all(wire, NO_SUCH_MESSAGE),
+    match message_at(outside.store(), maildrop, numbers.number) {
+        Some(one) => top::<V, W, J, C>(&one, numbers.lines, outside),
+        None => outside.give(NO_SUCH_MESSAGE),
     }
 }
 
-// The rows of TRANSACTION that leave the state.
-#[tactic(auto, using(crate::proofs::FitLemmas::fit_steps))]
-fn give_reply<V: Kind, W: Wire>(
-    alloc: Global,
-    cache: &mut Cache,
+// The replies of TRANSACTION that leave the state.
+fn give_reply<V: Kind, W: Wire, J: Keeper, C: Clock>(
     maildrop: &[MaildropMessage],
     command: Command,
-    store: &Store,
-    wire: &mut W,
+    outside: &mut Outside<W, J, C>,
 ) -> Result<(), Fault>
-    requires { Knows store.now maildrop.now }
-    ensures gives { WithMeanings (λ meanings. GivesOrFails (W.tells wire.old) (W.tells wire.new) result
-        (reply_octets meanings (transaction_reply meanings V.mode maildrop.now store.now command.entry.keyword (option_copied command.entry.argument)))) }
-    ensures fit { IfOk result (λ _. WithMeanings (λ meanings. AreFit meanings (transaction_reply meanings V.mode maildrop.now store.now command.entry.keyword (option_copied command.entry.argument)))) }
-    ensures cause { HasWireCause (W.tells wire.old) (W.tells wire.new) result Fault.Wire }
-    ensures keeper { ¬ (result ≡ Err Fault.Keeper) }
+    requires { Knows outside.old.desk.store maildrop.now }
+    ensures replies { WithMeanings (λ meanings. Replies outside.old outside.new (fault_of result)
+        (reply_octets meanings (transaction_reply meanings V.mode maildrop.now outside.old.desk.store command.entry.keyword (option_copied command.entry.argument)))) }
+    ensures keeps { Keeps outside.old outside.new (fault_of result) }
 {
     match (command.keyword, command.argument) {
-        (Keyword::User | Keyword::Pass | Keyword::Utf8, _) => give_all(wire, OUT_OF_ORDER),
-        (Keyword::Capa, None) => give_all(wire, CAPABILITIES),
-        (Keyword::Noop, None) => give_all(wire, DONE),
+        (Keyword::User | Keyword::Pass | Keyword::Utf8, _) => outside.give(OUT_OF_ORDER),
+        (Keyword::Capa, None) => outside.give(CAPABILITIES),
+        (Keyword::Noop, None) => outside.give(DONE),
         (Keyword::Stat, None) => {
-            let text = stat::<V>(alloc, cache, store, maildrop)?;
-            give_all(wire, text.as_bytes())
+            let text = stat::<V, W, J, C>(maildrop, outside)?;
+            outside.give(text.as_bytes())
         }
         (Keyword::List, None) => {
-            let text = list::<V>(alloc, cache, store, maildrop)?;
-            give_all(wire, text.as_bytes())
+            let text = list::<V, W, J, C>(maildrop, outside)?;
+            outside.give(text.as_bytes())
         }
         (Keyword::Uidl, None) => {
-            let text = uidl(alloc, maildrop)?;
-            give_all(wire, text.as_bytes())
+            let text = uidl(outside.alloc(), maildrop)?;
+            outside.give(text.as_bytes())
         }
         (Keyword::List | Keyword::Uidl | Keyword::Retr, Some(text)) => {
-            give_of_message::<V, W>(alloc, cache, command.keyword, text, maildrop, store, wire)
+            give_of_message::<V, W, J, C>(command.keyword, text, maildrop, outside)
         }
-        (Keyword::Top, Some(text)) => {
-            give_top::<V, W>(alloc, cache, text, maildrop, store, wire)
-        }
-        _ => give_all(wire, SYNTAX),
+        (Keyword::Top, Some(text)) => give_top::<V, W, J, C>(text, maildrop, outside),
+        _ => outside.give(SYNTAX),
     }
+}
+
+// A command of TRANSACTION that leaves the state.
+fn stay<V: Kind, W: Wire, J: Keeper, C: Clock>(
+    pop: Pop<Transaction, V>,
+    command: Command,
+    outside: &mut Outside<W, J, C>,
+) -> Result<Option<PopState>, Fault>
+    requires { Knows outside.old.desk.store pop.state.maildrop.items }
+    ensures takes { Takes outside.old outside.new result (λ meanings. answers
+        (transaction_reply meanings V.mode pop.state.maildrop.items outside.old.desk.store command.entry.keyword (option_copied command.entry.argument))
+        (transaction V.mode pop.state.maildrop.items)) }
+    ensures keeps { Keeps outside.old outside.new (fault_of result) }
+{
+    give_reply::<V, W, J, C>(&pop.state.maildrop, command, outside)?;
+    Ok(Some(V::in_transaction(pop)))
 }
 
 // DELE, with the text of its number.
-#[tactic(auto, using(crate::proofs::FitLemmas::fit_steps))]
-fn dele<V: Kind, W: Wire>(
+fn dele<V: Kind, W: Wire, J: Keeper, C: Clock>(
     pop: Pop<Transaction, V>,
     text: &[u8],
-    store: &Store,
-    wire: &mut W,
-) -> Result<Pop<Transaction, V>, Fault>
-    requires { Knows store.now pop.state.maildrop.items }
-    ensures gives { WithMeanings (λ meanings. GivesOrFails (W.tells wire.old) (W.tells wire.new) result
-        (reply_octets meanings (dele_step V.mode pop.state.maildrop.items (number_of text.now)).reply)) }
-    ensures fit { IfOk result (λ _. WithMeanings (λ meanings. AreFit meanings (dele_step V.mode pop.state.maildrop.items (number_of text.now)).reply)) }
-    ensures next { IfOk result (λ next. transaction V.mode next.state.maildrop.items ≡ (dele_step V.mode pop.state.maildrop.items (number_of text.now)).state) }
-    ensures known { IfOk result (λ next. Knows store.now next.state.maildrop.items) }
-    ensures cause { HasWireCause (W.tells wire.old) (W.tells wire.new) result Fault.Wire }
-    ensures keeper { ¬ (result ≡ Err Fault.Keeper) }
+    outside: &mut Outside<W, J, C>,
+) -> Result<Option<PopState>, Fault>
+    requires { Knows outside.old.desk.store pop.state.maildrop.items }
+    ensures takes { Takes outside.old outside.new result (λ meanings. dele_step V.mode pop.state.maildrop.items (number_of text.now)) }
+    ensures keeps { Keeps outside.old outside.new (fault_of result) }
 {
-    match find_message(store, &pop.state.maildrop, text) {
+    match find_message(outside.store(), &pop.state.maildrop, text) {
         Asked::NotNumber => {
-            give_all(wire, SYNTAX)?;
-            Ok(pop)
+            outside.give(SYNTAX)?;
+            Ok(Some(V::in_transaction(pop)))
         }
         Asked::NoSuch => {
-            give_all(wire, NO_SUCH_MESSAGE)?;
-            Ok(pop)
+            outside.give(NO_SUCH_MESSAGE)?;
+            Ok(Some(V::in_transaction(pop)))
         }
         Asked::Found { number, one: _ } => {
-            give_all(wire, DONE)?;
-            Ok(pop.dele((number - 1) as usize))
+            outside.give(DONE)?;
+            Ok(Some(V::in_transaction(pop.dele((number - 1) as usize))))
         }
     }
+}
+
+// RSET: no message is marked any more.
+fn rset<V: Kind, W: Wire, J: Keeper, C: Clock>(
+    pop: Pop<Transaction, V>,
+    outside: &mut Outside<W, J, C>,
+) -> Result<Option<PopState>, Fault>
+    requires { Knows outside.old.desk.store pop.state.maildrop.items }
+    ensures takes { Takes outside.old outside.new result (λ meanings. answers done (transaction V.mode (map (marked false) pop.state.maildrop.items))) }
+    ensures keeps { Keeps outside.old outside.new (fault_of result) }
+{
+    outside.give(DONE)?;
+    Ok(Some(V::in_transaction(pop.rset())))
 }
 
 // QUIT: the marked messages go, and then the session's end is told.
-#[tactic(auto, using(crate::proofs::FitLemmas::fit_steps))]
-fn quit<V: Kind, W: Wire, J: Keeper>(
-    alloc: Global,
+fn quit<V: Kind, W: Wire, J: Keeper, C: Clock>(
     pop: Pop<Transaction, V>,
-    store: &mut Store,
-    wire: &mut W,
-    keeper: &mut J,
-) -> Result<(), Fault>
-    requires works { store.old.failed ≡ false }
-    requires known { Knows store.old pop.state.maildrop.items }
-    ensures does { (meanings : Meanings) → Does (part_octets meanings) (W.tells wire.old) (W.tells wire.new) store.old store.new
-        (J.tells keeper.old).octets (J.tells keeper.new).octets result (acts_in (quit_step pop.state.maildrop.items)) }
-    ensures works { ¬ (result ≡ Err Fault.Keeper) → store.new.failed ≡ false }
-    ensures limit { store.new.message_max ≡ store.old.message_max }
-    ensures name { name_of store.new.kept ≡ name_of store.old.kept }
-    ensures cause { HasWireCause (W.tells wire.old) (W.tells wire.new) result Fault.Wire }
-    ensures keeper { HasKeeperCause (J.tells keeper.old) (J.tells keeper.new) result Fault.Keeper }
+    outside: &mut Outside<W, J, C>,
+) -> Result<Option<PopState>, Fault>
+    requires opens { IsOpen outside.old.desk }
+    requires known { Knows outside.old.desk.store pop.state.maildrop.items }
+    ensures takes { Takes outside.old outside.new result (λ meanings. quit_step pop.state.maildrop.items) }
+    ensures keeps { Keeps outside.old outside.new (fault_of result) }
 {
-    match pop.quit().update(alloc, store, keeper) {
-        Ok(()) => give_all(wire, BYE),
-        Err(StoreFault::Keeper) => Err(Fault::Keeper),
-        Err(StoreFault::Memory) => Err(Fault::Memory),
-        Err(StoreFault::Exists | StoreFault::NoSuch | StoreFault::TooLarge) => unreachable!(),
-    }
+    pop.quit().update(outside)?;
+    outside.give(BYE)?;
+    Ok(None)
 }
 
 // The rows of TRANSACTION.
-#[tactic(auto, using(crate::proofs::RowLemmas::row_steps))]
-fn answer_transaction<V: Kind, W: Wire, J: Keeper>(
-    alloc: Global,
-    cache: &mut Cache,
+fn transact<V: Kind, W: Wire, J: Keeper, C: Clock>(
     pop: Pop<Transaction, V>,
     command: Command,
-    store: &mut Store,
-    wire: &mut W,
-    keeper: &mut J,
+    outside: &mut Outside<W, J, C>,
 ) -> Result<Option<PopState>, Fault>
-    requires works { store.old.failed ≡ false }
-    requires known { Knows store.old pop.state.maildrop.items }
-    ensures does { WithMeanings (λ meanings. Does (part_octets meanings) (W.tells wire.old) (W.tells wire.new) store.old store.new
-        (J.tells keeper.old).octets (J.tells keeper.new).octets result
-        (acts_in (transaction_step meanings V.mode pop.state.maildrop.items store.old command.entry.keyword (option_copied command.entry.argument)))) }
-    ensures fit { IfOk result (λ _. WithMeanings (λ meanings. AreFit meanings (transaction_step meanings V.mode pop.state.maildrop.items store.old command.entry.keyword (option_copied command.entry.argument)).reply)) }
-    ensures next { IfOk result (λ next. WithMeanings (λ meanings. state_or_ended next ≡ (transaction_step meanings V.mode pop.state.maildrop.items store.old command.entry.keyword (option_copied command.entry.argument)).state)) }
-    ensures known { IfOk result (λ next. KnowsState store.new (state_or_ended next)) }
-    ensures works { ¬ (result ≡ Err Fault.Keeper) → store.new.failed ≡ false }
-    ensures limit { store.new.message_max ≡ store.old.message_max }
-    ensures name { name_of store.new.kept ≡ name_of store.old.kept }
-    ensures cause { HasWireCause (W.tells wire.old) (W.tells wire.new) result Fault.Wire }
-    ensures keeper { HasKeeperCause (J.tells keeper.old) (J.tells keeper.new) result Fault.Keeper }
+    requires opens { IsOpen outside.old.desk }
+    requires known { Knows outside.old.desk.store pop.state.maildrop.items }
+    ensures takes { Takes outside.old outside.new result
+        (λ meanings. transaction_step meanings V.mode pop.state.maildrop.items outside.old.desk.store command.entry.keyword (option_copied command.entry.argument)) }
+    ensures keeps { Keeps outside.old outside.new (fault_of result) }
 {
     match (command.keyword, command.argument) {
-        (Keyword::Dele, Some(text)) => {
-            let pop = dele(pop, text, store, wire)?;
-            Ok(Some(V::in_transaction(pop)))
-        }
-        (Keyword::Rset, None) => {
-            give_all(wire, DONE)?;
-            Ok(Some(V::in_transaction(pop.rset())))
-        }
-        (Keyword::Quit, None) => {
-            quit(alloc, pop, store, wire, keeper)?;
-            Ok(None)
-        }
-        _ => {
-            give_reply::<V, W>(alloc, cache, &pop.state.maildrop, command, store, wire)?;
-            Ok(Some(V::in_transaction(pop)))
-        }
+        (Keyword::Dele, Some(text)) => dele(pop, text, outside),
+        (Keyword::Rset, None) => rset(pop, outside),
+        (Keyword::Quit, None) => quit(pop, outside),
+        _ => stay(pop, command, outside),
     }
 }
 
-// A command, in any state. The line has its CRLF.
-#[tactic(auto, unfolding(crate::specs::Machine::step))]
-fn answer<W: Wire, J: Keeper>(
-    alloc: Global,
-    state: PopState,
-    line: &[u8],
-    store: &mut Store,
-    cache: &mut Cache,
-    wire: &mut W,
-    keeper: &mut J,
-) -> Result<Option<PopState>, Fault>
-    requires line { 2 ≤ length line.now }
-    requires works { store.old.failed ≡ false }
-    requires known { KnowsState store.old (state_of state) }
-    ensures does { WithMeanings (λ meanings. Does (part_octets meanings) (W.tells wire.old) (W.tells wire.new) store.old store.new
-        (J.tells keeper.old).octets (J.tells keeper.new).octets result (acts_in (step meanings (state_of state) store.old (command_of line.now)))) }
-    ensures fit { IfOk result (λ _. WithMeanings (λ meanings. AreFit meanings (step meanings (state_of state) store.old (command_of line.now)).reply)) }
-    ensures next { IfOk result (λ next. WithMeanings (λ meanings. state_or_ended next ≡ (step meanings (state_of state) store.old (command_of line.now)).state)) }
-    ensures known { IfOk result (λ next. KnowsState store.new (state_or_ended next)) }
-    ensures works { ¬ (result ≡ Err Fault.Keeper) → store.new.failed ≡ false }
-    ensures limit { store.new.message_max ≡ store.old.message_max }
-    ensures name { name_of store.new.kept ≡ name_of store.old.kept }
-    ensures cause { HasWireCause (W.tells wire.old) (W.tells wire.new) result Fault.Wire }
-    ensures keeper { HasKeeperCause (J.tells keeper.old) (J.tells keeper.new) result Fault.Keeper }
-{
-    let command = read_command(line);
-    match state {
-        PopState::Authorization(pop) => give_authorization(alloc, pop, command, store, wire),
-        PopState::EnabledAuthorization(pop) => give_authorization(alloc, pop, command, store, wire),
-        PopState::Transaction(pop) => {
-            answer_transaction(alloc, cache, pop, command, store, wire, keeper)
-        }
-        PopState::EnabledTransaction(pop) => {
-            answer_transaction(alloc, cache, pop, command, store, wire, keeper)
-        }
-    }
-}
+impl Rows for PopState {
+    ghost grammar = { pop_grammar };
 
-/// A session that has not ended: what came of its next command, and its state.
-#[derive(Debug, Drop)]
-pub struct Reading {
-    alloc: Global,
-    pub kept: Octets,
-    pub state: PopState,
-}
+    ghost stands = { PopStands };
 
-/// A session.
-#[derive(Debug, Drop)]
-pub enum PopSession {
-    Open(Reading),
-    Ended,
-}
+    ghost wanted = { λ session. Line };
 
-// The next piece of a session that has not ended.
-fn feed_open<W: Wire, J: Keeper>(
-    reading: Reading,
-    piece: &[u8],
-    store: &mut Store,
-    cache: &mut Cache,
-    wire: &mut W,
-    keeper: &mut J,
-) -> Result<PopSession, Fault>
-    requires works { store.old.failed ≡ false }
-    requires ready { IsReady (PopSession.Open reading) store.old }
-    ensures does { WithMeanings (λ meanings. Does (part_octets meanings) (W.tells wire.old) (W.tells wire.new) store.old store.new
-        (J.tells keeper.old).octets (J.tells keeper.new).octets result
-        (turns_of meanings (machine_of (PopSession.Open reading) store.old) (reading.kept ++ piece.now)).parts) }
-    ensures fit { IfOk result (λ _. WithMeanings (λ meanings.
-        AreFitActs meanings (turns_of meanings (machine_of (PopSession.Open reading) store.old) (reading.kept ++ piece.now)).parts)) }
-    ensures stands { IfOk result (λ session. WithMeanings (λ meanings.
-        StandsFor session store.new (turns_of meanings (machine_of (PopSession.Open reading) store.old) (reading.kept ++ piece.now)))) }
-    ensures ready { IfOk result (λ session. IsReady session store.new) }
-    ensures works { ¬ (result ≡ Err Fault.Keeper) → store.new.failed ≡ false }
-    ensures limit { store.new.message_max ≡ store.old.message_max }
-    ensures name { name_of store.new.kept ≡ name_of store.old.kept }
-    ensures cause { HasWireCause (W.tells wire.old) (W.tells wire.new) result Fault.Wire }
-    ensures keeper { HasKeeperCause (J.tells keeper.old) (J.tells keeper.new) result Fault.Keeper }
-{
-    let Reading {
-        alloc,
-        mut kept,
-        mut state,
-    } = reading;
-    let mut rest = piece;
-    loop {
-        match find_line(kept.as_slice(), rest) {
-            FoundLine::Whole(end) => {
-                let (front, others) = rest.split_at(end);
-                kept.push_slice(front)?;
-                let next = answer(alloc, state, kept.as_slice(), store, cache, wire, keeper)?;
-                let Some(next) = next else {
-                    return Ok(PopSession::Ended);
-                };
-                state = next;
-                kept.clear();
-                rest = others;
-            }
-            FoundLine::TooLong => {
-                give_all(wire, TOO_LONG)?;
-                return Ok(PopSession::Ended);
-            }
-            FoundLine::Waiting => {
-                kept.push_slice(rest)?;
-                return Ok(PopSession::Open(Reading { alloc, kept, state }));
-            }
-        }
-    }
-}
+    ghost knows = { KnowsPop };
 
-impl PopSession {
-    /// Begins a session, which is a legacy one until it asks for UTF-8 (RFC 6856, 2), and gives the greeting.
-    pub fn start<W: Wire>(alloc: Global, wire: &mut W) -> Result<PopSession, Fault>
-        ensures gives { (meanings : Meanings) → GivesOrFails (W.tells wire.old) (W.tells wire.new) result (reply_octets meanings greeting) }
-        ensures stands { IfOk result (λ session. (store : StoreState) → machine_of session store ≡ start_of store) }
-        ensures rest { IfOk result (λ session. HasRest session []) }
-        ensures ready { IfOk result (λ session. (store : StoreState) → IsReady session store) }
-        ensures cause { HasWireCause (W.tells wire.old) (W.tells wire.new) result Fault.Wire }
-        ensures keeper { ¬ (result ≡ Err Fault.Keeper) }
-    {
-        give_all(wire, b"+OK ready\r\n")?;
-        Ok(PopSession::Open(Reading {
-            alloc,
-            kept: Octets::new(alloc),
-            state: PopState::Authorization(Pop::new()),
-        }))
+    // A session is a legacy one until it asks for UTF-8 (RFC 6856, 2).
+    fn begin<W: Wire, J: Keeper, C: Clock>(outside: &mut Outside<W, J, C>) -> Result<Self, Fault> {
+        outside.give(b"+OK ready\r\n")?;
+        Ok(PopState::Authorization(Pop::new()))
     }
 
-    /// Takes the next piece of the stream, and gives the replies to the commands that are whole now, in their order.
-    ///
-    /// Where a line ends is sought in the piece alone; of what came before only the last octet is looked at. A line of more
-    /// than `LINE_MAX` octets ends the session with a reply. After the end pieces are taken and bring nothing.
-    ///
-    /// An `Err` takes the session away, and no reply says so. `Fault::Keeper` comes where the marked messages couldn't be
-    /// taken out of the journal; then the store has failed.
-    pub fn feed<W: Wire, J: Keeper>(
+    fn wants(&self) -> Wants {
+        Wants::Line
+    }
+
+    fn answer<W: Wire, J: Keeper, C: Clock>(
         self,
-        piece: &[u8],
-        store: &mut Store,
-        cache: &mut Cache,
-        wire: &mut W,
-        keeper: &mut J,
-    ) -> Result<PopSession, Fault>
-        requires works { store.old.failed ≡ false }
-        requires ready { IsReady self store.old }
-
-        // Whatever the rest is that the session stands for: the acts of the machine's turns over it and the piece are done; after
-        // a fault the first of them, in their order. The session that is left stands for what follows.
-        ensures does { WithMeanings (λ meanings. (rest : List ℕ) → HasRest self rest →
-            Does (part_octets meanings) (W.tells wire.old) (W.tells wire.new) store.old store.new
-            (J.tells keeper.old).octets (J.tells keeper.new).octets result
-            (turns_of meanings (machine_of self store.old) (rest ++ piece.now)).parts) }
-        ensures stands { IfOk result (λ session. WithMeanings (λ meanings. (rest : List ℕ) → HasRest self rest →
-            StandsFor session store.new (turns_of meanings (machine_of self store.old) (rest ++ piece.now)))) }
-        ensures ready { IfOk result (λ session. IsReady session store.new) }
-
-        ensures works { ¬ (result ≡ Err Fault.Keeper) → store.new.failed ≡ false }
-        ensures limit { store.new.message_max ≡ store.old.message_max }
-        ensures name { name_of store.new.kept ≡ name_of store.old.kept }
-
-        // Each line is ASCII, and to a legacy session each header is.
-        ensures fit { IfOk result (λ _. WithMeanings (λ meanings. (rest : List ℕ) → HasRest self rest →
-            AreFitActs meanings (turns_of meanings (machine_of self store.old) (rest ++ piece.now)).parts)) }
-
-        ensures cause { HasWireCause (W.tells wire.old) (W.tells wire.new) result Fault.Wire }
-        ensures keeper { HasKeeperCause (J.tells keeper.old) (J.tells keeper.new) result Fault.Keeper }
-    {
+        line: &[u8],
+        outside: &mut Outside<W, J, C>,
+    ) -> Result<Option<Self>, Fault> {
+        let command = read_command(line);
         match self {
-            PopSession::Open(reading) => feed_open(reading, piece, store, cache, wire, keeper),
-            PopSession::Ended => Ok(PopSession::Ended),
+            PopState::Authorization(pop) => authorize(pop, command, outside),
+            PopState::EnabledAuthorization(pop) => authorize(pop, command, outside),
+            PopState::Transaction(pop) => transact(pop, command, outside),
+            PopState::EnabledTransaction(pop) => transact(pop, command, outside),
         }
     }
 
-    /// Whether the session has ended.
-    pub fn ended(&self) -> bool
-        ensures { IsTrue result ↔ (session_state self.now ≡ ended) }
-    {
-        matches!(self, PopSession::Ended)
+    fn refuse_line<W: Wire, J: Keeper, C: Clock>(
+        self,
+        outside: &mut Outside<W, J, C>,
+    ) -> Result<(), Fault> {
+        outside.give(TOO_LONG)
     }
+
+    ghost agrees = { agrees_by };
+
+    ghost ends = { λ meanings machine. refl };
+
+    ghost opening_fits = { opening_fits_by };
+
+    ghost rows_fit = { rows_fit_by };
+
+    ghost long_rows_fit = { long_rows_fit_by };
+}
+
+/// A session, to feed it a stream.
+pub type PopSession = Session<Framed<PopState>>;
+
+/// Serves one session: gives the greeting, takes pieces of at most 4,096 octets, and answers each command as soon as it is whole.
+///
+/// A line of more than `LINE_MAX` octets ends the session with a reply. `KeeperFault` comes where the marked messages couldn't be taken
+/// out of the journal; then the store has failed.
+pub fn serve_pop<W: Wire, J: Keeper, C: Clock>(outside: &mut Outside<W, J, C>) -> Served
+    requires { IsOpen outside.old.desk }
+    ensures serves { ServesBy pop_protocol outside.old outside.new result }
+    ensures keeps { Keeps outside.old outside.new (met_of result) }
+{
+    serve::<Framed<PopState>, W, J, C>(outside)
 }

@@ -1,14 +1,17 @@
 //! The states of a session (RFC 1939, 4 to 6), each a type of its own.
 ghost use Rattle.std.specs.Prelude.{◌≡◌, ◌<◌, [], None, Some, IfOk, List, ℕ, Option, length, map, true, false};
-ghost use Rattle.mail_wire.specs.Keeping.{HasKeeperCause};
-ghost use Rattle.mail_store.specs.Changing.{Changes, IsRefusedAs, LeavesAll, expunged};
 ghost use Rattle.mail_store.specs.Kept.{change_at};
-ghost use Rattle.surrogate_cache.specs.Served.{legacy, enabled, WithMeanings};
-ghost use Rattle.pop_session.specs.Machine.{State, authorization, transaction, unmarked, marked, deleted_ids as deleted_ids_of};
+ghost use Rattle.surrogate_cache.specs.Served.{legacy, enabled};
+ghost use Rattle.session_core.specs.Desks.{IsOpen};
+ghost use Rattle.session_core.specs.Doing.{Makes};
+ghost use Rattle.session_core.specs.Keeps.{Keeps, fault_of};
+ghost use Rattle.session_core.specs.Meanings.{WithMeanings};
+ghost use Rattle.pop_session.specs.Machine.{State, authorization, transaction, unmarked, marked, deleted_ids as deleted_ids_of, taken_out};
 ghost use Rattle.pop_session.specs.States.{state_of, IsLogin, Knows, KnowsLogin};
 
-use mail_store::{Listed, Store, StoreFault};
-use mail_wire::{Keeper, Memory, Octets};
+use mail_store::{Listed, Store};
+use mail_wire::{Clock, Fault, Keeper, Memory, Octets, Wire};
+use session_core::Outside;
 use std::alloc::Global;
 use std::marker::PhantomData;
 use surrogate_cache::{Enabled, Legacy, View};
@@ -229,21 +232,17 @@ impl<V: Kind> Pop<Transaction, V> {
 
 impl<V: Kind> Pop<Update, V> {
     /// Takes the marked messages out of the store, by one call; where none is marked the keeper isn't called.
-    pub fn update<J: Keeper>(
+    pub fn update<W: Wire, J: Keeper, C: Clock>(
         self,
-        alloc: Global,
-        store: &mut Store,
-        keeper: &mut J,
-    ) -> Result<(), StoreFault>
-        requires works { store.old.failed ≡ false }
-        requires known { Knows store.old self.state.maildrop.items }
-        ensures changes { Changes store.old store.new (J.tells keeper.old).octets (J.tells keeper.new).octets result
-            (expunged (deleted_ids_of self.state.maildrop.items)) }
-        ensures nothing { deleted_ids_of self.state.maildrop.items ≡ [] → LeavesAll store.old store.new (J.tells keeper.old) (J.tells keeper.new) result }
-        ensures refusal { IsRefusedAs result None }
-        ensures cause { HasKeeperCause (J.tells keeper.old) (J.tells keeper.new) result StoreFault.Keeper }
+        outside: &mut Outside<W, J, C>,
+    ) -> Result<(), Fault>
+        requires opens { IsOpen outside.old.desk }
+        requires known { Knows outside.old.desk.store self.state.maildrop.items }
+        ensures makes { Makes outside.old outside.new (fault_of result) (taken_out (deleted_ids_of self.state.maildrop.items)) }
+        ensures nothing { deleted_ids_of self.state.maildrop.items ≡ [] → outside.new ≡ outside.old }
+        ensures keeps { Keeps outside.old outside.new (fault_of result) }
     {
-        let ids = deleted_ids(alloc, &self.state.maildrop)?;
-        store.expunge(keeper, &ids)
+        let ids = deleted_ids(outside.alloc(), &self.state.maildrop)?;
+        outside.expunge(&ids)
     }
 }

@@ -1,13 +1,17 @@
 //! Gives what is shown of a message as a reply of many lines.
-ghost use Rattle.std.specs.Prelude.{◌≡◌, ◌≤◌, ◌++◌, length, take, IfOk, OnOk, OnErr, [], if◌then◌else◌, Err, codes};
+ghost use Rattle.std.specs.Prelude.{◌≡◌, ◌<◌, ◌≤◌, ◌++◌, length, take, IfOk, OnOk, OnErr, [], if◌then◌else◌, Err, codes};
 ghost use Rattle.mail_wire.specs.Lines.{crlf};
-ghost use Rattle.mail_wire.specs.Moves.{GivesOrFails, GivesPrefix, HasWireCause};
+ghost use Rattle.mail_wire.specs.Moves.{GivesPrefix};
 ghost use Rattle.surrogate_rope.specs.Served.{IsShownOf, shown_octets};
+ghost use Rattle.session_core.specs.Around.{LeavesDesk};
+ghost use Rattle.session_core.specs.Desks.{octets_at};
+ghost use Rattle.session_core.specs.Doing.{Replies};
+ghost use Rattle.session_core.specs.Keeps.{Keeps, fault_of};
 ghost use Rattle.pop_session.specs.Replies.{multi_line};
 ghost use Rattle.pop_session.specs.private.Stuffing.{is_start, needs_dot, next_place as place_behind, place_after, stuffed_from, PassesOn};
 
-use mail_wire::{Fault, Memory, Octets, PIECE, Wire, give_all};
-use std::alloc::Global;
+use mail_wire::{Clock, Fault, Keeper, Memory, Octets, PIECE, Wire};
+use session_core::Outside;
 use surrogate_rope::Shown;
 
 /// Where in its line an octet stands.
@@ -52,16 +56,20 @@ fn push_stuffed(pending: &mut Octets, place: Place, piece: &[u8]) -> Result<Plac
 }
 
 // Gives what is pending, once it is a piece.
-fn give_piece<W: Wire>(pending: &mut Octets, wire: &mut W) -> Result<(), Fault>
-    ensures passes { OnOk result (PassesOn (W.tells wire.old) (W.tells wire.new) pending.old pending.new) }
-    ensures fails { OnErr result (GivesPrefix (W.tells wire.old) (W.tells wire.new) pending.old) }
-    ensures cause { HasWireCause (W.tells wire.old) (W.tells wire.new) result Fault.Wire }
+fn give_piece<W: Wire, J: Keeper, C: Clock>(
+    pending: &mut Octets,
+    outside: &mut Outside<W, J, C>,
+) -> Result<(), Fault>
+    ensures passes { OnOk result (PassesOn outside.old.wire outside.new.wire pending.old pending.new) }
+    ensures fails { OnErr result (GivesPrefix outside.old.wire outside.new.wire pending.old) }
+    ensures leaves { LeavesDesk outside.old outside.new }
     ensures keeper { ¬ (result ≡ Err Fault.Keeper) }
+    ensures keeps { Keeps outside.old outside.new (fault_of result) }
 {
     if pending.len() < PIECE {
         return Ok(());
     }
-    give_all(wire, pending.as_slice())?;
+    outside.give(pending.as_slice())?;
     pending.clear();
     Ok(())
 }
@@ -77,42 +85,46 @@ fn missing_end(place: Place) -> &'static [u8]
 }
 
 // Puts the end of a reply of many lines last, which stands here, and gives all that is pending.
-fn give_end<W: Wire>(mut pending: Octets, place: Place, wire: &mut W) -> Result<(), Fault>
-    ensures gives { GivesOrFails (W.tells wire.old) (W.tells wire.new) result
+fn give_end<W: Wire, J: Keeper, C: Clock>(
+    mut pending: Octets,
+    place: Place,
+    outside: &mut Outside<W, J, C>,
+) -> Result<(), Fault>
+    ensures replies { Replies outside.old outside.new (fault_of result)
         (pending ++ ((if is_start place then [] else crlf) ++ codes ".\r\n")) }
-    ensures cause { HasWireCause (W.tells wire.old) (W.tells wire.new) result Fault.Wire }
-    ensures keeper { ¬ (result ≡ Err Fault.Keeper) }
+    ensures keeps { Keeps outside.old outside.new (fault_of result) }
 {
     pending.push_slice(missing_end(place))?;
     pending.push_slice(b".\r\n")?;
-    give_all(wire, pending.as_slice())
+    outside.give(pending.as_slice())
 }
 
-/// Gives the first octets, so many, of what is shown of a message as the lines of a reply: each stuffed, and the last one
+/// Gives the first octets, so many, of what is shown of a message of the store as the lines of a reply: each stuffed, and the last one
 /// complete.
-pub fn give_message<W: Wire>(
-    alloc: Global,
+pub fn give_message<W: Wire, J: Keeper, C: Clock>(
+    id: u32,
     shown: &Shown,
-    msg: &[u8],
     len: usize,
-    wire: &mut W,
+    outside: &mut Outside<W, J, C>,
 ) -> Result<(), Fault>
-    requires shown { IsShownOf msg.now shown.now }
-    requires len { len ≤ length (shown_octets msg.now shown.now) }
-    ensures gives { GivesOrFails (W.tells wire.old) (W.tells wire.new) result
-        (codes "+OK\r\n" ++ (multi_line (take len (shown_octets msg.now shown.now)) ++ codes ".\r\n")) }
-    ensures cause { HasWireCause (W.tells wire.old) (W.tells wire.new) result Fault.Wire }
-    ensures keeper { ¬ (result ≡ Err Fault.Keeper) }
+    requires id { id < length outside.old.desk.store.kept.messages }
+    requires shown { IsShownOf (octets_at outside.old.desk.store id) shown.now }
+    requires len { len ≤ length (shown_octets (octets_at outside.old.desk.store id) shown.now) }
+    ensures replies { Replies outside.old outside.new (fault_of result)
+        (codes "+OK\r\n" ++ (multi_line (take len (shown_octets (octets_at outside.old.desk.store id) shown.now)) ++ codes ".\r\n")) }
+    ensures keeps { Keeps outside.old outside.new (fault_of result) }
 {
-    let mut pending = Octets::from_slice(alloc, b"+OK\r\n")?;
+    let mut pending = Octets::from_slice(outside.alloc(), b"+OK\r\n")?;
     let mut place = Place::LineStart;
     let mut at = 0;
     let mut piece = [0; PIECE];
     while at < len {
-        let count = shown.read_at(msg, at, &mut piece).min(len - at);
+        let count = shown
+            .read_at(outside.octets(id), at, &mut piece)
+            .min(len - at);
         place = push_stuffed(&mut pending, place, &piece[..count])?;
-        give_piece(&mut pending, wire)?;
+        give_piece(&mut pending, outside)?;
         at += count;
     }
-    give_end(pending, place, wire)
+    give_end(pending, place, outside)
 }

@@ -1,11 +1,12 @@
-//! Sessions over a wire in memory and a store whose journal was written here: whole, octet by octet and in every single cut.
+//! Sessions over a wire in memory and a journal that was written here: whole, octet by octet and in every single cut.
+ghost use Rattle.session_core.specs.Desks.{IsOpen};
+
 use journal_records::{Record, push_record};
-use mail_store::Store;
-use mail_wire::{Entry, Failure, Fault, MemKeeper, MemWire, Memory, Octets};
-use pop_session::PopSession;
+use mail_wire::{Entry, Failure, Fault, FixedClock, MemKeeper, MemWire, Memory, Octets};
+use pop_session::{PopSession, serve_pop};
+use session_core::{Desk, LIMITS, Outside, Served, feed, open_desk};
 use std::alloc::Global;
 use std::test::Fail;
-use surrogate_cache::Cache;
 
 const CAFE: [u8; 25] = *b"Subject: caf\xc3\xa9 bar\r\n\r\nx\r\n";
 
@@ -34,36 +35,48 @@ fn push_message(alloc: Global, journal: &mut Octets, octets: &[u8]) -> Result<()
     Ok(())
 }
 
-// A store of one account, `ann@example.org` with the password `pw`, and its messages.
-fn store_of(alloc: Global, messages: &[&[u8]]) -> Result<Store, Fail> {
+// The journal of one account, `ann@example.org` with the password `pw`, and its messages.
+fn journal_of(alloc: Global, messages: &[&[u8]]) -> Result<Octets, Fail> {
     let mut journal = Octets::from_slice(alloc, b"MAILJNL1")?;
     push_domain(alloc, &mut journal)?;
     push_account(alloc, &mut journal)?;
     for octets in messages {
         push_message(alloc, &mut journal, octets)?;
     }
-    let mut keeper = MemKeeper::new(journal, Vec::new(alloc));
-    Ok(Store::open(alloc, &mut keeper, 1000)?)
+    Ok(journal)
+}
+
+fn keeper_of(alloc: Global, journal: &Octets) -> Result<MemKeeper, Memory> {
+    let octets = Octets::from_slice(alloc, journal.as_slice())?;
+    Ok(MemKeeper::new(octets, Vec::new(alloc)))
 }
 
 // A session that takes these pieces, one after the other.
-fn serve(
-    alloc: Global,
-    store: &mut Store,
+fn feed_all(
     pieces: &[&[u8]],
-    wire: &mut MemWire,
-) -> Result<(), Fault> {
-    let mut keeper = MemKeeper::new(Octets::new(alloc), Vec::new(alloc));
-    let mut cache = Cache::plain();
-    let mut session = PopSession::start(alloc, wire)?;
+    outside: &mut Outside<MemWire, MemKeeper, FixedClock>,
+) -> Result<(), Fault>
+    requires { IsOpen outside.old.desk }
+{
+    let mut session = PopSession::begin(outside)?;
     for piece in pieces {
-        // one that failed serves nobody
-        if store.failed() {
-            return Err(Fault::Keeper);
-        }
-        session = session.feed(piece, store, &mut cache, wire, &mut keeper)?;
+        session = feed(session, piece, outside)?;
     }
     Ok(())
+}
+
+fn serve(
+    alloc: Global,
+    desk: Desk,
+    pieces: &[&[u8]],
+    wire: &mut MemWire,
+    keeper: &mut MemKeeper,
+) -> Result<(), Fault>
+    requires { IsOpen desk }
+{
+    let mut clock = FixedClock::new(0);
+    let mut outside = Outside::new(alloc, desk, wire, keeper, &mut clock);
+    feed_all(pieces, &mut outside)
 }
 
 // What a wire was given.
@@ -82,46 +95,42 @@ fn wire_of(alloc: Global, failures: Vec<Failure>) -> MemWire {
 }
 
 // What a session is given that takes these pieces.
-fn given(alloc: Global, store: &mut Store, pieces: &[&[u8]]) -> Result<Octets, Fault> {
+fn given(alloc: Global, keeper: &mut MemKeeper, pieces: &[&[u8]]) -> Result<Octets, Fail> {
     let mut wire = wire_of(alloc, Vec::new(alloc));
-    serve(alloc, store, pieces, &mut wire)?;
+    let desk = open_desk(alloc, keeper, LIMITS)?;
+    serve(alloc, desk, pieces, &mut wire, keeper)?;
     Ok(octets_given(alloc, &wire)?)
 }
 
 // What a session is given that takes a stream octet by octet.
-fn given_by_octets(alloc: Global, store: &mut Store, stream: &[u8]) -> Result<Octets, Fault> {
+fn given_by_octets(alloc: Global, keeper: &mut MemKeeper, stream: &[u8]) -> Result<Octets, Fail> {
     let mut octets = Vec::new(alloc);
     for octet in stream.chunks(1) {
-        if octets.push(octet).is_err() {
-            return Err(Fault::Memory);
-        }
+        octets.push(octet)?;
     }
-    given(alloc, store, &octets)
+    given(alloc, keeper, &octets)
 }
 
 // Whether a stream is answered so, whole and octet by octet.
 fn is_answered_at_once(
     alloc: Global,
-    store: &mut Store,
+    journal: &Octets,
     stream: &[u8],
     want: &[u8],
-) -> Result<bool, Fault> {
-    let whole = given(alloc, store, &[stream])?;
-    let by_octets = given_by_octets(alloc, store, stream)?;
+) -> Result<bool, Fail> {
+    let mut keeper = keeper_of(alloc, journal)?;
+    let whole = given(alloc, &mut keeper, &[stream])?;
+    let by_octets = given_by_octets(alloc, &mut keeper, stream)?;
     Ok(whole.as_slice() == want && by_octets.as_slice() == want)
 }
 
 // Whether a stream is answered so, whole, octet by octet and in each single cut.
-fn is_answered(
-    alloc: Global,
-    store: &mut Store,
-    stream: &[u8],
-    want: &[u8],
-) -> Result<bool, Fault> {
-    let mut same = is_answered_at_once(alloc, store, stream, want)?;
+fn is_answered(alloc: Global, journal: &Octets, stream: &[u8], want: &[u8]) -> Result<bool, Fail> {
+    let mut same = is_answered_at_once(alloc, journal, stream, want)?;
+    let mut keeper = keeper_of(alloc, journal)?;
     for (at, _) in stream.iter().enumerate() {
         let (front, back) = stream.split_at(at);
-        same = same && given(alloc, store, &[front, back])?.as_slice() == want;
+        same = same && given(alloc, &mut keeper, &[front, back])?.as_slice() == want;
     }
     Ok(same)
 }
@@ -129,35 +138,35 @@ fn is_answered(
 #[test]
 fn a_message_is_served_to_both_kinds(rt: HostRuntime) -> Result<(), Fail> {
     let alloc = rt.alloc();
-    let mut store = store_of(alloc, &[&CAFE])?;
+    let journal = journal_of(alloc, &[&CAFE])?;
     let legacy = is_answered(
         alloc,
-        &mut store,
+        &journal,
         b"USER ann@example.org\r\nPASS pw\r\nUTF8\r\nSTAT\r\nLIST 1\r\nQUIT\r\n",
         b"+OK ready\r\n+OK\r\n+OK\r\n-ERR out of order\r\n+OK 1 44\r\n+OK 1 44\r\n+OK bye\r\n",
-    );
-    assert!(rt; matches!(legacy, Ok(true)));
+    )?;
+    assert!(rt; legacy);
     let enabled = is_answered(
         alloc,
-        &mut store,
+        &journal,
         b"UTF8\r\nUSER ann@example.org\r\nPASS pw\r\nSTAT\r\nQUIT\r\nQUIT\r\n",
         b"+OK ready\r\n+OK\r\n+OK\r\n+OK\r\n+OK 1 25\r\n+OK bye\r\n",
-    );
-    assert!(rt; matches!(enabled, Ok(true)));
+    )?;
+    assert!(rt; enabled);
     Ok(())
 }
 
 #[test]
 fn messages_are_sent_with_their_dots(rt: HostRuntime) -> Result<(), Fail> {
     let alloc = rt.alloc();
-    let mut store = store_of(alloc, &["Subject: é\r\n\r\n.x\r\n.".as_bytes(), &CAFE])?;
+    let journal = journal_of(alloc, &["Subject: é\r\n\r\n.x\r\n.".as_bytes(), &CAFE])?;
     let shown = is_answered(
         alloc,
-        &mut store,
+        &journal,
         b"user ann@example.org\r\nPass pw\r\nlist\r\nRETR 01\r\nRETR 3\r\nRETR x\r\nNOO\r\nNOO",
         b"+OK ready\r\n+OK\r\n+OK\r\n+OK\r\n1 36\r\n2 44\r\n.\r\n+OK\r\nSubject:\r\n =?UTF-8?B?w6k=?=\r\n\r\n..x\r\n..\r\n.\r\n-ERR no such message\r\n-ERR syntax\r\n-ERR syntax\r\n",
-    );
-    assert!(rt; matches!(shown, Ok(true)));
+    )?;
+    assert!(rt; shown);
     Ok(())
 }
 
@@ -167,61 +176,63 @@ const PARTS: &str =
 #[test]
 fn fields_of_parts_are_served_to_both_kinds(rt: HostRuntime) -> Result<(), Fail> {
     let alloc = rt.alloc();
-    let mut store = store_of(alloc, &[PARTS.as_bytes()])?;
+    let journal = journal_of(alloc, &[PARTS.as_bytes()])?;
     let legacy = is_answered_at_once(
         alloc,
-        &mut store,
+        &journal,
         b"USER ann@example.org\r\nPASS pw\r\nRETR 1\r\n",
         "+OK ready\r\n+OK\r\n+OK\r\n+OK\r\nContent-Type: multipart/mixed; boundary=b\r\n\r\n--b\r\nSubject:\r\n =?UTF-8?B?w6k=?=\r\n\r\n..x\r\n--b\r\nContent-Type: message/rfc822\r\n\r\nSubject:\r\n =?UTF-8?B?w6k=?=\r\n\r\né\r\n--b--\r\n.\r\n".as_bytes(),
-    );
-    assert!(rt; matches!(legacy, Ok(true)));
+    )?;
+    assert!(rt; legacy);
     let enabled = is_answered_at_once(
         alloc,
-        &mut store,
+        &journal,
         b"UTF8\r\nUSER ann@example.org\r\nPASS pw\r\nRETR 1\r\n",
         "+OK ready\r\n+OK\r\n+OK\r\n+OK\r\n+OK\r\nContent-Type: multipart/mixed; boundary=b\r\n\r\n--b\r\nSubject: é\r\n\r\n..x\r\n--b\r\nContent-Type: message/global\r\n\r\nSubject: é\r\n\r\né\r\n--b--\r\n.\r\n".as_bytes(),
-    );
-    assert!(rt; matches!(enabled, Ok(true)));
+    )?;
+    assert!(rt; enabled);
     Ok(())
 }
 
 #[test]
 fn commands_without_an_end_and_empty_mailboxes(rt: HostRuntime) -> Result<(), Fail> {
     let alloc = rt.alloc();
-    let mut store = store_of(alloc, &[])?;
-    let greeted = is_answered(alloc, &mut store, b"NOO", b"+OK ready\r\n");
-    assert!(rt; matches!(greeted, Ok(true)));
+    let journal = journal_of(alloc, &[])?;
+    let greeted = is_answered(alloc, &journal, b"NOO", b"+OK ready\r\n")?;
+    assert!(rt; greeted);
     let empty = is_answered(
         alloc,
-        &mut store,
+        &journal,
         b"STAT\r\nPASS pw\r\nUSER \r\nUSER ann@example.org\r\nPASS no\r\nPASS pw\r\nUSER ann@example.org\r\nPASS pw\r\nSTAT\r\nSTAT \r\nLIST\r\n",
         b"+OK ready\r\n-ERR out of order\r\n-ERR out of order\r\n-ERR syntax\r\n+OK\r\n-ERR no\r\n-ERR out of order\r\n+OK\r\n+OK\r\n+OK 0 0\r\n-ERR syntax\r\n+OK\r\n.\r\n",
-    );
-    assert!(rt; matches!(empty, Ok(true)));
+    )?;
+    assert!(rt; empty);
     Ok(())
 }
 
 #[test]
 fn marked_messages_go_at_quit(rt: HostRuntime) -> Result<(), Fail> {
     let alloc = rt.alloc();
-    let mut store = store_of(alloc, &[b"A: 1\r\n\r\n.x\r\ny\r\n", &CAFE, b"A: 3\r\n"])?;
+    let journal = journal_of(alloc, &[b"A: 1\r\n\r\n.x\r\ny\r\n", &CAFE, b"A: 3\r\n"])?;
+    let mut keeper = keeper_of(alloc, &journal)?;
     let marked = given(
         alloc,
-        &mut store,
+        &mut keeper,
         &[
             b"USER ann@example.org\r\nPASS pw\r\nDELE 2\r\nUIDL\r\nTOP 1 1\r\nLIST 2\r\nRSET\r\nSTAT\r\nDELE 1\r\nNOOP\r\nCAPA\r\nQUIT\r\n",
         ],
-    );
+    )?;
     let want =
         b"+OK ready\r\n+OK\r\n+OK\r\n+OK\r\n+OK\r\n1 1\r\n3 3\r\n.\r\n+OK\r\nA: 1\r\n\r\n..x\r\n.\r\n-ERR no such message\r\n+OK\r\n+OK 3 65\r\n+OK\r\n+OK\r\n+OK\r\nUTF8 USER\r\nTOP\r\nUIDL\r\nUSER\r\n.\r\n+OK bye\r\n";
-    assert!(rt; marked.is_ok_and(|octets| octets.as_slice() == want.as_slice()));
-    let left = is_answered(
+    assert!(rt; marked.as_slice() == want.as_slice());
+    let left = given(
         alloc,
-        &mut store,
-        b"USER ann@example.org\r\nPASS pw\r\nLIST\r\nUIDL\r\nTOP 2 0\r\n",
-        b"+OK ready\r\n+OK\r\n+OK\r\n+OK\r\n1 44\r\n2 6\r\n.\r\n+OK\r\n1 2\r\n2 3\r\n.\r\n+OK\r\nA: 3\r\n.\r\n",
-    );
-    assert!(rt; matches!(left, Ok(true)));
+        &mut keeper,
+        &[b"USER ann@example.org\r\nPASS pw\r\nLIST\r\nUIDL\r\nTOP 2 0\r\n"],
+    )?;
+    let want =
+        b"+OK ready\r\n+OK\r\n+OK\r\n+OK\r\n1 44\r\n2 6\r\n.\r\n+OK\r\n1 2\r\n2 3\r\n.\r\n+OK\r\nA: 3\r\n.\r\n";
+    assert!(rt; left.as_slice() == want.as_slice());
     Ok(())
 }
 
@@ -236,34 +247,51 @@ fn line_and_quit(alloc: Global, len: usize) -> Result<Vec<u8>, Fail> {
 #[test]
 fn a_line_too_long_ends_the_session(rt: HostRuntime) -> Result<(), Fail> {
     let alloc = rt.alloc();
-    let mut store = store_of(alloc, &[])?;
+    let journal = journal_of(alloc, &[])?;
     let longest = line_and_quit(alloc, 65_534)?;
     let bye = b"+OK ready\r\n-ERR syntax\r\n+OK bye\r\n";
-    let known = is_answered_at_once(alloc, &mut store, &longest, bye);
-    assert!(rt; matches!(known, Ok(true)));
+    let known = is_answered_at_once(alloc, &journal, &longest, bye)?;
+    assert!(rt; known);
     let longer = line_and_quit(alloc, 65_535)?;
     let end = b"+OK ready\r\n-ERR line too long\r\n";
-    let refused = is_answered_at_once(alloc, &mut store, &longer, end);
-    assert!(rt; matches!(refused, Ok(true)));
+    let refused = is_answered_at_once(alloc, &journal, &longer, end)?;
+    assert!(rt; refused);
     Ok(())
 }
 
 #[test]
 fn after_a_fault_a_prefix_was_given(rt: HostRuntime) -> Result<(), Fail> {
     let alloc = rt.alloc();
-    let mut store = store_of(alloc, &[&CAFE])?;
+    let journal = journal_of(alloc, &[&CAFE])?;
+    let mut keeper = keeper_of(alloc, &journal)?;
     let stream = b"USER ann@example.org\r\nPASS pw\r\nRETR 1\r\nQUIT\r\n";
-    let Ok(all) = given(alloc, &mut store, &[stream]) else {
-        return Err(Fail::from("a fault without a cause"));
-    };
+    let all = given(alloc, &mut keeper, &[stream])?;
     for call in 0..6 {
         let failures = Vec::from_slice(alloc, &[Failure { call, kept: 3 }])?;
         let mut wire = wire_of(alloc, failures);
-        let served = serve(alloc, &mut store, &[stream], &mut wire);
+        let desk = open_desk(alloc, &mut keeper, LIMITS)?;
+        let served = serve(alloc, desk, &[stream], &mut wire, &mut keeper);
         let octets = octets_given(alloc, &wire)?;
         assert!(rt; matches!(served, Err(Fault::Wire)) == (call < 5));
         assert!(rt; all.as_slice().starts_with(octets.as_slice()));
         assert!(rt; (octets.len() < all.len()) == (call < 5));
     }
+    Ok(())
+}
+
+#[test]
+fn a_session_is_served_over_its_wire(rt: HostRuntime) -> Result<(), Fail> {
+    let alloc = rt.alloc();
+    let mut keeper = keeper_of(alloc, &journal_of(alloc, &[])?)?;
+    let desk = open_desk(alloc, &mut keeper, LIMITS)?;
+    let input = Octets::from_slice(alloc, b"NOOP\r\nQUIT\r\nNOOP\r\n")?;
+    let mut wire = MemWire::new(alloc, input, Vec::from_slice(alloc, &[3])?, Vec::new(alloc));
+    let mut clock = FixedClock::new(0);
+    let mut outside = Outside::new(alloc, desk, &mut wire, &mut keeper, &mut clock);
+    let served = serve_pop(&mut outside);
+    let (_desk, _wire, _keeper, _clock) = outside.into_parts();
+    assert!(rt; served == Served::Ended);
+    let octets = octets_given(alloc, &wire)?;
+    assert!(rt; octets.as_slice() == b"+OK ready\r\n-ERR out of order\r\n+OK bye\r\n".as_slice());
     Ok(())
 }

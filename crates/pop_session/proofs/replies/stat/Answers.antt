@@ -16,9 +16,10 @@ loop-one-preserved g c = elim c.if-not-one.branch [
       record {
         counted = w.count-is ∙ count-kept c.args.maildrop.now c.loop-one.one-index d c.loop-one.count c.loop-one-test.true w.if-not-one.true c.loop-one.invariant.counted;
         few = omega (arith, w.count-is, c.loop-one.invariant.few);
-        summed = λ meanings gives. w.total-is ∙ sum-kept (size_of meanings g.V.View.mode c.args.store.now) c.args.maildrop.now c.loop-one.one-index d c.loop-one.total
-            w.in_ok-total.field-0 c.loop-one-test.true w.if-not-one.true (w.in_ok-total.ensures meanings gives) (c.loop-one.invariant.summed meanings gives);
+        summed = λ meanings gives. w.total-is ∙ sum-kept (size_of meanings g.V.View.mode c.args.outside.now.desk.store) c.args.maildrop.now c.loop-one.one-index d c.loop-one.total
+            w.in_ok-total.field-0 c.loop-one-test.true w.if-not-one.true (rw c.loop-one.invariant.same at (w.in_ok-total.ensures.size meanings gives)) (c.loop-one.invariant.summed meanings gives);
         fits = omega (arith, w.total-is, c.loop-one.invariant.fits, small);
+        same = w.outside-is ∙ w.size.ensures.same ∙ c.loop-one.invariant.same;
       }
   | else-not-one w ↦
       let same = left-marked c.args.maildrop.now c.loop-one.one-index d c.loop-one-test.true w.if-not-one.false in
@@ -27,5 +28,6 @@ loop-one-preserved g c = elim c.if-not-one.branch [
         few = omega (arith, w.count-is, c.loop-one.invariant.few);
         summed = λ meanings gives. rw same (w.total-is ∙ c.loop-one.invariant.summed meanings gives);
         fits = omega (arith, w.total-is, c.loop-one.invariant.fits);
+        same = w.outside-is ∙ c.loop-one.invariant.same;
       }
 ]

@@ -1,5 +1,5 @@
 use Rattle.std.proofs.Common.{◌≡◌, ◌≤◌, ◌*◌, ◌^◌, take, sum_by, length}
-use Rattle.surrogate_cache.specs.Served.{WithMeanings}
+use Rattle.session_core.specs.Meanings.{WithMeanings}
 use Rattle.pop_session.specs.Machine.{size_of, left_of}
 use Rattle.pop_session.proofs.replies.stat.Given as goal
 
@@ -7,6 +7,7 @@ abbrev pub invariant-loop-one : goal.invariant-loop-one
 invariant-loop-one g l = record {
   counted : l.count ≡ length (left_of (take l.one-index l.maildrop));
   few : l.count ≤ l.one-index;
-  summed : WithMeanings (λ meanings. l.total ≡ sum_by (size_of meanings g.V.View.mode l.store) (left_of (take l.one-index l.maildrop)));
+  summed : WithMeanings (λ meanings. l.total ≡ sum_by (size_of meanings g.V.View.mode l.fn.outside.desk.store) (left_of (take l.one-index l.maildrop)));
   fits : l.total ≤ l.one-index * 2 ^ 64;
+  same : l.outside ≡ l.fn.outside;
 }

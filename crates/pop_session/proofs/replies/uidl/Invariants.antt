@@ -1,6 +1,6 @@
 use Rattle.std.proofs.Common.{◌≡◌, ◌++◌, ◌+◌, drop, string_bytes, codes}
 use Rattle.mail_wire.specs.Lines.{crlf}
-use Rattle.surrogate_cache.specs.Served.{Meanings}
+use Rattle.session_core.specs.Meanings.{Meanings}
 use Rattle.pop_session.specs.Machine.{listing_from, uid_row}
 use Rattle.pop_session.specs.Replies.{reply_octets}
 use Rattle.pop_session.proofs.replies.uidl.Given as goal

@@ -1,38 +1,36 @@
-use Rattle.std.proofs.Common.{refl, [], ◌∷◌}
-use Rattle.mail_store.specs.Changing.{expunged}
-use Rattle.mail_store.proofs.DoingLemmas.{Does-none, Does-made}
-use Rattle.mail_store.proofs.FollowLemmas.{Breaks-one}
-use Rattle.mail_wire.specs.declared.outside.Fault.TheVariants as fault
-use Rattle.pop_session.specs.Machine.{deleted_ids, taken_out, bye}
+use Rattle.std.proofs.Common.{Some, None, refl}
+use Rattle.std.proofs.lemmas.Result.{err_from_is_err_and}
+use Rattle.session_core.proofs.DoingLemmas.{Does-changes, Does-unchanged}
+use Rattle.pop_session.specs.Machine.{bye, deleted_ids, taken_out}
 use Rattle.pop_session.specs.Replies.{part_octets}
-use Rattle.pop_session.proofs.MaildropLemmas.{expunged_name}
-use Rattle.pop_session.proofs.TakenLemmas.{follows_taken, broken_taken}
 use Rattle.pop_session.proofs.session.quit.Goals as goal
 
-pub returns-in-Ok-clause-does : goal.returns-in-Ok-clause-does
-returns-in-Ok-clause-does g c meanings =
-    let ids = deleted_ids c.args.pop.state.maildrop.items in
-    let made = rw c.quit.ensures at c.in-Ok.ensures.changes in
-    Does-made (part_octets meanings) (g.W.Wire.tells c.args.wire.now) (g.W.Wire.tells c.give_all.new.wire) c.args.store.now c.update.new.store
-    (g.J.Keeper.tells c.args.keeper.now).octets (g.J.Keeper.tells c.update.new.keeper).octets c.give_all.result (taken_out ids) bye
-    (follows_taken c.args.store.now c.update.new.store (g.J.Keeper.tells c.args.keeper.now).octets (g.J.Keeper.tells c.update.new.keeper).octets ids made)
-    c.give_all.ensures.gives c.give_all.ensures.keeper
+pub returns-in_err-update-clause-takes : goal.returns-in_err-update-clause-takes
+returns-in_err-update-clause-takes g c =
+    let failed = err_from_is_err_and c.from_residual.result c.from_residual.ensures.1 in
+    let makes = rw c.quit.ensures at c.in_err-update.ensures.makes in
+    rw (failed.1, failed.2) (record {
+      does = λ meanings are. Does-unchanged (part_octets meanings) c.args.outside.now c.update.new.outside c.in_err-update.field-0.0 (taken_out (deleted_ids c.args.pop.state.maildrop.items)) bye makes;
+      next = λ meanings are. tt;
+      known = tt;
+    })
 
-pub returns-in-Err-Keeper-clause-does : goal.returns-in-Err-Keeper-clause-does
-returns-in-Err-Keeper-clause-does g c meanings =
-    let ids = deleted_ids c.args.pop.state.maildrop.items in
-    let broken = rw (c.in-Err-Keeper.field-0-is, c.quit.ensures) at c.in-Err-Keeper.ensures.changes in
-    let left = rw (c.in-Err-Keeper.field-0-is, c.quit.ensures) at c.in-Err-Keeper.ensures.nothing in
-    broken_taken (part_octets meanings) (g.W.Wire.tells c.args.wire.now) c.args.store.now c.update.new.store
-    (g.J.Keeper.tells c.args.keeper.now).octets (g.J.Keeper.tells c.update.new.keeper).octets ids bye (λ none. (left none).answer refl)
-    (Breaks-one c.args.store.now c.update.new.store (g.J.Keeper.tells c.args.keeper.now).octets (g.J.Keeper.tells c.update.new.keeper).octets (expunged ids) broken)
+pub returns-in_err-give-clause-takes : goal.returns-in_err-give-clause-takes
+returns-in_err-give-clause-takes g c =
+    let failed = err_from_is_err_and c.from_residual-in_err-give.result c.from_residual-in_err-give.ensures.1 in
+    let makes = rw c.quit.ensures at c.in_ok-update.ensures.makes in
+    rw (failed.1, failed.2) (record {
+      does = λ meanings are. Does-changes (part_octets meanings) c.args.outside.now c.update.new.outside c.give.new.self (Some c.in_err-give.field-0.0) (taken_out (deleted_ids c.args.pop.state.maildrop.items)) bye
+          makes c.in_err-give.ensures.replies;
+      next = λ meanings are. tt;
+      known = tt;
+    })
 
-pub returns-in-Ok-clause-name : goal.returns-in-Ok-clause-name
-returns-in-Ok-clause-name g c =
-    let made = rw c.quit.ensures at c.in-Ok.ensures.changes in
-    expunged_name c.args.store.now c.update.new.store (deleted_ids c.args.pop.state.maildrop.items) made.1
-
-pub returns-in-Err-Memory-clause-does : goal.returns-in-Err-Memory-clause-does
-returns-in-Err-Memory-clause-does g c meanings =
-    let same = rw c.in-Err-Memory.field-0-is at c.in-Err-Memory.ensures.changes in
-    rw (same.0, same.1) (Does-none (part_octets meanings) (g.W.Wire.tells c.args.wire.now) c.args.store.now (g.J.Keeper.tells c.args.keeper.now).octets fault.Memory _ (λ bad. cc))
+pub returns-clause-takes : goal.returns-clause-takes
+returns-clause-takes g c =
+    let makes = rw c.quit.ensures at c.in_ok-update.ensures.makes in
+    record {
+      does = λ meanings are. Does-changes (part_octets meanings) c.args.outside.now c.update.new.outside c.give.new.self None (taken_out (deleted_ids c.args.pop.state.maildrop.items)) bye makes c.in_ok-give.ensures.replies;
+      next = λ meanings are. refl;
+      known = tt;
+    }

@@ -1,0 +1,37 @@
+-- How an answer of a protocol is shown to be its row.
+use Rattle.std.proofs.Common.{◌≡◌, ℕ, List, [], Result, Err, Option}
+use Rattle.std.specs.Prelude.{IfOk}
+use Rattle.std.specs.List.{flat_map}
+use Rattle.std.proofs.lemmas.List.Elements.{All-nil}
+use Rattle.mail_wire.specs.declared.outside.Fault.{Fault}
+use Rattle.mail_wire.specs.declared.outside.Fault.TheVariants as fault
+use Rattle.mail_store.specs.Acts.{acts_of}
+use Rattle.session_core.specs.Around.{Around, IsTold}
+use Rattle.session_core.specs.Doing.{Replies}
+use Rattle.session_core.specs.Grammar.{Grammar, Answers, StandingRows, StandsNext}
+use Rattle.session_core.specs.Keeps.{fault_of}
+use Rattle.session_core.specs.Meanings.{Meanings, WithMeanings}
+use Rattle.session_core.proofs.DoingLemmas.{Does-replies, DoesFirst-none}
+
+-- nothing of it was done
+pub Answers-stop : (grammar : Grammar) {R : Type 0} (stands : StandingRows grammar R) (a : Around) (rows : R) (unit : List ℕ) (met : Fault) → (met ≡ fault.Keeper → ⊥) → Answers grammar stands a a rows unit (Err met)
+Answers-stop grammar stands a rows unit met fine = record {
+  told = [];
+  are_told = All-nil (IsTold a.clock);
+  answers = λ meanings are more state stood. record { does = DoesFirst-none (grammar.spelled meanings) a met (grammar.row meanings state unit).acts fine; next = tt };
+}
+
+-- a reply, given or broken off, whatever functions tell its octets
+pub Answers-reply : (grammar : Grammar) {R : Type 0} (stands : StandingRows grammar R) (a b : Around) (rows : R) (unit : List ℕ) (result : Result (Option R) Fault) (reply : Meanings → List grammar.P)
+    (after : Meanings → List ℕ → grammar.S) (octets : List ℕ)
+    → WithMeanings (λ meanings. (more : List ℕ) (state : grammar.S) → stands more rows a.desk state → grammar.row meanings state unit ≡ record { acts = acts_of [] (reply meanings); after = after meanings more })
+    → WithMeanings (λ meanings. flat_map (grammar.spelled meanings) (reply meanings) ≡ octets) → Replies a b (fault_of result) octets
+    → WithMeanings (λ meanings. (more : List ℕ) → IfOk result (λ next. StandsNext grammar stands more next b.desk (after meanings more))) → Answers grammar stands a b rows unit result
+Answers-reply grammar stands a b rows unit result reply after octets has spelled replies next = record {
+  told = [];
+  are_told = All-nil (IsTold a.clock);
+  answers = λ meanings are more state stood. rw (has meanings are more state stood) (record {
+    does = Does-replies (grammar.spelled meanings) a b (fault_of result) (reply meanings) (rw (spelled meanings are) replies);
+    next = next meanings are more;
+  });
+}

@@ -1,0 +1,173 @@
+-- What a store keeps of its name and of its messages' trees, whatever is put last in it.
+use Rattle.std.proofs.Common.{◌≡◌, ℕ, cond, Bool, true, false, List, [], ◌∷◌, map, Option, None, Some, Result, Ok, Err, refl, ap, ◌∙◌, append-nil}
+use Rattle.std.specs.Prelude.{codes, slice_index_or}
+use Rattle.std.specs.List.{AllByRecursion}
+use Rattle.std.proofs.lemmas.List.Elements.{All-from_recursion, recursion_from_All}
+use Rattle.mail_wire.specs.KeeperTelling.{KeeperTelling}
+use Rattle.mail_wire.specs.Keeping.{HasKeeperCause}
+use Rattle.mail_wire.specs.declared.outside.Fault.{Fault}
+use Rattle.mail_wire.specs.declared.outside.Fault.TheVariants as fault
+use Rattle.mail_wire.proofs.Feeding.{all-append}
+use Rattle.mail_wire.proofs.Moving.{GoesOn-nil, HasWireCause-fine}
+use Rattle.mail_store.specs.Changing.{copy_for, delivered, delivery_refusal, expunged, inboxes_of, queued}
+use Rattle.mail_store.specs.Following.{records_of}
+use Rattle.mail_store.specs.Kept.{Kept, after, after_all, change_at, gone, name_of, with_flags}
+use Rattle.mail_store.specs.Records.{AreRecords, IsRecord}
+use Rattle.journal_records.specs.Stored.{IsStored}
+use Rattle.mail_store.specs.StoreState.{StoreState, AreStored}
+use Rattle.mail_store.specs.declared.changing.StoreFault.{StoreFault}
+use Rattle.mail_store.specs.declared.delivery.Delivery.{Delivery}
+use Rattle.mail_store.specs.declared.kept.Message.{Message}
+use Rattle.journal_records.specs.declared.records.Record.{Record}
+use Rattle.journal_records.specs.declared.records.Record.TheVariants as records
+use Rattle.mail_store.proofs.ChangeLemmas.{after_all-append}
+use Rattle.mail_store.proofs.DeliveryLemmas.{after-copies}
+use Rattle.mail_store.proofs.SameMessages.{AreSameMessages-flags, AreSameMessages-gone, stored-same}
+use Rattle.session_core.specs.Around.{Around}
+use Rattle.session_core.specs.Changes.{calls_of, changes_of, unless_refused}
+use Rattle.session_core.specs.Doing.{IsChanged}
+use Rattle.session_core.specs.Keeps.{Keeps, answer_of, fault_of}
+
+-- ---- what holds after any records
+
+-- the octets of each message may be kept
+abbrev AllStored : List Message → Type 0
+AllStored messages = AllByRecursion (λ (message : Message). IsStored message.octets) messages
+
+stored_after : (kept : Kept) (one : Record) → IsRecord kept one → AllStored kept.messages → AllStored (after kept one).messages
+stored_after kept (records.Message folder flags date octets) is stored =
+    all-append (λ (message : Message). IsStored message.octets) kept.messages (record { folder = folder; flags = flags; live = true; date = date; octets = octets } ∷ []) stored (is.in_order.3, tt)
+stored_after kept (records.Flags message flags) is stored = stored-same kept.messages (change_at (with_flags flags) kept.messages message) (AreSameMessages-flags flags kept.messages message).octets stored
+stored_after kept (records.Expunge message) is stored = stored-same kept.messages (change_at gone kept.messages message) (AreSameMessages-gone kept.messages message).octets stored
+stored_after kept (records.Account address password) is stored = stored
+stored_after kept (records.Domain name) is stored = stored
+stored_after kept (records.Folder account name) is stored = stored
+stored_after kept (records.Queue path addresses octets) is stored = stored
+stored_after kept (records.Settle entry index) is stored = stored
+
+stored_all : (kept : Kept) (all : List Record) → AreRecords kept all → AllStored kept.messages → AllStored (after_all kept all).messages
+stored_all kept [] are stored = stored
+stored_all kept (one ∷ others) are stored = stored_all (after kept one) others are.1 (stored_after kept one are.0 stored)
+
+-- so it is after changes
+pub AreStored-after : (kept : Kept) (all : List Record) → AreRecords kept all → AreStored kept.messages → AreStored (after_all kept all).messages
+AreStored-after kept all are stored = record {
+  each = All-from_recursion (λ (message : Message). IsStored message.octets) (after_all kept all).messages
+      (stored_all kept all are (recursion_from_All (λ (message : Message). IsStored message.octets) kept.messages stored.each));
+}
+
+-- ---- a store's name stays
+
+-- no domain comes with what waits
+queue_domains : (kept : Kept) (none : Bool) (path : List ℕ) (addresses : List (List ℕ)) (octets : List ℕ)
+    → (after_all kept (cond none [] (records.Queue path addresses octets ∷ []))).domains ≡ kept.domains
+queue_domains kept true path addresses octets = refl
+queue_domains kept false path addresses octets = refl
+
+queued_domains : (kept : Kept) (delivery : Delivery) → (after_all kept (queued delivery)).domains ≡ kept.domains
+queued_domains kept delivery = queue_domains kept _ _ _ _
+
+delivered_domains : (kept : Kept) (delivery : Delivery) → (after_all kept (delivered kept delivery)).domains ≡ kept.domains
+delivered_domains kept delivery =
+    let copies = map (copy_for delivery.date delivery.local_octets) (inboxes_of kept delivery.local) in
+    ap (λ (k : Kept). k.domains) (after_all-append kept copies (queued delivery)) ∙ queued_domains (after_all kept copies) delivery
+    ∙ ap (λ (k : Kept). k.domains) (after-copies kept delivery.date delivery.local_octets (inboxes_of kept delivery.local))
+
+same_name : (old new : Kept) → new.domains ≡ old.domains → name_of new ≡ name_of old
+same_name old new same = ap (λ (l : List (List ℕ)). slice_index_or l 0 (codes "localhost")) same
+
+-- these changes leave the name as it is
+abbrev pub KeepsName : StoreState → List (List Record) → Type 0
+KeepsName store made = name_of (after_all store.kept (records_of made)) ≡ name_of store.kept
+
+unless_name : (store : StoreState) (all : List Record) (refusal : Option StoreFault) → (after_all store.kept all).domains ≡ store.kept.domains → KeepsName store (unless_refused refusal all)
+unless_name store all None same = rw (append-nil all) (same_name store.kept (after_all store.kept all) same)
+unless_name store all (Some refusal) same = refl
+
+delivery_name : (store : StoreState) (delivery : Delivery) → KeepsName store (changes_of store delivery)
+delivery_name store delivery = unless_name store (delivered store.kept delivery) (delivery_refusal store delivery) (delivered_domains store.kept delivery)
+
+expunged_domains : (kept : Kept) (ids : List ℕ) → (after_all kept (expunged ids)).domains ≡ kept.domains
+expunged_domains kept [] = refl
+expunged_domains kept (id ∷ ids) = expunged_domains (after kept (records.Expunge id)) ids
+
+calls_name : (store : StoreState) (all : List Record) → (after_all store.kept all).domains ≡ store.kept.domains → KeepsName store (calls_of all)
+calls_name store [] same = refl
+calls_name store (one ∷ others) same = rw (append-nil (one ∷ others)) (same_name store.kept (after_all store.kept (one ∷ others)) same)
+
+expunged_name : (store : StoreState) (ids : List ℕ) → KeepsName store (calls_of (expunged ids))
+expunged_name store ids = calls_name store (expunged ids) (expunged_domains store.kept ids)
+
+-- ---- what a change leaves
+
+abbrev pub with_store : Around → StoreState → KeeperTelling → Around
+with_store a store keeper = record a { desk = record a.desk { store = store }; keeper = keeper }
+
+changed_keeps : (a : Around) (store : StoreState) (keeper : KeeperTelling) (met : Option Fault) (made : List (List Record)) → KeepsName a.desk.store made
+    → IsChanged a.desk.store store a.keeper.octets keeper.octets met made → HasKeeperCause a.keeper keeper (answer_of met) fault.Keeper → ¬ (met ≡ Some fault.Wire) → Keeps a (with_store a store keeper) met
+changed_keeps a store keeper None made named changed cause wire = record {
+  wire = HasWireCause-fine a.wire a.wire (answer_of None) fault.Wire (GoesOn-nil a.wire) (λ bad. cc);
+  keeper = cause;
+  works = λ fine opens. record {
+    limits = opens.limits;
+    agrees = rw changed.store opens.agrees;
+    works = rw changed.store opens.works;
+    named = rw (changed.store, named) opens.named;
+    stored = rw changed.store (AreStored-after a.desk.store.kept (records_of made) changed.records opens.stored);
+    cached = tt;
+  };
+  limit = rw changed.store refl;
+  name = rw changed.store named;
+  limits = refl;
+  clock = refl;
+  loans = refl;
+}
+changed_keeps a store keeper (Some fault.Keeper) made named changed cause wire = record {
+  wire = HasWireCause-fine a.wire a.wire (answer_of (Some fault.Keeper)) fault.Wire (GoesOn-nil a.wire) (λ bad. cc);
+  keeper = cause;
+  works = λ fine opens. absurd (fine refl);
+  limit = rw changed.2.store refl;
+  name = rw changed.2.store refl;
+  limits = refl;
+  clock = refl;
+  loans = refl;
+}
+changed_keeps a store keeper (Some fault.Memory) made named changed cause wire = record {
+  wire = HasWireCause-fine a.wire a.wire (answer_of (Some fault.Memory)) fault.Wire (GoesOn-nil a.wire) (λ bad. cc);
+  keeper = cause;
+  works = λ fine opens. rw changed.0 opens;
+  limit = rw changed.0 refl;
+  name = rw changed.0 refl;
+  limits = refl;
+  clock = refl;
+  loans = refl;
+}
+changed_keeps a store keeper (Some fault.Wire) made named changed cause wire = absurd (wire refl)
+
+met_is : (T : Type 0) (met other : Fault) (result : Result T Fault) → result ≡ Err met → result ≡ Err other → met ≡ other
+met_is T met other result h k = cc
+
+as_some : (met other : Fault) → Some met ≡ Some other → met ≡ other
+as_some met other h = cc
+
+-- the same by a call's answer
+answered : {T : Type 0} (a : Around) (store : StoreState) (keeper : KeeperTelling) (result : Result T Fault) (made : List (List Record)) → KeepsName a.desk.store made
+    → IsChanged a.desk.store store a.keeper.octets keeper.octets (fault_of result) made → HasKeeperCause a.keeper keeper result fault.Keeper → ¬ (result ≡ Err fault.Wire) → Keeps a (with_store a store keeper) (fault_of result)
+answered a store keeper (Ok x) made named changed cause wire =
+    changed_keeps a store keeper None made named changed (record { later = cause.later; rose = λ bad. absurd cc; sure = λ sure. ((cause.sure sure).0, λ bad. cc) }) (λ bad. cc)
+answered a store keeper (Err met) made named changed cause wire =
+    changed_keeps a store keeper (Some met) made named changed (record {
+      later = cause.later;
+      rose = λ is. cause.rose (rw (met_is (Unit {0}) met fault.Keeper (Err met) refl is) refl);
+      sure = λ sure. ((cause.sure sure).0, λ is. (cause.sure sure).1 (rw (met_is (Unit {0}) met fault.Keeper (Err met) refl is) refl));
+    }) (λ is. wire (rw (as_some met fault.Wire is) refl))
+
+pub deliver_keeps : {T : Type 0} (a : Around) (store : StoreState) (keeper : KeeperTelling) (result : Result T Fault) (delivery : Delivery)
+    → IsChanged a.desk.store store a.keeper.octets keeper.octets (fault_of result) (changes_of a.desk.store delivery) → HasKeeperCause a.keeper keeper result fault.Keeper → ¬ (result ≡ Err fault.Wire)
+    → Keeps a (with_store a store keeper) (fault_of result)
+deliver_keeps a store keeper result delivery = answered a store keeper result (changes_of a.desk.store delivery) (delivery_name a.desk.store delivery)
+
+pub expunge_keeps : {T : Type 0} (a : Around) (store : StoreState) (keeper : KeeperTelling) (result : Result T Fault) (ids : List ℕ)
+    → IsChanged a.desk.store store a.keeper.octets keeper.octets (fault_of result) (calls_of (expunged ids)) → HasKeeperCause a.keeper keeper result fault.Keeper → ¬ (result ≡ Err fault.Wire)
+    → Keeps a (with_store a store keeper) (fault_of result)
+expunge_keeps a store keeper result ids = answered a store keeper result (calls_of (expunged ids)) (expunged_name a.desk.store ids)

@@ -1,0 +1,36 @@
+-- What a session gives may be sent.
+use Rattle.std.proofs.Common.{◌≡◌, ℕ, zero, suc, List, [], length, Option, Some, None, refl}
+use Rattle.mail_wire.specs.Turns.{Turn, turns, all_turns, behind}
+use Rattle.mail_wire.proofs.Feeding.{all-append}
+use Rattle.mail_wire.proofs.TurnsLemmas.{turns-stop}
+use Rattle.mail_store.specs.Acts.{Act, IsFitAct}
+use Rattle.session_core.specs.Meanings.{Meanings}
+use Rattle.session_core.specs.Protocol.{Protocol, IsFitTurn}
+
+turns-go : {S P : Type 0} (next : S → List ℕ → Option (Turn S P)) (n : ℕ) (s : S) (octets : List ℕ) (turn : Turn S P) → next s octets ≡ Some turn
+    → turns next (suc n) s octets ≡ behind turn.parts (turns next n turn.after turn.rest)
+unfolding turns
+turns-go next n s octets turn some = rw (some, turns) refl
+
+turns-zero : {S P : Type 0} (next : S → List ℕ → Option (Turn S P)) (s : S) (octets : List ℕ) → turns next zero s octets ≡ record { parts = []; after = s; rest = octets }
+unfolding turns
+turns-zero next s octets = refl
+
+-- each turn of a sound state may be sent
+abbrev pub TurnsFit : Protocol → Meanings → Type 0
+TurnsFit protocol meanings = (state : protocol.S) (octets : List ℕ) (turn : Turn protocol.S (Act protocol.P)) → protocol.IsSound state → protocol.next meanings state octets ≡ Some turn → IsFitTurn protocol meanings turn
+
+fit_by : (protocol : Protocol) (meanings : Meanings) → TurnsFit protocol meanings → (n : ℕ) (state : protocol.S) (octets : List ℕ) → protocol.IsSound state
+    → (found : Option (Turn protocol.S (Act protocol.P))) → protocol.next meanings state octets ≡ found → IsFitTurn protocol meanings (turns (protocol.next meanings) n state octets)
+fit_by protocol meanings fits zero state octets sound found is = rw (turns-zero (protocol.next meanings) state octets) (record { fit = tt; sound = sound })
+fit_by protocol meanings fits (suc n) state octets sound None is = rw (turns-stop (protocol.next meanings) (suc n) state octets is) (record { fit = tt; sound = sound })
+fit_by protocol meanings fits (suc n) state octets sound (Some turn) is =
+    let one = fits state octets turn sound is in
+    let later = fit_by protocol meanings fits n turn.after turn.rest one.sound (protocol.next meanings turn.after turn.rest) refl in
+    rw (turns-go (protocol.next meanings) n state octets turn is)
+    (record { fit = all-append (IsFitAct (protocol.Fits meanings)) turn.parts (turns (protocol.next meanings) n turn.after turn.rest).parts one.fit later.fit; sound = later.sound })
+
+-- so are all turns of a stream
+pub all_fit : (protocol : Protocol) (meanings : Meanings) → TurnsFit protocol meanings → (state : protocol.S) (octets : List ℕ) → protocol.IsSound state
+    → IsFitTurn protocol meanings (all_turns (protocol.next meanings) state octets)
+all_fit protocol meanings fits state octets sound = fit_by protocol meanings fits (length octets) state octets sound (protocol.next meanings state octets) refl

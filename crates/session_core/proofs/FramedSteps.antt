@@ -1,0 +1,190 @@
+-- The steps of a machine of rows.
+use Rattle.std.proofs.Common.{◌≡◌, ◌<◌, ◌≤◌, ◌-◌, ◌+◌, ℕ, zero, suc, List, [], ◌++◌, length, take, drop, Bool, true, false, Ok, Err, Option, Some, None, refl, sym, ap, subst, ◌∙◌, append-nil, arith, length-append}
+use Rattle.std.specs.Prelude.{IfSome, nat_le}
+use Rattle.std.proofs.Math.Seq.{take-append-add, drop-append-add, drop-length}
+use Rattle.std.proofs.lemmas.Bool.Decides.{nat_tests}
+use Rattle.std.proofs.lemmas.List.{length-take-le}
+use Rattle.std.proofs.lemmas.List.Elements.{All-nil}
+use Rattle.mail_wire.specs.Framing.{Framed as FramedOctets, waiting, whole, too_long, next_line, framed_as}
+use Rattle.mail_wire.specs.Lines.{Cut, first_line}
+use Rattle.mail_wire.specs.declared.framing.FoundLine.{FoundLine}
+use Rattle.mail_wire.specs.declared.framing.FoundLine.TheVariants as found
+use Rattle.mail_wire.specs.declared.framing.TheConstants.{LINE_MAX}
+use Rattle.mail_wire.specs.declared.outside.Fault.{Fault}
+use Rattle.mail_wire.proofs.FirstLineLemmas.{first_line-cut}
+use Rattle.mail_wire.proofs.FramingLemmas.{next_line-line, next_line-long_line, next_line-waiting, next_line-long, at_most_of}
+use Rattle.session_core.specs.Around.{Around, IsTold}
+use Rattle.session_core.specs.FramedLaws.{count_cut-some, count_cut-none, count_cut-zero, framed_by}
+use Rattle.session_core.specs.FramedRows.{framed_next}
+use Rattle.session_core.specs.Grammar.{Grammar, Answers, IsUnit, Refuses, StandingRows, StandsNext, count_cut, cut_by, protocol_of, turn_by}
+use Rattle.session_core.specs.Meanings.{Meanings}
+use Rattle.session_core.specs.Steps.{IsReadyAfter, Standing, StandsAfter, Steps}
+use Rattle.session_core.specs.declared.desk.Desk.{Desk}
+use Rattle.session_core.specs.declared.rows.Framed.{Framed}
+use Rattle.session_core.specs.declared.rows.Wants.{Wants}
+use Rattle.session_core.specs.declared.rows.Wants.TheVariants as wants
+use Rattle.session_core.proofs.StepLemmas.{StepsBy-turn, StepsBy-fails, StepsBy-waits}
+
+-- ---- so many octets
+
+pub count_found : (n : ℕ) (kept piece : List ℕ) → length kept < n → n - length kept ≤ length piece
+    → count_cut n (kept ++ piece) ≡ whole (kept ++ take (n - length kept) piece) (drop (n - length kept) piece)
+count_found n kept piece more low =
+    let is : n ≡ length kept + (n - length kept) = omega arith in
+    let front : take n (kept ++ piece) ≡ kept ++ take (n - length kept) piece = ap (λ m. take m (kept ++ piece)) is ∙ take-append-add kept piece (n - length kept) in
+    let back : drop n (kept ++ piece) ≡ drop (n - length kept) piece = ap (λ m. drop m (kept ++ piece)) is ∙ drop-append-add kept piece (n - length kept) in
+    count_cut-some n (kept ++ piece) (omega arith) (rw length-append (omega arith)) ∙ (rw (front, back) refl)
+
+pub count_short : (n : ℕ) (kept piece : List ℕ) → length piece < n - length kept → count_cut n (kept ++ piece) ≡ waiting
+count_short n kept piece low = count_cut-none n (kept ++ piece) (rw length-append (omega arith))
+
+-- nothing was waited for
+pub count_never : (n : ℕ) (kept piece : List ℕ) → count_cut n kept ≡ waiting → n ≤ length kept → count_cut n (kept ++ piece) ≡ waiting
+count_never zero kept piece none low = count_cut-zero (kept ++ piece)
+count_never (suc n) kept piece none low = absurd (apart (sym none ∙ count_cut-some (suc n) kept (omega arith) low))
+  where
+    apart : {a b : List ℕ} → waiting ≡ whole a b → ⊥
+    apart h = cc
+
+-- nothing is kept behind a unit
+pub none_kept : (want : Wants) → cut_by want [] ≡ waiting
+unfolding first_line
+none_kept wants.Line = refl
+none_kept (wants.Count zero) = count_cut-zero []
+none_kept (wants.Count (suc n)) = count_cut-none (suc n) [] (omega arith)
+
+-- ---- a unit
+
+whole_line : (a b c d : List ℕ) → whole a b ≡ whole c d → a ≡ c
+whole_line a b c d h = cc
+
+never_long : (a b c : List ℕ) → too_long a ≡ whole b c → ⊥
+never_long a b c h = cc
+
+never_waiting : (a b : List ℕ) → waiting ≡ whole a b → ⊥
+never_waiting a b h = cc
+
+ends_some : (octets line rest : List ℕ) (cut : Cut) → first_line octets ≡ Some cut → next_line octets ≡ whole line rest → (b : Bool) → nat_le (length cut.line) LINE_MAX ≡ b → 2 ≤ length line
+ends_some octets line rest cut is framed true short =
+    subst (λ (l : List ℕ). 2 ≤ length l) (whole_line cut.line cut.rest line rest (sym (next_line-line octets cut is short) ∙ framed)) (first_line-cut octets cut is).some
+ends_some octets line rest cut is framed false long = absurd (never_long _ line rest (sym (next_line-long_line octets cut is long) ∙ framed))
+
+ends_none : (octets line rest : List ℕ) → first_line octets ≡ None → next_line octets ≡ whole line rest → (b : Bool) → nat_le (length octets) LINE_MAX ≡ b → 2 ≤ length line
+ends_none octets line rest none framed true short = absurd (never_waiting line rest (sym (next_line-waiting octets none short) ∙ framed))
+ends_none octets line rest none framed false long = absurd (never_long _ line rest (sym (next_line-long octets none long) ∙ framed))
+
+ends_by : (octets line rest : List ℕ) (cut : Option Cut) → first_line octets ≡ cut → next_line octets ≡ whole line rest → 2 ≤ length line
+ends_by octets line rest None is framed = ends_none octets line rest is framed (nat_le (length octets) LINE_MAX) refl
+ends_by octets line rest (Some cut) is framed = ends_some octets line rest cut is framed (nat_le (length cut.line) LINE_MAX) refl
+
+counts_by : (n : ℕ) (octets unit rest : List ℕ) (b : Bool) → nat_le (suc n) (length octets) ≡ b → count_cut (suc n) octets ≡ whole unit rest → length unit ≡ suc n
+counts_by n octets unit rest true is framed =
+    let low = at_most_of (suc n) (length octets) is in
+    let same = whole_line (take (suc n) octets) (drop (suc n) octets) unit rest (sym (count_cut-some (suc n) octets (omega arith) low) ∙ framed) in
+    rw (← same) (length-take-le (suc n) octets low)
+counts_by n octets unit rest false is framed =
+    let short : length octets < suc n = grind (arith, nat_tests) in absurd (never_waiting unit rest (sym (count_cut-none (suc n) octets short) ∙ framed))
+
+pub unit_of : (want : Wants) (octets unit rest : List ℕ) → cut_by want octets ≡ whole unit rest → IsUnit want unit
+unit_of wants.Line octets unit rest framed = ends_by octets unit rest (first_line octets) refl framed
+unit_of (wants.Count zero) octets unit rest framed = absurd (never_waiting unit rest (sym (count_cut-zero octets) ∙ framed))
+unit_of (wants.Count (suc n)) octets unit rest framed = counts_by n octets unit rest (nat_le (suc n) (length octets)) refl framed
+
+-- what was found of the octets that were kept and a piece
+pub found_whole : (want : Wants) (of : FoundLine) (kept piece unit : List ℕ) (n : ℕ) → cut_by want (kept ++ piece) ≡ framed_as of kept piece → of ≡ found.Whole n → unit ≡ kept ++ take n piece
+    → cut_by want (kept ++ piece) ≡ whole unit (drop n piece)
+found_whole want of kept piece unit n framed is unit_is = rw unit_is (framed ∙ ap (λ (f : FoundLine). framed_as f kept piece) is)
+
+pub found_long : (want : Wants) (of : FoundLine) (kept piece : List ℕ) → cut_by want (kept ++ piece) ≡ framed_as of kept piece → of ≡ found.TooLong
+    → cut_by want (kept ++ piece) ≡ too_long (drop LINE_MAX (kept ++ piece))
+found_long want of kept piece framed is = framed ∙ ap (λ (f : FoundLine). framed_as f kept piece) is
+
+-- ---- steps
+
+abbrev pub FramedStands : (grammar : Grammar) {R : Type 0} → StandingRows grammar R → Standing (protocol_of grammar) (Framed R)
+FramedStands grammar stands more machine kept desk state rest = stands more machine.rows desk state × (rest ≡ kept)
+
+-- the rows want what their states want
+abbrev pub Agrees : (grammar : Grammar) {R : Type 0} → StandingRows grammar R → R → Desk → Wants → Type 0
+Agrees grammar stands rows desk want = (more : List ℕ) (state : grammar.S) → stands more rows desk state → grammar.wants state ≡ Some want
+
+-- more of a unit
+pub Steps-more : (grammar : Grammar) {R : Type 0} (stands : StandingRows grammar R) (a : Around) (machine : Framed R) (kept keeps piece : List ℕ) → keeps ≡ kept ++ piece
+    → Steps (protocol_of grammar) (FramedStands grammar stands) a a machine kept keeps piece (Ok (record { next = Some machine; used = length piece }))
+Steps-more grammar stands a machine kept keeps piece same = record {
+  told = [];
+  are_told = All-nil (IsTold a.clock);
+  steps = λ meanings are more state rest has.
+      StepsBy-waits (protocol_of grammar) (FramedStands grammar stands) meanings a (record { next = Some machine; used = length piece }) keeps piece more (rest ++ piece) state (rest ++ piece)
+      (has.0, rw (has.1, same) refl) (rw (drop-length piece, append-nil (rest ++ piece)) refl);
+}
+
+next_stands : (grammar : Grammar) {R : Type 0} (stands : StandingRows grammar R) (more : List ℕ) (next : Option R) (b : Desk) (state : grammar.S) → StandsNext grammar stands more next b state
+    → StandsAfter (protocol_of grammar) (FramedStands grammar stands) more (framed_next next) [] b state []
+next_stands grammar stands more None b state is = is
+next_stands grammar stands more (Some rows) b state is = (is, refl)
+
+pub next_ready : {R : Type 0} (wanted : R → Wants) (knows : R → Desk → Type 0) (next : Option R) (used : ℕ) (b : Desk) → IfSome next (λ rows. knows rows b)
+    → IsReadyAfter (λ (machine : Framed R) kept desk. (cut_by (wanted machine.rows) kept ≡ waiting) × knows machine.rows desk) (record { next = framed_next next; used = used }) [] b
+next_ready wanted knows None used b known = tt
+next_ready wanted knows (Some rows) used b known = (none_kept (wanted rows), known)
+
+-- the turn at the head of what was kept and the piece
+head_turn : (grammar : Grammar) (meanings : Meanings) (state : grammar.S) (want : Wants) (kept piece rest : List ℕ) (framed : FramedOctets) → grammar.wants state ≡ Some want → rest ≡ kept → cut_by want (kept ++ piece) ≡ framed
+    → (protocol_of grammar).next meanings state (rest ++ piece) ≡ turn_by grammar meanings state framed
+head_turn grammar meanings state want kept piece rest framed wanted same is = rw (wanted, same, is) refl
+
+-- a unit
+pub Steps-unit : (grammar : Grammar) {R : Type 0} (stands : StandingRows grammar R) (want : Wants) (a b : Around) (machine : Framed R) (kept piece unit : List ℕ) (n : ℕ) (next : Option R)
+    → Agrees grammar stands machine.rows a.desk want → cut_by want (kept ++ piece) ≡ whole unit (drop n piece) → Answers grammar stands a b machine.rows unit (Ok next)
+    → Steps (protocol_of grammar) (FramedStands grammar stands) a b machine kept [] piece (Ok (record { next = framed_next next; used = n }))
+Steps-unit grammar stands want a b machine kept piece unit n next agrees is answers = record {
+  told = answers.told;
+  are_told = answers.are_told;
+  steps = λ meanings are more state rest has.
+      let by = answers.answers meanings are more state has.0 in
+      StepsBy-turn (protocol_of grammar) (FramedStands grammar stands) meanings (framed_by grammar meanings) a b (record { next = framed_next next; used = n }) [] piece more [] state (rest ++ piece)
+      (record { parts = (grammar.row meanings state unit).acts; after = (grammar.row meanings state unit).after; rest = drop n piece })
+      (head_turn grammar meanings state want kept piece rest (whole unit (drop n piece)) (agrees (answers.told ++ more) state has.0) has.1 is)
+      by.does (next_stands grammar stands more next b.desk (grammar.row meanings state unit).after by.next) refl;
+}
+
+-- a fault in its row
+pub Steps-unit_fails : (grammar : Grammar) {R : Type 0} (stands : StandingRows grammar R) (want : Wants) (a b : Around) (machine : Framed R) (kept keeps piece unit : List ℕ) (n : ℕ) (met : Fault)
+    → Agrees grammar stands machine.rows a.desk want → cut_by want (kept ++ piece) ≡ whole unit (drop n piece) → Answers grammar stands a b machine.rows unit (Err met)
+    → Steps (protocol_of grammar) (FramedStands grammar stands) a b machine kept keeps piece (Err met)
+Steps-unit_fails grammar stands want a b machine kept keeps piece unit n met agrees is answers = record {
+  told = answers.told;
+  are_told = answers.are_told;
+  steps = λ meanings are more state rest has.
+      let by = answers.answers meanings are more state has.0 in
+      StepsBy-fails (protocol_of grammar) (FramedStands grammar stands) meanings (framed_by grammar meanings) a b keeps piece more met state (rest ++ piece)
+      (record { parts = (grammar.row meanings state unit).acts; after = (grammar.row meanings state unit).after; rest = drop n piece })
+      (head_turn grammar meanings state want kept piece rest (whole unit (drop n piece)) (agrees (answers.told ++ more) state has.0) has.1 is) by.does;
+}
+
+-- a line that is too long
+pub Steps-long : (grammar : Grammar) {R : Type 0} (stands : StandingRows grammar R) → ((meanings : Meanings) (state : grammar.S) → grammar.wants (grammar.long_row meanings state).after ≡ None) → (want : Wants) (a b : Around) (machine : Framed R)
+    (kept keeps piece left : List ℕ) → Agrees grammar stands machine.rows a.desk want → cut_by want (kept ++ piece) ≡ too_long left → Refuses grammar stands a b machine.rows (Ok tt)
+    → Steps (protocol_of grammar) (FramedStands grammar stands) a b machine kept keeps piece (Ok (record { next = None; used = length piece }))
+Steps-long grammar stands ends want a b machine kept keeps piece left agrees is refuses = record {
+  told = [];
+  are_told = All-nil (IsTold a.clock);
+  steps = λ meanings are more state rest has.
+      StepsBy-turn (protocol_of grammar) (FramedStands grammar stands) meanings (framed_by grammar meanings) a b (record { next = None; used = length piece }) keeps piece more left state (rest ++ piece)
+      (record { parts = (grammar.long_row meanings state).acts; after = (grammar.long_row meanings state).after; rest = left })
+      (head_turn grammar meanings state want kept piece rest (too_long left) (agrees more state has.0) has.1 is)
+      (refuses meanings are more state has.0) (ends meanings state) (rw (drop-length piece, append-nil left) refl);
+}
+
+pub Steps-long_fails : (grammar : Grammar) {R : Type 0} (stands : StandingRows grammar R) (want : Wants) (a b : Around) (machine : Framed R) (kept keeps piece left : List ℕ) (met : Fault)
+    → Agrees grammar stands machine.rows a.desk want → cut_by want (kept ++ piece) ≡ too_long left → Refuses grammar stands a b machine.rows (Err met)
+    → Steps (protocol_of grammar) (FramedStands grammar stands) a b machine kept keeps piece (Err met)
+Steps-long_fails grammar stands want a b machine kept keeps piece left met agrees is refuses = record {
+  told = [];
+  are_told = All-nil (IsTold a.clock);
+  steps = λ meanings are more state rest has.
+      StepsBy-fails (protocol_of grammar) (FramedStands grammar stands) meanings (framed_by grammar meanings) a b keeps piece more met state (rest ++ piece)
+      (record { parts = (grammar.long_row meanings state).acts; after = (grammar.long_row meanings state).after; rest = left })
+      (head_turn grammar meanings state want kept piece rest (too_long left) (agrees more state has.0) has.1 is) (refuses meanings are more state has.0);
+}

@@ -1,0 +1,12 @@
+pub mod MeaningLemmas
+pub mod DeskLemmas
+pub mod KeepsLemmas
+pub mod DoingLemmas
+pub mod FitLemmas
+pub mod GoingLemmas
+pub mod StepLemmas
+pub mod StoredLemmas
+pub mod FramedSteps
+pub mod AnswerLemmas
+pub mod TranscriptLemmas
+pub mod ServingLemmas

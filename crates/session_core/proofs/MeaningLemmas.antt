@@ -1,0 +1,30 @@
+-- There are functions that give surrogates, read paths and tell trees.
+use Rattle.std.proofs.Common.{ℕ, List, Bool, true, false, rules, ◌⊎◌, inl, inr}
+use Rattle.std.specs.Prelude.{IsTrue, ◌↔◌}
+use Rattle.mime_tree.specs.declared.entity.Entity.{Entity}
+use Rattle.mime_tree.specs.Tree.{HasTree}
+use Rattle.mime_tree.proofs.DecidingTrees.{decide_tree}
+use Rattle.journal_records.specs.Stored.{IsStored}
+use Rattle.surrogate_cache.proofs.ServedLemmas.{meanings_given as given}
+use Rattle.session_core.specs.Meanings.{Meanings, AreMeanings}
+
+-- octets have a tree of entities, or none
+abbrev Decided : List ℕ → Type 0
+Decided octets = ((entities : List Entity) × HasTree octets entities) ⊎ ((entities : List Entity) → ¬ HasTree octets entities)
+
+-- whether there is a tree
+told : (octets : List ℕ) → Decided octets → Bool
+told octets (inl tree) = true
+told octets (inr none) = false
+
+-- which tells whether the octets may be kept
+told_is : (octets : List ℕ) (decided : Decided octets) → IsTrue (told octets decided) ↔ IsStored octets
+unfolding told
+told_is octets (inl tree) = (λ is. record { entities = tree.0; tree = tree.1 }, λ stored. search rules)
+told_is octets (inr none) = (λ is. absurd (search rules), λ stored. absurd (none stored.entities stored.tree))
+
+pub meanings_given : (meanings : Meanings) × AreMeanings meanings
+meanings_given = (
+  record { surrogate = given.0.surrogate; path_of = given.0.path_of; has_tree = λ octets. told octets (decide_tree octets) },
+  record { surrogates = given.1.surrogates; paths = given.1.paths; trees = λ octets. told_is octets (decide_tree octets) },
+)

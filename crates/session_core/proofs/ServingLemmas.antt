@@ -1,0 +1,479 @@
+-- A session over a wire, between two takes and at its end, whatever its machine.
+use Rattle.std.proofs.Common.{◌≡◌, ℕ, ◌+◌, ◌<◌, ◌≤◌, List, [], ◌∷◌, ◌++◌, length, take, Option, None, Result, Ok, Err, refl, sym, ap, ◌∙◌, append-nil, append_assoc, arith, inl, inr, subst, length-append}
+use Rattle.std.specs.Prelude.{map}
+use Rattle.std.specs.List.{All, AllByRecursion}
+use Rattle.std.proofs.lemmas.List.{length-take-le}
+use Rattle.std.proofs.lemmas.List.Elements.{All-nil}
+use Rattle.std.proofs.lemmas.Option.{IfSome_then}
+use Rattle.mail_wire.specs.declared.outside.Fault.{Fault}
+use Rattle.mail_wire.specs.declared.outside.Fault.TheVariants as fault
+use Rattle.mail_wire.specs.declared.traffic.TheConstants.{PIECE}
+use Rattle.mail_wire.specs.Telling.{Telling}
+use Rattle.mail_wire.specs.Turns.{Turn, IsFramed, stay, behind, all_turns}
+use Rattle.mail_wire.specs.Transcript.{taken_of}
+use Rattle.mail_wire.specs.Moves.{TakesPiece, TakesNothing}
+use Rattle.mail_wire.proofs.Feeding.{all-append}
+use Rattle.mail_wire.proofs.TurnsLemmas.{all_turns-append, all_turns-stop}
+use Rattle.mail_store.specs.Acts.{Act, IsFitAct, gives, changes, changes_in}
+use Rattle.mail_store.specs.Doing.{given_by, StopsIn, FailsIn, IsDone}
+use Rattle.mail_store.specs.Following.{records_of, Follows}
+use Rattle.mail_store.specs.StoreState.{StoreState}
+use Rattle.mail_store.proofs.DoingLemmas.{IsDone-more, given_by-append, octets_of_acts, records_in-append}
+use Rattle.mail_store.proofs.FollowLemmas.{Follows-more}
+use Rattle.session_core.specs.Around.{Around, IsTold, LeavesDesk}
+use Rattle.session_core.specs.Desks.{IsOpen}
+use Rattle.session_core.specs.Keeps.{answer_of}
+use Rattle.session_core.specs.Meanings.{Meanings, AreMeanings, WithMeanings}
+use Rattle.session_core.specs.Protocol.{Protocol, IsFitTurn}
+use Rattle.session_core.specs.Served.{met_of, served_of}
+use Rattle.session_core.specs.Serving.{Course, course_of, turns_for, acts_for, replies_to, changes_by, EndsBy, IsSent, IsPrefixOf, MayTake, ServesLawfully, Serves, ServesBy}
+use Rattle.session_core.specs.Sessions.{BeginsSession, Feeds, FeedsBy, HasEnded, StandsFor}
+use Rattle.session_core.specs.Steps.{Standing}
+use Rattle.session_core.specs.declared.desk.Desk.{Desk}
+use Rattle.session_core.specs.declared.feeding.Session.{Session}
+use Rattle.session_core.specs.declared.feeding.Session.TheVariants as session
+use Rattle.session_core.specs.declared.serving.Served.{Served}
+use Rattle.session_core.specs.declared.serving.Served.TheVariants.{Ended, Limit}
+use Rattle.session_core.proofs.DoingLemmas.{DoesAll-nil, DoesFirst-between, DoesFirst-none}
+use Rattle.session_core.proofs.FitLemmas.{TurnsFit, all_fit}
+use Rattle.session_core.proofs.GoingLemmas.{Quiet, told_then}
+use Rattle.session_core.proofs.TranscriptLemmas.{Grows, Serving, Halfway, Halfway-of, Serving-of, Halfway-first, Halfway-take, Halfway-give, Serving-nothing, left_begins, left_all, begins_answer}
+
+-- ---- the laws of a machine
+
+-- What holds of every machine: a turn doesn't depend on what comes later, a machine stands for no end, after which nothing comes, and what
+-- is given may be sent.
+pub record AreLaws (protocol : Protocol) {M : Type 0} (stands : Standing protocol M) : Type 0 where
+  pub framed : (meanings : Meanings) → AreMeanings meanings → IsFramed (protocol.next meanings)
+  pub goes_on : (more : List ℕ) (machine : M) (kept : List ℕ) (desk : Desk) (state : protocol.S) (rest : List ℕ) → stands more machine kept desk state rest → ¬ protocol.HasEnded state
+  pub quiet : Quiet protocol
+  pub begins_fit : (meanings : Meanings) → AreMeanings meanings → (moments : List ℕ) (desk : Desk) → IsOpen desk
+      → IsFitTurn protocol meanings (record { parts = protocol.opening desk.store; after = protocol.start moments desk.store; rest = [] })
+  pub fits : (meanings : Meanings) → AreMeanings meanings → TurnsFit protocol meanings
+
+-- what a session that stands for an end is
+ended_session : (protocol : Protocol) {M : Type 0} (stands : Standing protocol M) → AreLaws protocol stands → (more : List ℕ) (at : Session M) (desk : Desk) (state : protocol.S) (rest : List ℕ)
+    → StandsFor protocol stands more at desk state rest → protocol.HasEnded state → HasEnded at
+ended_session protocol stands laws more (session.Open reading) desk state rest stood ends = absurd (laws.goes_on more reading.machine reading.kept desk state rest stood ends)
+ended_session protocol stands laws more session.Ended desk state rest stood ends = tt
+
+ended_state : (protocol : Protocol) {M : Type 0} (stands : Standing protocol M) (more : List ℕ) (at : Session M) (desk : Desk) (state : protocol.S) (rest : List ℕ)
+    → StandsFor protocol stands more at desk state rest → HasEnded at → protocol.HasEnded state
+ended_state protocol stands more (session.Open reading) desk state rest stood is = absurd is
+ended_state protocol stands more session.Ended desk state rest stood is = stood
+
+-- ---- a stream and a piece behind it
+
+-- the turns of a piece behind a stream
+abbrev pub piece_turn : (course : Course) → StoreState → List ℕ → List ℕ → Turn course.S (Act course.P)
+piece_turn course store octets piece = all_turns course.next (turns_for course store octets).after ((turns_for course store octets).rest ++ piece)
+
+turns_for-append : (course : Course) → IsFramed course.next → (store : StoreState) (octets piece : List ℕ)
+    → turns_for course store (octets ++ piece) ≡ behind (turns_for course store octets).parts (piece_turn course store octets piece)
+turns_for-append course framed store octets piece = all_turns-append course.next framed (course.start store) octets piece
+
+acts_for-append : (course : Course) → IsFramed course.next → (store : StoreState) (octets piece : List ℕ)
+    → acts_for course store (octets ++ piece) ≡ acts_for course store octets ++ (piece_turn course store octets piece).parts
+acts_for-append course framed store octets piece =
+    ap (λ (turn : Turn course.S (Act course.P)). course.opening store ++ turn.parts) (turns_for-append course framed store octets piece)
+    ∙ sym (append_assoc (course.opening store) (turns_for course store octets).parts (piece_turn course store octets piece).parts)
+
+replies_to-append : (course : Course) → IsFramed course.next → (store : StoreState) (octets piece : List ℕ)
+    → replies_to course store (octets ++ piece) ≡ replies_to course store octets ++ given_by course.spelled (piece_turn course store octets piece).parts
+replies_to-append course framed store octets piece =
+    ap (given_by course.spelled) (acts_for-append course framed store octets piece)
+    ∙ given_by-append course.spelled (acts_for course store octets) (piece_turn course store octets piece).parts
+
+grows : (course : Course) → IsFramed course.next → (store : StoreState) → Grows (replies_to course store)
+grows course framed store xs ys = (given_by course.spelled (piece_turn course store xs ys).parts, replies_to-append course framed store xs ys)
+
+turns_for-nil : (course : Course) (store : StoreState) → turns_for course store [] ≡ stay (course.start store) []
+unfolding Rattle.mail_wire.specs.Turns.turns
+turns_for-nil course store = refl
+
+acts_for-nil : (course : Course) (store : StoreState) → acts_for course store [] ≡ course.opening store
+acts_for-nil course store =
+    ap (λ (turn : Turn course.S (Act course.P)). course.opening store ++ turn.parts) (turns_for-nil course store) ∙ append-nil (course.opening store)
+
+-- ---- what was done
+
+behind_begun : (a b c d : List ℕ) → a ++ ((b ++ c) ++ d) ≡ (a ++ b) ++ (c ++ d)
+behind_begun a b c d = ap (λ l. a ++ l) (append_assoc b c d) ∙ sym (append_assoc a b (c ++ d))
+
+stops_begins : {P : Type 0} (spelled : P → List ℕ) (old new : StoreState) (had has : Option (List ℕ)) (acts : List (Act P)) (given : List ℕ) → StopsIn spelled old new had has acts given
+    → IsPrefixOf given (given_by spelled acts)
+stops_begins spelled old new had has acts given stops =
+    let left = given_by spelled stops.left in (
+      stops.missing ++ left,
+      ap (given_by spelled) stops.acts_are ∙ given_by-append spelled stops.done (map gives stops.parts ++ stops.left)
+          ∙ ap (λ l. given_by spelled stops.done ++ l)
+          (given_by-append spelled (map gives stops.parts) stops.left ∙ ap (λ l. l ++ left) (octets_of_acts spelled [] stops.parts ∙ stops.parts_are))
+          ∙ behind_begun (given_by spelled stops.done) stops.begun stops.missing left ∙ ap (λ l. l ++ (stops.missing ++ left)) (sym stops.given_is),
+    )
+
+fails_begins : {P : Type 0} (spelled : P → List ℕ) (old new : StoreState) (had has : Option (List ℕ)) (acts : List (Act P)) (given : List ℕ) → FailsIn spelled old new had has acts given
+    → IsPrefixOf given (given_by spelled acts)
+fails_begins spelled old new had has acts given fails =
+    let left = changes fails.failing ∷ fails.left in
+    (given_by spelled left, ap (given_by spelled) fails.acts_are ∙ given_by-append spelled fails.done left ∙ ap (λ l. l ++ given_by spelled left) (sym fails.given_is))
+
+-- what was given is a prefix of what the acts give
+done_begins : {P T : Type 0} (spelled : P → List ℕ) (old new : StoreState) (had has : Option (List ℕ)) (result : Result T Fault) (acts : List (Act P)) (given : List ℕ)
+    → IsDone spelled old new had has result acts given → IsPrefixOf given (given_by spelled acts)
+done_begins spelled old new had has (Ok done) acts given is = ([], sym is.0 ∙ sym (append-nil given))
+done_begins spelled old new had has (Err fault.Keeper) acts given is = fails_begins spelled old new had has acts given is
+done_begins spelled old new had has (Err fault.Wire) acts given is = stops_begins spelled old new had has acts given is
+done_begins spelled old new had has (Err fault.Memory) acts given is = stops_begins spelled old new had has acts given is
+
+-- a fault as the call answers it
+answered : (met : Fault) → answer_of (met_of (served_of (Err met))) ≡ Err met
+answered fault.Keeper = refl
+answered fault.Wire = refl
+answered fault.Memory = refl
+
+not_ended : (met : Fault) → served_of (Err met) ≡ Ended → ⊥
+not_ended fault.Keeper is = cc
+not_ended fault.Wire is = cc
+not_ended fault.Memory is = cc
+
+not_limit : (met : Fault) → served_of (Err met) ≡ Limit → ⊥
+not_limit fault.Keeper is = cc
+not_limit fault.Wire is = cc
+not_limit fault.Memory is = cc
+
+never_limit : Ended ≡ Limit → ⊥
+never_limit is = cc
+
+-- ---- what was served so far, by its answer
+
+lawfully : (course : Course) → IsFramed course.next → (store after : StoreState) (had has : Option (List ℕ)) (served : Served) (max : ℕ) (a b : Telling) (taken given : List ℕ) → length taken ≤ max
+    → (half : Halfway (replies_to course store) (MayTake course store) a b taken given) → IsDone course.spelled store after had has (answer_of (met_of served)) (acts_for course store taken) given
+    → ServesLawfully course store after had has served max a b
+lawfully course framed store after had has served max a b taken given few half done = record {
+  entries = half.entries;
+  moves = half.moves;
+  lawful = half.lawful;
+  takes = half.takes;
+  few = rw half.taken_is few;
+  begun = rw half.given_is (begins_answer (replies_to course store) (MayTake course store) a b taken given (grows course framed store) half
+      (done_begins course.spelled store after had has (answer_of (met_of served)) (acts_for course store taken) given done));
+  done = rw (half.taken_is, half.given_is) done;
+}
+
+-- a fault broke it off
+broken_off : (course : Course) → IsFramed course.next → (store after : StoreState) (had has : Option (List ℕ)) (met : Fault) (max : ℕ) (a b : Telling) (taken given : List ℕ) → length taken ≤ max
+    → Halfway (replies_to course store) (MayTake course store) a b taken given → IsDone {T = Unit {0}} course.spelled store after had has (Err met) (acts_for course store taken) given
+    → Serves course store after had has (served_of (Err met)) max a b
+broken_off course framed store after had has met max a b taken given few half done = record {
+  lawful = lawfully course framed store after had has (served_of (Err met)) max a b taken given few half (rw answered done);
+  ended = λ is. absurd (not_ended met is);
+  limit = λ is. absurd (not_limit met is);
+}
+
+-- ---- what holds between two takes
+
+-- All that was taken is answered, its changes are made, and the session stands for what follows.
+pub record GoesBy (protocol : Protocol) {M : Type 0} (stands : Standing protocol M) (meanings : Meanings) (moments more : List ℕ) (a b : Around) (at : Session M) (taken : ℕ) : Type 0 where
+  pub octets : List ℕ
+  pub serving : Serving (replies_to (course_of protocol meanings moments) a.desk.store) (MayTake (course_of protocol meanings moments) a.desk.store) a.wire b.wire octets
+  pub stood : StandsFor protocol stands more at b.desk (turns_for (course_of protocol meanings moments) a.desk.store octets).after (turns_for (course_of protocol meanings moments) a.desk.store octets).rest
+  pub follows : Follows a.desk.store b.desk.store a.keeper.octets b.keeper.octets (records_of (changes_by (course_of protocol meanings moments) a.desk.store octets))
+  pub count : length octets ≡ taken
+
+-- The same whatever is meant, with moments that the clock told, and whatever moments are to come.
+pub record Goes (protocol : Protocol) {M : Type 0} (stands : Standing protocol M) (a b : Around) (at : Session M) (taken : ℕ) : Type 0 where
+  pub told : List ℕ
+  pub are_told : All (IsTold a.clock) told
+  pub goes : WithMeanings (λ meanings. (more : List ℕ) → GoesBy protocol stands meanings (told ++ more) more a b at taken)
+
+-- the session has begun
+pub goes_first : (protocol : Protocol) {M : Type 0} (stands : Standing protocol M) (a b : Around) (at : Session M) → BeginsSession protocol stands a b (Ok at) → Goes protocol stands a b at 0
+goes_first protocol stands a b at begins = record {
+  told = [];
+  are_told = All-nil (IsTold a.clock);
+  goes = λ meanings are more.
+      let course = course_of protocol meanings more in
+      let none = acts_for-nil course a.desk.store in
+      let does = begins.does meanings are in
+      record {
+        octets = [];
+        serving = Serving-of (replies_to course a.desk.store) (MayTake course a.desk.store) a.wire b.wire [] (given_by course.spelled (course.opening a.desk.store))
+            (Halfway-first (replies_to course a.desk.store) (MayTake course a.desk.store) a.wire b.wire (given_by course.spelled (course.opening a.desk.store)) does.gives)
+            (sym (ap (given_by course.spelled) none));
+        stood = rw (turns_for-nil course a.desk.store) (begins.stands_for more);
+        follows = rw none does.follows;
+        count = refl;
+      };
+}
+
+taken_more : (octets into : List ℕ) (taken n : ℕ) → length octets ≡ taken → n ≤ length into → length (octets ++ take n into) ≡ taken + n
+taken_more octets into taken n count low = length-append octets (take n into) ∙ (rw (count, length-take-le n into low) refl)
+
+-- a take of a session that goes on
+may_take : (protocol : Protocol) {M : Type 0} (stands : Standing protocol M) → AreLaws protocol stands → (meanings : Meanings) (moments more : List ℕ) (a b : Around) (at : Session M) (taken n : ℕ) (into : List ℕ)
+    → (so : GoesBy protocol stands meanings moments more a b at taken) → (HasEnded at → ⊥) → n ≤ length into → n ≤ PIECE → MayTake (course_of protocol meanings moments) a.desk.store so.octets (take n into)
+may_take protocol stands laws meanings moments more a b at taken n into so still low most = record {
+  goes_on = λ ends. still (ended_session protocol stands laws more at b.desk (turns_for (course_of protocol meanings moments) a.desk.store so.octets).after (turns_for (course_of protocol meanings moments) a.desk.store so.octets).rest so.stood ends);
+  piece = rw (length-take-le n into low) most;
+}
+
+-- what a piece brought was done
+more_by : (protocol : Protocol) {M : Type 0} (stands : Standing protocol M) → AreLaws protocol stands → (meanings : Meanings) → AreMeanings meanings → (moments sooner more : List ℕ) (a b c d : Around) (at next : Session M)
+    (taken n : ℕ) (into : List ℕ) → (so : GoesBy protocol stands meanings moments sooner a b at taken) → (HasEnded at → ⊥) → LeavesDesk b c → TakesPiece b.wire c.wire n into → n ≤ length into → n ≤ PIECE
+    → FeedsBy protocol stands meanings c d (Ok next) more (piece_turn (course_of protocol meanings moments) a.desk.store so.octets (take n into)) → GoesBy protocol stands meanings moments more a d next (taken + n)
+more_by protocol stands laws meanings are moments sooner more a b c d at next taken n into so still leaves took low most fed =
+    let course = course_of protocol meanings moments in
+    let framed = laws.framed meanings are in
+    let store = a.desk.store in
+    let turn = piece_turn course store so.octets (take n into) in
+    let front = replies_to course store so.octets in
+    let all = so.octets ++ take n into in
+    let acts = acts_for-append course framed store so.octets (take n into) in
+    let given = given_by course.spelled turn.parts in
+    let after = rw (leaves.desk, leaves.keeper) at fed.does.follows in
+    record {
+      octets = all;
+      serving = Serving-of (replies_to course store) (MayTake course store) a.wire d.wire all (front ++ given)
+          (Halfway-give (replies_to course store) (MayTake course store) a.wire c.wire d.wire all front given
+          (Halfway-take (replies_to course store) (MayTake course store) a.wire b.wire c.wire so.octets into n so.serving took (may_take protocol stands laws meanings moments sooner a b at taken n into so still low most)) fed.does.gives)
+          (sym (replies_to-append course framed store so.octets (take n into)));
+      stood = rw (turns_for-append course framed store so.octets (take n into)) fed.stands_for;
+      follows = rw (acts, records_in-append (acts_for course store so.octets) turn.parts)
+          (Follows-more store b.desk.store d.desk.store a.keeper.octets b.keeper.octets d.keeper.octets (records_of (changes_by course store so.octets)) (records_of (changes_in turn.parts)) so.follows after);
+      count = taken_more so.octets into taken n so.count low;
+    }
+
+-- the same moments, some of which were told by a later call
+moments_as : (protocol : Protocol) {M : Type 0} (stands : Standing protocol M) (meanings : Meanings) (told later more : List ℕ) (a b : Around) (at : Session M) (taken : ℕ)
+    → GoesBy protocol stands meanings (told ++ (later ++ more)) (later ++ more) a b at taken → GoesBy protocol stands meanings ((told ++ later) ++ more) (later ++ more) a b at taken
+moments_as protocol stands meanings told later more a b at taken so =
+    subst (λ (moments : List ℕ). GoesBy protocol stands meanings moments (later ++ more) a b at taken) (sym (append_assoc told later more)) so
+
+-- one more piece
+pub goes_on : (protocol : Protocol) {M : Type 0} (stands : Standing protocol M) → AreLaws protocol stands → (a b c d : Around) (at next : Session M) (taken n : ℕ) (into piece : List ℕ)
+    → b.clock ≡ a.clock → c.clock ≡ b.clock → (HasEnded at → ⊥) → LeavesDesk b c → TakesPiece b.wire c.wire n into → n ≤ length into → n ≤ PIECE → piece ≡ take n into
+    → Goes protocol stands a b at taken → Feeds protocol stands c d at (Ok next) piece → Goes protocol stands a d next (taken + n)
+goes_on protocol stands laws a b c d at next taken n into piece clock ticks still leaves took low most same goes fed = record {
+  told = goes.told ++ fed.told;
+  are_told = told_then a.clock c.clock goes.told fed.told (ticks ∙ clock) goes.are_told fed.are_told;
+  goes = λ meanings are more.
+      let so = moments_as protocol stands meanings goes.told fed.told more a b at taken (goes.goes meanings are (fed.told ++ more)) in
+      let turns = turns_for (course_of protocol meanings ((goes.told ++ fed.told) ++ more)) a.desk.store so.octets in
+      more_by protocol stands laws meanings are ((goes.told ++ fed.told) ++ more) (fed.told ++ more) more a b c d at next taken n into so still leaves took low most
+      (rw same at (fed.feeds meanings are more turns.after turns.rest (rw leaves.desk so.stood)));
+}
+
+-- ---- the ends
+
+-- no moments are to come
+at_end : (protocol : Protocol) {M : Type 0} (stands : Standing protocol M) (meanings : Meanings) (told : List ℕ) (a b : Around) (at : Session M) (taken : ℕ)
+    → GoesBy protocol stands meanings (told ++ []) [] a b at taken → GoesBy protocol stands meanings told [] a b at taken
+at_end protocol stands meanings told a b at taken so = subst (λ (moments : List ℕ). GoesBy protocol stands meanings moments [] a b at taken) (append-nil told) so
+
+-- the opening was broken off
+pub start_fails : (protocol : Protocol) {M : Type 0} (stands : Standing protocol M) → AreLaws protocol stands → (a b : Around) (met : Fault) → BeginsSession protocol stands a b (Err met)
+    → ServesBy protocol a b (served_of (Err met))
+start_fails protocol stands laws a b met begins = (
+  [],
+  All-nil (IsTold a.clock),
+  λ meanings are.
+      let course = course_of protocol meanings [] in
+      let does = begins.does meanings are in
+      let store = a.desk.store in
+      let first = DoesFirst-between course.spelled a a b met [] (course.opening store) (turns_for course store []).parts (DoesAll-nil course.spelled a) does in
+      broken_off course (laws.framed meanings are) store b.desk.store a.keeper.octets b.keeper.octets met a.desk.limits.session_max a.wire b.wire [] first.given (omega arith)
+      (Halfway-first (replies_to course store) (MayTake course store) a.wire b.wire first.given first.gives) first.done,
+)
+
+-- a take failed
+pub take_fails : (protocol : Protocol) {M : Type 0} (stands : Standing protocol M) → AreLaws protocol stands → (a b c : Around) (at : Session M) (taken : ℕ) (met : Fault) → (met ≡ fault.Keeper → ⊥)
+    → taken ≤ a.desk.limits.session_max → LeavesDesk b c → TakesNothing b.wire c.wire → Goes protocol stands a b at taken → ServesBy protocol a c (served_of (Err met))
+take_fails protocol stands laws a b c at taken met fine few leaves nothing goes = (
+  goes.told,
+  goes.are_told,
+  λ meanings are.
+      let course = course_of protocol meanings goes.told in
+      let so = at_end protocol stands meanings goes.told a b at taken (goes.goes meanings are []) in
+      let store = a.desk.store in
+      let acts = acts_for course store so.octets in
+      let front = replies_to course store so.octets in
+      let none = DoesFirst-none course.spelled c met [] fine in
+      let follows : Follows store c.desk.store a.keeper.octets c.keeper.octets (records_of (changes_in acts)) = rw (leaves.desk, leaves.keeper) so.follows in
+      let done = IsDone-more course.P (Unit {0}) (Unit {0}) course.spelled store c.desk.store c.desk.store a.keeper.octets c.keeper.octets c.keeper.octets met acts [] [] none.given follows none.done in
+      broken_off course (laws.framed meanings are) store c.desk.store a.keeper.octets c.keeper.octets met a.desk.limits.session_max a.wire c.wire so.octets (front ++ none.given) (rw so.count few)
+      (Halfway-give (replies_to course store) (MayTake course store) a.wire c.wire c.wire so.octets front none.given
+      (Halfway-of (replies_to course store) (MayTake course store) a.wire c.wire so.octets (Serving-nothing (replies_to course store) (MayTake course store) a.wire b.wire c.wire so.octets so.serving nothing)) none.gives)
+      (rw (append-nil acts) at done),
+)
+
+-- the acts of a piece were broken off
+pub feed_fails : (protocol : Protocol) {M : Type 0} (stands : Standing protocol M) → AreLaws protocol stands → (a b c d : Around) (at : Session M) (taken n : ℕ) (into piece : List ℕ) (met : Fault)
+    → taken + n ≤ a.desk.limits.session_max → b.clock ≡ a.clock → c.clock ≡ b.clock → (HasEnded at → ⊥) → LeavesDesk b c → TakesPiece b.wire c.wire n into → n ≤ length into → n ≤ PIECE → piece ≡ take n into
+    → Goes protocol stands a b at taken → Feeds protocol stands c d at (Err met) piece → ServesBy protocol a d (served_of (Err met))
+feed_fails protocol stands laws a b c d at taken n into piece met few clock ticks still leaves took low most same goes fed = (
+  goes.told ++ fed.told,
+  told_then a.clock c.clock goes.told fed.told (ticks ∙ clock) goes.are_told fed.are_told,
+  λ meanings are.
+      let moments = goes.told ++ fed.told in
+      let course = course_of protocol meanings moments in
+      let kept = append-nil moments in
+      let so = subst (λ (m : List ℕ). GoesBy protocol stands meanings m (fed.told ++ []) a b at taken) kept (moments_as protocol stands meanings goes.told fed.told [] a b at taken (goes.goes meanings are (fed.told ++ []))) in
+      let store = a.desk.store in
+      let turns = turns_for course store so.octets in
+      let turn = piece_turn course store so.octets (take n into) in
+      let acts = acts_for course store so.octets in
+      let front = replies_to course store so.octets in
+      let by = rw same at (fed.feeds meanings are [] turns.after turns.rest (rw leaves.desk so.stood)) in
+      let follows : Follows store c.desk.store a.keeper.octets c.keeper.octets (records_of (changes_in acts)) = rw (leaves.desk, leaves.keeper) so.follows in
+      let whole : acts_for course store (so.octets ++ take n into) ≡ acts ++ (turn.parts ++ []) =
+      acts_for-append course (laws.framed meanings are) store so.octets (take n into) ∙ ap (λ l. acts ++ l) (sym (append-nil turn.parts)) in
+      broken_off course (laws.framed meanings are) store d.desk.store a.keeper.octets d.keeper.octets met a.desk.limits.session_max a.wire d.wire (so.octets ++ take n into) (front ++ by.does.given)
+      (rw (taken_more so.octets into taken n so.count low) few)
+      (Halfway-give (replies_to course store) (MayTake course store) a.wire c.wire d.wire (so.octets ++ take n into) front by.does.given
+      (Halfway-take (replies_to course store) (MayTake course store) a.wire b.wire c.wire so.octets into n so.serving took (may_take protocol stands laws meanings moments (fed.told ++ []) a b at taken n into so still low most)) by.does.gives)
+      (rw whole (IsDone-more course.P (Unit {0}) (Unit {0}) course.spelled store c.desk.store d.desk.store a.keeper.octets c.keeper.octets d.keeper.octets met acts turn.parts [] by.does.given follows by.does.done)),
+)
+
+-- what is given of a stream may be sent
+acts_fit : (protocol : Protocol) {M : Type 0} (stands : Standing protocol M) → AreLaws protocol stands → (meanings : Meanings) → AreMeanings meanings → (moments : List ℕ) (desk : Desk) (octets : List ℕ) → IsOpen desk
+    → AllByRecursion (IsFitAct (protocol.Fits meanings)) (acts_for (course_of protocol meanings moments) desk.store octets)
+acts_fit protocol stands laws meanings are moments desk octets opens =
+    let begun = laws.begins_fit meanings are moments desk opens in
+    let later = all_fit protocol meanings (laws.fits meanings are) (protocol.start moments desk.store) octets begun.sound in
+    all-append (IsFitAct (protocol.Fits meanings)) (protocol.opening desk.store) (turns_for (course_of protocol meanings moments) desk.store octets).parts begun.fit later.fit
+
+-- what was sent for octets
+sent : (protocol : Protocol) {M : Type 0} (stands : Standing protocol M) → AreLaws protocol stands → (meanings : Meanings) → AreMeanings meanings → (moments more : List ℕ) (a b : Around) (at : Session M) (taken : ℕ) → IsOpen a.desk
+    → (so : GoesBy protocol stands meanings moments more a b at taken)
+    → IsSent (course_of protocol meanings moments) a.desk.store b.desk.store a.keeper.octets b.keeper.octets so.octets (replies_to (course_of protocol meanings moments) a.desk.store so.octets)
+sent protocol stands laws meanings are moments more a b at taken opens so = record { replies = refl; fit = acts_fit protocol stands laws meanings are moments a.desk so.octets opens; changes = so.follows }
+
+-- after the end more octets change nothing
+sent_more : (course : Course) → IsFramed course.next → ((state : course.S) (octets : List ℕ) → course.HasEnded state → all_turns course.next state octets ≡ stay state octets) → (store after : StoreState) (had has : Option (List ℕ))
+    (octets given more : List ℕ) → EndsBy course store octets → IsSent course store after had has octets given → IsSent course store after had has (octets ++ more) given
+sent_more course framed quiet store after had has octets given more ends is =
+    let turn = turns_for course store octets in
+    let none : piece_turn course store octets more ≡ stay turn.after (turn.rest ++ more) = quiet turn.after (turn.rest ++ more) ends in
+    let acts : acts_for course store (octets ++ more) ≡ acts_for course store octets =
+    acts_for-append course framed store octets more
+    ∙ ap (λ (t : Turn course.S (Act course.P)). acts_for course store octets ++ t.parts) none ∙ append-nil (acts_for course store octets) in
+    record {
+      replies = is.replies ∙ sym (ap (given_by course.spelled) acts);
+      fit = rw acts is.fit;
+      changes = rw acts is.changes;
+    }
+
+-- all that was taken was done
+goes_lawfully : (protocol : Protocol) {M : Type 0} (stands : Standing protocol M) → AreLaws protocol stands → (meanings : Meanings) → AreMeanings meanings → (moments more : List ℕ) (a b : Around) (at : Session M) (taken max : ℕ)
+    (served : Served) → met_of served ≡ None → taken ≤ max → GoesBy protocol stands meanings moments more a b at taken
+    → ServesLawfully (course_of protocol meanings moments) a.desk.store b.desk.store a.keeper.octets b.keeper.octets served max a.wire b.wire
+goes_lawfully protocol stands laws meanings are moments more a b at taken max served whole few so =
+    let course = course_of protocol meanings moments in
+    lawfully course (laws.framed meanings are) a.desk.store b.desk.store a.keeper.octets b.keeper.octets served max a.wire b.wire so.octets (replies_to course a.desk.store so.octets) (rw so.count few)
+    (Halfway-of (replies_to course a.desk.store) (MayTake course a.desk.store) a.wire b.wire so.octets so.serving) (rw whole (refl, so.follows))
+
+-- the session has ended
+session_by : (protocol : Protocol) {M : Type 0} (stands : Standing protocol M) → AreLaws protocol stands → (meanings : Meanings) → AreMeanings meanings → (moments more : List ℕ) (a b : Around) (at : Session M) (taken max : ℕ)
+    → IsOpen a.desk → taken ≤ max → HasEnded at → GoesBy protocol stands meanings moments more a b at taken
+    → Serves (course_of protocol meanings moments) a.desk.store b.desk.store a.keeper.octets b.keeper.octets Ended max a.wire b.wire
+session_by protocol stands laws meanings are moments more a b at taken max opens few is so =
+    let course = course_of protocol meanings moments in
+    let store = a.desk.store in
+    let turns = turns_for course store so.octets in
+    let ends : EndsBy course store so.octets = ended_state protocol stands more at b.desk turns.after turns.rest so.stood is in
+    let due = sent protocol stands laws meanings are moments more a b at taken opens so in
+    let over = λ (state : course.S) (octets : List ℕ) (ended : course.HasEnded state). all_turns-stop course.next state octets (laws.quiet meanings state octets ended) in
+    record {
+      lawful = goes_lawfully protocol stands laws meanings are moments more a b at taken max Ended refl few so;
+      ended = λ _. record {
+        entries = so.serving.entries;
+        moves = so.serving.moves;
+        lawful = so.serving.lawful;
+        takes = so.serving.takes;
+        few = rw (so.serving.taken_is, so.count) few;
+        sent = rw (so.serving.taken_is, so.serving.answered) due;
+        whole = rw so.serving.answered (IfSome_then a.wire.left {P = λ octets. IsPrefixOf so.octets octets}
+            (left_begins (replies_to course store) (MayTake course store) a.wire b.wire so.octets (replies_to course store so.octets)
+            (Halfway-of (replies_to course store) (MayTake course store) a.wire b.wire so.octets so.serving))
+            (λ octets front. rw front.1 (sent_more course (laws.framed meanings are) over store b.desk.store a.keeper.octets b.keeper.octets so.octets (replies_to course store so.octets) front.0 ends due)));
+        end = inl (rw so.serving.taken_is ends);
+      };
+      limit = λ bad. absurd (never_limit bad);
+    }
+
+pub session_ends : (protocol : Protocol) {M : Type 0} (stands : Standing protocol M) → AreLaws protocol stands → (a b : Around) (at : Session M) (taken : ℕ) → IsOpen a.desk → taken ≤ a.desk.limits.session_max → HasEnded at
+    → Goes protocol stands a b at taken → ServesBy protocol a b Ended
+session_ends protocol stands laws a b at taken opens few is goes = (
+  goes.told,
+  goes.are_told,
+  λ meanings are. session_by protocol stands laws meanings are goes.told [] a b at taken a.desk.limits.session_max opens few is (at_end protocol stands meanings goes.told a b at taken (goes.goes meanings are [])),
+)
+
+-- nothing was left to take
+input_by : (protocol : Protocol) {M : Type 0} (stands : Standing protocol M) → AreLaws protocol stands → (meanings : Meanings) → AreMeanings meanings → (moments more : List ℕ) (a b c : Around) (at : Session M) (taken max n : ℕ) (into : List ℕ)
+    → IsOpen a.desk → (HasEnded at → ⊥) → TakesPiece b.wire c.wire n into → n ≡ 0 → taken < max → GoesBy protocol stands meanings moments more a b at taken
+    → Serves (course_of protocol meanings moments) a.desk.store b.desk.store a.keeper.octets b.keeper.octets Ended max a.wire c.wire
+input_by protocol stands laws meanings are moments more a b c at taken max n into opens still piece none low so =
+    let course = course_of protocol meanings moments in
+    let store = a.desk.store in
+    let due = sent protocol stands laws meanings are moments more a b at taken opens so in
+    let half = Halfway-take (replies_to course store) (MayTake course store) a.wire b.wire c.wire so.octets into n so.serving piece
+    (may_take protocol stands laws meanings moments more a b at taken n into so still (omega (arith, none)) (omega (arith, none))) in
+    let same : so.octets ++ take n into ≡ so.octets = rw none (append-nil so.octets) in
+    let taken_is : taken_of half.entries ≡ so.octets = half.taken_is ∙ same in
+    record {
+      lawful = lawfully course (laws.framed meanings are) store b.desk.store a.keeper.octets b.keeper.octets Ended max a.wire c.wire (so.octets ++ take n into) (replies_to course store so.octets)
+          (rw same (omega (arith, so.count))) half (rw same (refl, so.follows));
+      ended = λ _. record {
+        entries = half.entries;
+        moves = half.moves;
+        lawful = half.lawful;
+        takes = half.takes;
+        few = rw taken_is (omega (arith, so.count));
+        sent = rw (taken_is, half.given_is) due;
+        whole = rw half.given_is (IfSome_then a.wire.left {P = λ octets. so.octets ++ take n into ≡ octets}
+            (left_all (replies_to course store) (MayTake course store) a.wire c.wire (so.octets ++ take n into) (replies_to course store so.octets) half (piece.end none))
+            (λ octets all. subst (λ xs. IsSent course store b.desk.store a.keeper.octets b.keeper.octets xs (replies_to course store so.octets)) (sym same ∙ all) due));
+        end = inr (piece.end none, rw taken_is (omega (arith, so.count)));
+      };
+      limit = λ bad. absurd (never_limit bad);
+    }
+
+pub input_ends : (protocol : Protocol) {M : Type 0} (stands : Standing protocol M) → AreLaws protocol stands → (a b c : Around) (at : Session M) (taken n : ℕ) (into : List ℕ) → IsOpen a.desk → (HasEnded at → ⊥)
+    → LeavesDesk b c → TakesPiece b.wire c.wire n into → n ≡ 0 → taken < a.desk.limits.session_max → Goes protocol stands a b at taken → ServesBy protocol a c Ended
+input_ends protocol stands laws a b c at taken n into opens still leaves piece none low goes = (
+  goes.told,
+  goes.are_told,
+  λ meanings are. rw (leaves.desk, leaves.keeper) (input_by protocol stands laws meanings are goes.told [] a b c at taken a.desk.limits.session_max n into opens still piece none low
+      (at_end protocol stands meanings goes.told a b at taken (goes.goes meanings are []))),
+)
+
+-- the limit was reached
+limit_by : (protocol : Protocol) {M : Type 0} (stands : Standing protocol M) → AreLaws protocol stands → (meanings : Meanings) → AreMeanings meanings → (moments more : List ℕ) (a b : Around) (at : Session M) (taken max : ℕ)
+    → IsOpen a.desk → (HasEnded at → ⊥) → taken ≡ max → GoesBy protocol stands meanings moments more a b at taken
+    → Serves (course_of protocol meanings moments) a.desk.store b.desk.store a.keeper.octets b.keeper.octets Limit max a.wire b.wire
+limit_by protocol stands laws meanings are moments more a b at taken max opens still full so =
+    let course = course_of protocol meanings moments in
+    let store = a.desk.store in
+    let turns = turns_for course store so.octets in
+    record {
+      lawful = goes_lawfully protocol stands laws meanings are moments more a b at taken max Limit refl (omega (arith, full)) so;
+      ended = λ bad. absurd (never_limit (sym bad));
+      limit = λ _. record {
+        entries = so.serving.entries;
+        moves = so.serving.moves;
+        lawful = so.serving.lawful;
+        takes = so.serving.takes;
+        sent = rw (so.serving.taken_is, so.serving.answered) (sent protocol stands laws meanings are moments more a b at taken opens so);
+        full = rw so.serving.taken_is (so.count ∙ full);
+        goes_on = rw so.serving.taken_is (λ ends. still (ended_session protocol stands laws more at b.desk turns.after turns.rest so.stood ends));
+      };
+    }
+
+pub limit_reached : (protocol : Protocol) {M : Type 0} (stands : Standing protocol M) → AreLaws protocol stands → (a b : Around) (at : Session M) (taken : ℕ) → IsOpen a.desk → (HasEnded at → ⊥)
+    → taken ≡ a.desk.limits.session_max → Goes protocol stands a b at taken → ServesBy protocol a b Limit
+limit_reached protocol stands laws a b at taken opens still full goes = (
+  goes.told,
+  goes.are_told,
+  λ meanings are. limit_by protocol stands laws meanings are goes.told [] a b at taken a.desk.limits.session_max opens still full (at_end protocol stands meanings goes.told a b at taken (goes.goes meanings are [])),
+)

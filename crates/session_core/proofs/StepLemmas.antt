@@ -1,0 +1,68 @@
+-- How a step of a machine is shown to be one: a turn that was carried out, no turn yet, or a fault before anything was done.
+use Rattle.std.proofs.Common.{◌≡◌, ℕ, List, [], ◌++◌, drop, Ok, Err, Some, refl, ap}
+use Rattle.std.proofs.lemmas.List.Elements.{All-nil}
+use Rattle.mail_wire.specs.Turns.{Turn, IsFramed, all_turns}
+use Rattle.mail_wire.specs.declared.outside.Fault.{Fault}
+use Rattle.mail_wire.specs.declared.outside.Fault.TheVariants as fault
+use Rattle.mail_wire.proofs.TurnsLemmas.{all_turns-go}
+use Rattle.mail_store.specs.Acts.{Act}
+use Rattle.session_core.specs.Around.{Around, IsTold}
+use Rattle.session_core.specs.Doing.{DoesAll, DoesFirst}
+use Rattle.session_core.specs.Meanings.{Meanings}
+use Rattle.session_core.specs.Protocol.{Protocol}
+use Rattle.session_core.specs.Steps.{Standing, StandsAfter, Steps, StepsBy}
+use Rattle.session_core.specs.declared.machine.Came.{Came}
+use Rattle.session_core.proofs.DoingLemmas.{DoesAll-nil, DoesFirst-none}
+
+-- the turn at the head of what was kept and the piece was carried out
+pub StepsBy-turn : (protocol : Protocol) {M : Type 0} (stands : Standing protocol M) (meanings : Meanings) → IsFramed (protocol.next meanings) → (a b : Around) (came : Came M) (keeps piece more rest : List ℕ)
+    (state : protocol.S) (octets : List ℕ) (turn : Turn protocol.S (Act protocol.P))
+    → protocol.next meanings state octets ≡ Some turn → DoesAll (protocol.spelled meanings) a b turn.parts
+    → StandsAfter protocol stands more came.next keeps b.desk turn.after rest → turn.rest ≡ rest ++ drop came.used piece
+    → StepsBy protocol stands meanings a b (Ok came) keeps piece more (all_turns (protocol.next meanings) state octets)
+StepsBy-turn protocol stands meanings framed a b came keeps piece more rest state octets turn is does has left = record {
+  acts = turn.parts;
+  turn = all_turns (protocol.next meanings) turn.after turn.rest;
+  turns_are = all_turns-go (protocol.next meanings) framed state octets turn is;
+  does = does;
+  stays = record { state = turn.after; rest = rest; has = has; turn_is = ap (λ l. all_turns (protocol.next meanings) turn.after l) left };
+}
+
+-- a fault in it
+pub StepsBy-fails : (protocol : Protocol) {M : Type 0} (stands : Standing protocol M) (meanings : Meanings) → IsFramed (protocol.next meanings) → (a b : Around) (keeps piece more : List ℕ) (met : Fault)
+    (state : protocol.S) (octets : List ℕ) (turn : Turn protocol.S (Act protocol.P)) → protocol.next meanings state octets ≡ Some turn → DoesFirst (protocol.spelled meanings) a b met turn.parts
+    → StepsBy protocol {M = M} stands meanings a b (Err met) keeps piece more (all_turns (protocol.next meanings) state octets)
+StepsBy-fails protocol stands meanings framed a b keeps piece more met state octets turn is first = record {
+  acts = turn.parts;
+  turn = all_turns (protocol.next meanings) turn.after turn.rest;
+  turns_are = all_turns-go (protocol.next meanings) framed state octets turn is;
+  does = first;
+  stays = tt;
+}
+
+-- no turn yet: more was kept
+pub StepsBy-waits : (protocol : Protocol) {M : Type 0} (stands : Standing protocol M) (meanings : Meanings) (a : Around) (came : Came M) (keeps piece more rest : List ℕ)
+    (state : protocol.S) (octets : List ℕ) → StandsAfter protocol stands more came.next keeps a.desk state rest → octets ≡ rest ++ drop came.used piece
+    → StepsBy protocol stands meanings a a (Ok came) keeps piece more (all_turns (protocol.next meanings) state octets)
+StepsBy-waits protocol stands meanings a came keeps piece more rest state octets has left = record {
+  acts = [];
+  turn = all_turns (protocol.next meanings) state octets;
+  turns_are = refl;
+  does = DoesAll-nil (protocol.spelled meanings) a;
+  stays = record { state = state; rest = rest; has = has; turn_is = ap (λ l. all_turns (protocol.next meanings) state l) left };
+}
+
+-- a fault before anything was done
+pub Steps-stop : (protocol : Protocol) {M : Type 0} (stands : Standing protocol M) (a : Around) (machine : M) (kept keeps piece : List ℕ) (met : Fault) → (met ≡ fault.Keeper → ⊥)
+    → Steps protocol stands a a machine kept keeps piece (Err met)
+Steps-stop protocol stands a machine kept keeps piece met fine = record {
+  told = [];
+  are_told = All-nil (IsTold a.clock);
+  steps = λ meanings are more state rest has. record {
+    acts = [];
+    turn = all_turns (protocol.next meanings) state (rest ++ piece);
+    turns_are = refl;
+    does = DoesFirst-none (protocol.spelled meanings) a met [] fine;
+    stays = tt;
+  };
+}

@@ -1,0 +1,28 @@
+-- What the bundle's changing calls do to a store.
+use Rattle.std.specs.Prelude.{List, [], ◌∷◌, Option, None, Some}
+use Rattle.mail_store.specs.Changing.{delivered, delivery_refusal}
+use Rattle.mail_store.specs.StoreState.{StoreState}
+use Rattle.mail_store.specs.declared.changing.StoreFault.{StoreFault}
+use Rattle.mail_store.specs.declared.delivery.Delivery.{Delivery}
+use Rattle.journal_records.specs.declared.records.Record.{Record}
+use Rattle.session_core.specs.declared.outside.Delivered.{Delivered}
+use Rattle.session_core.specs.declared.outside.Delivered.TheVariants.{Stored, TooLarge}
+
+-- one call puts these records last, and there is none where there are none
+abbrev pub calls_of : List Record → List (List Record)
+calls_of [] = []
+calls_of (one ∷ others) = (one ∷ others) ∷ []
+
+-- one call, unless it is refused
+abbrev pub unless_refused : Option StoreFault → List Record → List (List Record)
+unless_refused None all = all ∷ []
+unless_refused (Some refusal) all = []
+
+-- the change of a delivery
+abbrev pub changes_of : StoreState → Delivery → List (List Record)
+changes_of store delivery = unless_refused (delivery_refusal store delivery) (delivered store.kept delivery)
+
+-- what came of a delivery that was refused so, or that wasn't
+abbrev pub came_of : Option StoreFault → Delivered
+came_of None = Stored
+came_of (Some refusal) = TooLarge

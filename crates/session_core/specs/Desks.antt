@@ -1,0 +1,41 @@
+-- What sessions are served from, and when it serves them.
+use Rattle.std.specs.Prelude.{◌≡◌, ◌⊎◌, ℕ, ◌<◌, ◌≤◌, List, [], codes, false, slice_get}
+use Rattle.std.specs.Option.{option_map_or}
+use Rattle.mail_store.specs.declared.limits.TheConstants.{MESSAGE_MAX}
+use Rattle.journal_records.specs.Addresses.{IsDomainText}
+use Rattle.mail_store.specs.Kept.{Kept, name_of}
+use Rattle.mail_store.specs.StoreState.{StoreState, AreStored}
+use Rattle.mail_store.specs.declared.kept.Message.{Message}
+use Rattle.surrogate_cache.specs.declared.cache.Cache.{Cache}
+use Rattle.session_core.specs.declared.desk.Desk.{Desk}
+use Rattle.session_core.specs.declared.desk.Limits.{Limits}
+
+-- the limits under which a desk works
+pub record AreLimits (limits : Limits) : Type 0 where
+  pub message_bound : limits.message_max ≤ MESSAGE_MAX
+  pub session_longer : limits.message_max < limits.session_max
+  pub some_blocks : 0 < limits.pool_blocks
+  pub few_blocks : limits.pool_blocks ≤ 65536
+  pub some_entries : 0 < limits.cache_entries
+
+-- a store's name is ASCII: a normal form, or `localhost`
+abbrev pub IsName : List ℕ → Type 0
+IsName name = IsDomainText name ⊎ (name ≡ codes "localhost")
+
+-- what the cache keeps is of these messages; so far it keeps nothing
+abbrev pub IsCacheOf : Cache → Kept → Type 0
+IsCacheOf cache kept = Unit {0}
+
+-- A desk that serves sessions: its store hasn't failed and has a name, each of its messages has a tree, its limits are the store's, and
+-- its cache is that of the store.
+pub record IsOpen (desk : Desk) : Type 0 where
+  pub limits : AreLimits desk.limits
+  pub agrees : desk.store.message_max ≡ desk.limits.message_max
+  pub works : desk.store.failed ≡ false
+  pub named : IsName (name_of desk.store.kept)
+  pub stored : AreStored desk.store.kept.messages
+  pub cached : IsCacheOf desk.cache desk.store.kept
+
+-- the octets of a message of the store
+abbrev pub octets_at : StoreState → ℕ → List ℕ
+octets_at store id = option_map_or (λ (message : Message). message.octets) (slice_get store.kept.messages id) []

@@ -1,0 +1,117 @@
+-- A protocol of lines and blocks of octets, by its rows.
+use Rattle.std.specs.Prelude.{◌≡◌, ◌++◌, ℕ, zero, suc, ◌≤◌, List, length, take, drop, nat_le, if◌then◌else◌, Option, Some, None, Result, IfOk}
+use Rattle.std.specs.List.{All, AllByRecursion}
+use Rattle.mail_wire.specs.Framing.{Framed, waiting, whole, too_long, next_line}
+use Rattle.mail_wire.specs.Turns.{Turn}
+use Rattle.mail_wire.specs.declared.outside.Fault.{Fault}
+use Rattle.mail_store.specs.Acts.{Act, IsFitAct}
+use Rattle.mail_store.specs.StoreState.{StoreState}
+use Rattle.session_core.specs.Around.{Around, IsTold}
+use Rattle.session_core.specs.Doing.{Does}
+use Rattle.session_core.specs.Keeps.{fault_of}
+use Rattle.session_core.specs.Meanings.{Meanings, WithMeanings}
+use Rattle.session_core.specs.Protocol.{Protocol}
+use Rattle.session_core.specs.declared.desk.Desk.{Desk}
+use Rattle.session_core.specs.declared.rows.Wants.{Wants}
+use Rattle.session_core.specs.declared.rows.Wants.TheVariants as wants
+
+-- the acts of a row, and the state after it
+pub record Row (S P : Type 0) : Type 0 where
+  pub acts : List (Act P)
+  pub after : S
+
+pub record Grammar : Type 1 where
+  pub S : Type 0
+  pub P : Type 0
+  pub opening : StoreState → List (Act P)
+  pub start : List ℕ → StoreState → S
+  -- what a state reads next; one that has ended reads nothing
+  pub wants : S → Option Wants
+  -- the row of what was read, and that of a line that is too long
+  pub row : Meanings → S → List ℕ → Row S P
+  pub long_row : Meanings → S → Row S P
+  pub spelled : Meanings → P → List ℕ
+  pub Fits : Meanings → P → Type 0
+  pub IsSound : S → Type 0
+
+-- so many octets, one at least
+unfoldable pub count_cut : ℕ → List ℕ → Framed
+count_cut zero octets = waiting
+count_cut (suc n) octets = if nat_le (suc n) (length octets) then whole (take (suc n) octets) (drop (suc n) octets) else waiting
+
+-- what a stream begins with, where this is read
+abbrev pub cut_by : Wants → List ℕ → Framed
+cut_by wants.Line octets = next_line octets
+cut_by (wants.Count n) octets = count_cut n octets
+
+-- the turn of what a stream begins with
+abbrev pub turn_by : (grammar : Grammar) → Meanings → grammar.S → Framed → Option (Turn grammar.S (Act grammar.P))
+turn_by grammar meanings state waiting = None
+turn_by grammar meanings state (whole unit rest) =
+    Some (record { parts = (grammar.row meanings state unit).acts; after = (grammar.row meanings state unit).after; rest = rest })
+turn_by grammar meanings state (too_long rest) =
+    Some (record { parts = (grammar.long_row meanings state).acts; after = (grammar.long_row meanings state).after; rest = rest })
+
+-- after the end nothing is read
+abbrev pub turn_in : (grammar : Grammar) → Meanings → grammar.S → Option Wants → List ℕ → Option (Turn grammar.S (Act grammar.P))
+turn_in grammar meanings state None octets = None
+turn_in grammar meanings state (Some want) octets = turn_by grammar meanings state (cut_by want octets)
+
+abbrev pub protocol_of : Grammar → Protocol
+protocol_of grammar = record {
+  S = grammar.S;
+  P = grammar.P;
+  opening = grammar.opening;
+  start = grammar.start;
+  next = λ meanings state octets. turn_in grammar meanings state (grammar.wants state) octets;
+  spelled = grammar.spelled;
+  Fits = grammar.Fits;
+  HasEnded = λ state. grammar.wants state ≡ None;
+  IsSound = grammar.IsSound;
+}
+
+-- a whole line has its CRLF, and a block as many octets as were wanted
+abbrev pub IsUnit : Wants → List ℕ → Type 0
+IsUnit wants.Line unit = 2 ≤ length unit
+IsUnit (wants.Count n) unit = length unit ≡ n
+
+-- the states that rows stand for, with these moments to come
+abbrev pub StandingRows : Grammar → Type 0 → Type 1
+StandingRows grammar R = List ℕ → R → Desk → grammar.S → Type 0
+
+-- what the rows behind an answer stand for; none stands for an end
+abbrev pub StandsNext : (grammar : Grammar) {R : Type 0} → StandingRows grammar R → List ℕ → Option R → Desk → grammar.S → Type 0
+StandsNext grammar stands more None desk state = grammar.wants state ≡ None
+StandsNext grammar stands more (Some rows) desk state = stands more rows desk state
+
+-- The opening was done, or the first of it; and the rows stand for the start.
+pub record BeginsRows (grammar : Grammar) {R : Type 0} (stands : StandingRows grammar R) (before now : Around) (result : Result R Fault) : Type 0 where
+  pub does : WithMeanings (λ meanings. Does (grammar.spelled meanings) before now (fault_of result) (grammar.opening before.desk.store))
+  pub stands_for : IfOk result (λ rows. (moments : List ℕ) → stands moments rows now.desk (grammar.start moments before.desk.store))
+
+-- this row was done
+pub record AnswersBy (grammar : Grammar) {R : Type 0} (stands : StandingRows grammar R) (meanings : Meanings) (before now : Around) (result : Result (Option R) Fault) (more : List ℕ) (row : Row grammar.S grammar.P) : Type 0 where
+  pub does : Does (grammar.spelled meanings) before now (fault_of result) row.acts
+  pub next : IfOk result (λ next. StandsNext grammar stands more next now.desk row.after)
+
+-- The row of the unit was done, or after a fault the first of it, with moments that the clock told.
+pub record Answers (grammar : Grammar) {R : Type 0} (stands : StandingRows grammar R) (before now : Around) (rows : R) (unit : List ℕ) (result : Result (Option R) Fault) : Type 0 where
+  pub told : List ℕ
+  pub are_told : All (IsTold before.clock) told
+  pub answers : WithMeanings (λ meanings. (more : List ℕ) (state : grammar.S) → stands (told ++ more) rows before.desk state
+      → AnswersBy grammar stands meanings before now result more (grammar.row meanings state unit))
+
+-- The row of a line that is too long was done, or after a fault the first of it.
+abbrev pub Refuses : (grammar : Grammar) {R : Type 0} → StandingRows grammar R → Around → Around → R → Result (Unit {0}) Fault → Type 0
+Refuses grammar stands before now rows result =
+    WithMeanings (λ meanings. (more : List ℕ) (state : grammar.S) → stands more rows before.desk state
+    → Does (grammar.spelled meanings) before now (fault_of result) (grammar.long_row meanings state).acts)
+
+-- what a row gives may be sent, and its state is sound
+pub record IsFitRow (grammar : Grammar) (meanings : Meanings) (row : Row grammar.S grammar.P) : Type 0 where
+  pub fit : AllByRecursion (IsFitAct (grammar.Fits meanings)) row.acts
+  pub sound : grammar.IsSound row.after
+
+-- what a session does first, as a row
+abbrev pub opening_row : (grammar : Grammar) → List ℕ → StoreState → Row grammar.S grammar.P
+opening_row grammar moments store = record { acts = grammar.opening store; after = grammar.start moments store }

@@ -1,0 +1,14 @@
+pub mod Meanings
+pub mod Desks
+pub mod Around
+pub mod Keeps
+pub mod Doing
+pub mod Changes
+pub mod Protocol
+pub mod Steps
+pub mod Sessions
+pub mod Grammar
+pub mod FramedRows
+pub mod FramedLaws
+pub mod Served
+pub mod Serving

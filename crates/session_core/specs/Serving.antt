@@ -1,0 +1,148 @@
+-- What a session is sent of a stream, and what the call that serves it does to its wire, its store and its keeper.
+use Rattle.std.specs.Prelude.{◌≡◌, ◌⊎◌, ℕ, ◌<◌, ◌≤◌, List, [], ◌∷◌, ◌++◌, length, Option, IfSome}
+use Rattle.std.specs.Io.KnownBytes.{IsAtEnd}
+use Rattle.std.specs.List.{All, AllByRecursion}
+use Rattle.mail_wire.specs.Moves.{Moves}
+use Rattle.mail_wire.specs.Telling.{Telling}
+use Rattle.mail_wire.specs.Transcript.{IsLawful, taken_of, given_of}
+use Rattle.mail_wire.specs.Turns.{Turn, all_turns}
+use Rattle.mail_wire.specs.declared.outside.Entry.{Entry}
+use Rattle.mail_wire.specs.declared.outside.Entry.TheVariants.{Taken, Given}
+use Rattle.mail_wire.specs.declared.traffic.TheConstants.{PIECE}
+use Rattle.mail_store.specs.Acts.{Act, IsFitAct, changes_in}
+use Rattle.mail_store.specs.Doing.{given_by, IsDone}
+use Rattle.mail_store.specs.Following.{records_of, Follows}
+use Rattle.mail_store.specs.StoreState.{StoreState}
+use Rattle.journal_records.specs.declared.records.Record.{Record}
+use Rattle.session_core.specs.Around.{Around, IsTold}
+use Rattle.session_core.specs.Keeps.{answer_of}
+use Rattle.session_core.specs.Meanings.{Meanings, WithMeanings}
+use Rattle.session_core.specs.Protocol.{Protocol}
+use Rattle.session_core.specs.Served.{met_of}
+use Rattle.session_core.specs.declared.serving.Served.{Served}
+use Rattle.session_core.specs.declared.serving.Served.TheVariants.{Ended, Limit}
+
+-- ---- a protocol with all that it takes as given
+
+-- A machine over a store: what it does first, its turns, what its parts are in octets, and what holds of each that is given.
+pub record Course : Type 1 where
+  pub S : Type 0
+  pub P : Type 0
+  pub opening : StoreState → List (Act P)
+  pub start : StoreState → S
+  pub next : S → List ℕ → Option (Turn S (Act P))
+  pub HasEnded : S → Type 0
+  pub spelled : P → List ℕ
+  pub Fits : P → Type 0
+
+-- with what is meant, and the moments that a clock told
+abbrev pub course_of : Protocol → Meanings → List ℕ → Course
+course_of protocol meanings moments = record {
+  S = protocol.S;
+  P = protocol.P;
+  opening = protocol.opening;
+  start = protocol.start moments;
+  next = protocol.next meanings;
+  HasEnded = protocol.HasEnded;
+  spelled = protocol.spelled meanings;
+  Fits = protocol.Fits meanings;
+}
+
+-- What holds of a protocol, whatever functions give surrogates, read paths and tell trees, with moments that a clock told, which may
+-- tell a fixed reading.
+abbrev pub OfCourse : Protocol → Option ℕ → (Course → Type 0) → Type 0
+OfCourse protocol reading P = (moments : List ℕ) × All (IsTold reading) moments × WithMeanings (λ meanings. P (course_of protocol meanings moments))
+
+-- ---- what the machine makes of a stream
+
+-- the turns of its whole commands, up to the end
+abbrev pub turns_for : (course : Course) → StoreState → List ℕ → Turn course.S (Act course.P)
+turns_for course store octets = all_turns course.next (course.start store) octets
+
+-- what it does: it begins, and carries out these commands
+abbrev pub acts_for : (course : Course) → StoreState → List ℕ → List (Act course.P)
+acts_for course store octets = course.opening store ++ (turns_for course store octets).parts
+
+-- the octets that it gives
+abbrev pub replies_to : Course → StoreState → List ℕ → List ℕ
+replies_to course store octets = given_by course.spelled (acts_for course store octets)
+
+-- the changes that it makes
+abbrev pub changes_by : Course → StoreState → List ℕ → List (List Record)
+changes_by course store octets = changes_in (acts_for course store octets)
+
+-- the commands end the session
+abbrev pub EndsBy : Course → StoreState → List ℕ → Type 0
+EndsBy course store octets = course.HasEnded (turns_for course store octets).after
+
+-- ---- the promise
+
+-- What a session is sent of a stream of client octets: the replies of its protocol's machine, over one surrogate per message. Each part
+-- of a reply may be sent: no octet of a reply line is above 127, sizes and offsets are those of what is served, and what a session that
+-- has not enabled UTF-8 is shown is a range of the surrogate, all of whose headers are ASCII. Its commands' changes, and no others, are
+-- made in the store and in the keeper.
+pub record IsSent (course : Course) (store after : StoreState) (had has : Option (List ℕ)) (octets given : List ℕ) : Type 0 where
+  pub replies : given ≡ replies_to course store octets
+  pub fit : AllByRecursion (IsFitAct course.Fits) (acts_for course store octets)
+  pub changes : Follows store after had has (records_of (changes_by course store octets))
+
+-- ---- what the call does
+
+abbrev pub IsPrefixOf : List ℕ → List ℕ → Type 0
+IsPrefixOf front whole = (rest : List ℕ) × (whole ≡ front ++ rest)
+
+-- this holds of each take: of what was taken before it, these octets first, and of what it takes
+abbrev pub EachTake : (List ℕ → List ℕ → Type 0) → List ℕ → List Entry → Type 0
+EachTake May taken [] = Unit {0}
+EachTake May taken (Taken octets ∷ entries) = May taken octets × EachTake May (taken ++ octets) entries
+EachTake May taken (Given octets ∷ entries) = EachTake May taken entries
+
+-- What was taken has not ended the session, and no more than a piece is taken.
+pub record MayTake (course : Course) (store : StoreState) (taken octets : List ℕ) : Type 0 where
+  pub goes_on : ¬ EndsBy course store taken
+  pub piece : length octets ≤ PIECE
+
+-- Before each take all that was taken was answered and had not ended the session, and no take was of more than a piece. Nothing was
+-- given but a prefix of the replies to what was left. No more was taken than a session may take. What was taken brings acts: all
+-- of them were done, or, by the answer, the first of them, in their order.
+pub record ServesLawfully (course : Course) (store after : StoreState) (had has : Option (List ℕ)) (served : Served) (max : ℕ) (before now : Telling) : Type 0 where
+  pub entries : List Entry
+  pub moves : Moves before now entries
+  pub lawful : IsLawful (replies_to course store) entries
+  pub takes : EachTake (MayTake course store) [] entries
+  pub few : length (taken_of entries) ≤ max
+  pub begun : IfSome before.left (λ octets. IsPrefixOf (given_of entries) (replies_to course store octets))
+  pub done : IsDone course.spelled store after had has (answer_of (met_of served)) (acts_for course store (taken_of entries)) (given_of entries)
+
+-- The session was sent what is due for all that was left, and has ended, or nothing is left.
+pub record ServesAll (course : Course) (store after : StoreState) (had has : Option (List ℕ)) (max : ℕ) (before now : Telling) : Type 0 where
+  pub entries : List Entry
+  pub moves : Moves before now entries
+  pub lawful : IsLawful (replies_to course store) entries
+  pub takes : EachTake (MayTake course store) [] entries
+  pub few : length (taken_of entries) ≤ max
+  pub sent : IsSent course store after had has (taken_of entries) (given_of entries)
+  pub whole : IfSome before.left (λ octets. IsSent course store after had has octets (given_of entries))
+  pub end : EndsBy course store (taken_of entries) ⊎ (IsAtEnd now.left × (length (taken_of entries) < max))
+
+-- As many octets were taken as a session may take. It was sent what is due for these, and has not ended.
+pub record ServesUpTo (course : Course) (store after : StoreState) (had has : Option (List ℕ)) (max : ℕ) (before now : Telling) : Type 0 where
+  pub entries : List Entry
+  pub moves : Moves before now entries
+  pub lawful : IsLawful (replies_to course store) entries
+  pub takes : EachTake (MayTake course store) [] entries
+  pub sent : IsSent course store after had has (taken_of entries) (given_of entries)
+  pub full : length (taken_of entries) ≡ max
+  pub goes_on : ¬ EndsBy course store (taken_of entries)
+
+-- What a call that serves a session does, by its answer.
+pub record Serves (course : Course) (store after : StoreState) (had has : Option (List ℕ)) (served : Served) (max : ℕ) (before now : Telling) : Type 0 where
+  pub lawful : ServesLawfully course store after had has served max before now
+  pub ended : served ≡ Ended → ServesAll course store after had has max before now
+  pub limit : served ≡ Limit → ServesUpTo course store after had has max before now
+
+-- the same of a protocol
+abbrev pub ServesBy : Protocol → Around → Around → Served → Type 0
+ServesBy protocol before now served =
+    OfCourse protocol before.clock (λ course.
+    Serves course before.desk.store now.desk.store before.keeper.octets now.keeper.octets served before.desk.limits.session_max before.wire now.wire)

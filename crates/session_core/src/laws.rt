@@ -1,0 +1,7 @@
+//! What holds of what every session takes as given.
+ghost use Rattle.session_core.specs.Meanings.{Meanings, AreMeanings};
+
+/// There are functions that give surrogates, read paths and tell trees, so what is said of all such functions is said of some.
+pub fn meanings_are_given()
+    ensures { (meanings : Meanings) × AreMeanings meanings }
+{}

@@ -1,0 +1,17 @@
+//! One driver for every session: a machine reads what comes next, and the loop, proved once, feeds it a stream in any cut.
+#![tactic(auto)]
+
+mod desk;
+mod feeding;
+pub mod laws;
+mod machine;
+mod outside;
+mod rows;
+mod serving;
+
+pub use desk::{Desk, LIMITS, Limits, open_desk};
+pub use feeding::{Reading, Session, feed};
+pub use machine::{Came, Machine};
+pub use outside::{Delivered, Outside};
+pub use rows::{Framed, Rows, Wants};
+pub use serving::{Served, serve};

@@ -1,0 +1,248 @@
+//! All that a session meets, as one value: its wire, its keeper, its clock, and the desk that it is served from.
+ghost use Rattle.std.specs.Prelude.{◌≡◌, ◌<◌, ◌≤◌, ◌==◌, length, IfOk, OnErr, Err, None, false, []};
+ghost use Rattle.std.specs.List.{IsDistinct};
+ghost use Rattle.mail_wire.specs.Keeping.{HasKeeperCause};
+ghost use Rattle.mail_wire.specs.Moves.{TakesNothing, TakesPiece};
+ghost use Rattle.mail_store.specs.Changing.{IsDeliverable, delivery_refusal, expunged, expunge_refusal};
+ghost use Rattle.surrogate_rope.specs.Served.{IsShownOf, shown_octets};
+ghost use Rattle.surrogate_cache.specs.Served.{IsServed, HasServedHeaders};
+ghost use Rattle.session_core.specs.Around.{IsTold, LeavesDesk};
+ghost use Rattle.session_core.specs.Changes.{calls_of, came_of, changes_of};
+ghost use Rattle.session_core.specs.Desks.{IsOpen, octets_at};
+ghost use Rattle.session_core.specs.Doing.{IsChanged, Makes, Replies};
+ghost use Rattle.session_core.specs.Keeps.{Keeps, fault_of};
+
+use crate::desk::{Desk, Limits};
+use mail_store::{Delivery, Store, StoreFault};
+use mail_wire::{Clock, Fault, Keeper, Memory, Wire, give_all, take_piece};
+use mime_tree::{TreeFault, read_tree};
+use std::alloc::Global;
+use std::marker::Model;
+use surrogate_cache::{Cache, View};
+use surrogate_rope::Shown;
+
+/// The outside of a session. Sessions use a wire, a store and a clock by its calls alone.
+#[derive(Drop)]
+pub struct Outside<'w, 'k, 'c, W: Wire, J: Keeper, C: Clock> {
+    alloc: Global,
+    desk: Desk,
+    wire: &'w mut W,
+    keeper: &'k mut J,
+    clock: &'c mut C,
+}
+
+impl<'w, 'k, 'c, W: Wire, J: Keeper, C: Clock> Model for Outside<'w, 'k, 'c, W, J, C> {
+    ghost use Rattle.session_core.specs.Around.{Around};
+
+    ghost Value = { Around };
+
+    ghost view = { λ a. record {
+      wire = W.tells a.wire.now;
+      keeper = J.tells a.keeper.now;
+      clock = C.tells a.clock.now;
+      desk = a.desk;
+      loans = record { wire = a.wire.ghost_name; keeper = a.keeper.ghost_name; clock = a.clock.ghost_name };
+    } };
+}
+
+/// What came of a delivery.
+#[derive(Clone, Copy, Debug, PartialEq, Eq)]
+pub enum Delivered {
+    Stored,
+    /// It would pass a limit of the store.
+    TooLarge,
+}
+
+// What a session of this kind is shown of a message of the store.
+fn show_message<V: View>(
+    alloc: Global,
+    store: &Store,
+    cache: &mut Cache,
+    id: u32,
+) -> Result<Shown, Memory>
+    requires { id < length store.now.kept.messages }
+    ensures shown { IfOk result (IsShownOf (octets_at store.now id)) }
+    ensures served { IfOk result (λ shown. IsServed V.mode (octets_at store.now id) (shown_octets (octets_at store.now id) shown)) }
+    ensures headers { IfOk result (λ shown. HasServedHeaders V.mode (shown_octets (octets_at store.now id) shown)) }
+{
+    let octets = store.octets(id);
+    match read_tree(alloc, octets) {
+        Ok(tree) => V::show(alloc, cache, id, octets, tree),
+        Err(TreeFault::Memory) => Err(Memory),
+        // It has a tree.
+        Err(_) => unreachable!(),
+    }
+}
+
+// Keeps a message, or tells that it would pass a limit.
+fn deliver_to<J: Keeper>(
+    store: &mut Store,
+    keeper: &mut J,
+    delivery: &Delivery,
+) -> Result<Delivered, Fault>
+    requires works { store.old.failed ≡ false }
+    requires deliverable { IsDeliverable store.old delivery.now }
+    ensures came { IfOk result (λ came. came ≡ came_of (delivery_refusal store.old delivery.now)) }
+    ensures changes { IsChanged store.old store.new (J.tells keeper.old).octets (J.tells keeper.new).octets (fault_of result) (changes_of store.old delivery.now) }
+    ensures cause { HasKeeperCause (J.tells keeper.old) (J.tells keeper.new) result Fault.Keeper }
+    ensures wire { ¬ (result ≡ Err Fault.Wire) }
+{
+    match store.deliver(keeper, delivery) {
+        Ok(()) => Ok(Delivered::Stored),
+        Err(StoreFault::TooLarge) => Ok(Delivered::TooLarge),
+        Err(StoreFault::Keeper) => Err(Fault::Keeper),
+        Err(StoreFault::Memory) => Err(Fault::Memory),
+        Err(StoreFault::Exists | StoreFault::NoSuch) => unreachable!(),
+    }
+}
+
+// Takes messages away, none of which is gone.
+fn expunge_from<J: Keeper>(store: &mut Store, keeper: &mut J, ids: &[u32]) -> Result<(), Fault>
+    requires works { store.old.failed ≡ false }
+    requires live { expunge_refusal store.old.kept ids.now ≡ None }
+    requires distinct { IsDistinct (λ a b. a == b) ids.now }
+    ensures changes { IsChanged store.old store.new (J.tells keeper.old).octets (J.tells keeper.new).octets (fault_of result) (calls_of (expunged ids.now)) }
+    ensures nothing { ids.now ≡ [] → (store.new ≡ store.old) × (J.tells keeper.new ≡ J.tells keeper.old) }
+    ensures cause { HasKeeperCause (J.tells keeper.old) (J.tells keeper.new) result Fault.Keeper }
+    ensures wire { ¬ (result ≡ Err Fault.Wire) }
+{
+    match store.expunge(keeper, ids) {
+        Ok(()) => Ok(()),
+        Err(StoreFault::Keeper) => Err(Fault::Keeper),
+        Err(StoreFault::Memory) => Err(Fault::Memory),
+        Err(StoreFault::Exists | StoreFault::NoSuch | StoreFault::TooLarge) => unreachable!(),
+    }
+}
+
+impl<'w, 'k, 'c, W: Wire, J: Keeper, C: Clock> Outside<'w, 'k, 'c, W, J, C> {
+    /// The desk, over what the caller lends.
+    pub fn new(
+        alloc: Global,
+        desk: Desk,
+        wire: &'w mut W,
+        keeper: &'k mut J,
+        clock: &'c mut C,
+    ) -> Self
+        ensures desk { result.desk ≡ desk }
+        ensures wire { result.wire ≡ W.tells wire.old }
+        ensures keeper { result.keeper ≡ J.tells keeper.old }
+        ensures clock { result.clock ≡ C.tells clock.old }
+        ensures loans { result.loans ≡ record { wire = wire.entry.ghost_name; keeper = keeper.entry.ghost_name; clock = clock.entry.ghost_name } }
+    {
+        Outside {
+            alloc,
+            desk,
+            wire,
+            keeper,
+            clock,
+        }
+    }
+
+    /// Gives the desk back, and all that was lent.
+    pub fn into_parts(self) -> (Desk, &'w mut W, &'k mut J, &'c mut C)
+        ensures desk { result.0 ≡ self.entry.desk }
+        ensures wire { W.tells result.1.now ≡ self.entry.wire }
+        ensures keeper { J.tells result.2.now ≡ self.entry.keeper }
+        ensures clock { C.tells result.3.now ≡ self.entry.clock }
+        ensures wire_loan { result.1.ghost_name ≡ self.entry.loans.wire }
+        ensures keeper_loan { result.2.ghost_name ≡ self.entry.loans.keeper }
+        ensures clock_loan { result.3.ghost_name ≡ self.entry.loans.clock }
+    {
+        let Outside {
+            alloc: _,
+            desk,
+            wire,
+            keeper,
+            clock,
+        } = self;
+        (desk, wire, keeper, clock)
+    }
+
+    pub fn alloc(&self) -> Global {
+        self.alloc
+    }
+
+    pub fn store(&self) -> &Store
+        ensures { result.now ≡ self.now.desk.store }
+    {
+        &self.desk.store
+    }
+
+    /// The octets of a message of the store.
+    pub fn octets(&self, id: u32) -> &[u8]
+        requires { id < length self.now.desk.store.kept.messages }
+        ensures { result.now ≡ octets_at self.now.desk.store id }
+    {
+        self.desk.store.octets(id)
+    }
+
+    pub fn limits(&self) -> Limits
+        ensures { result ≡ self.now.desk.limits }
+    {
+        self.desk.limits
+    }
+
+    /// What a session of this kind is shown of a message of the store.
+    pub fn show<V: View>(&mut self, id: u32) -> Result<Shown, Memory>
+        requires { id < length self.old.desk.store.kept.messages }
+        ensures shown { IfOk result (IsShownOf (octets_at self.old.desk.store id)) }
+        ensures served { IfOk result (λ shown. IsServed V.mode (octets_at self.old.desk.store id) (shown_octets (octets_at self.old.desk.store id) shown)) }
+        ensures headers { IfOk result (λ shown. HasServedHeaders V.mode (shown_octets (octets_at self.old.desk.store id) shown)) }
+        ensures same { self.new ≡ self.old }
+    {
+        show_message::<V>(self.alloc, &self.desk.store, &mut self.desk.cache, id)
+    }
+
+    /// Takes the next piece, which is empty only at the end of input.
+    pub fn take(&mut self, into: &mut [u8]) -> Result<usize, Fault>
+        requires { 0 < length into.old }
+        ensures bound { IfOk result (λ n. n ≤ length into.new) }
+        ensures takes { IfOk result (λ n. TakesPiece self.old.wire self.new.wire n into.new) }
+        ensures fails { OnErr result (TakesNothing self.old.wire self.new.wire) }
+        ensures leaves { LeavesDesk self.old self.new }
+        ensures keeper { ¬ (result ≡ Err Fault.Keeper) }
+        ensures keeps { Keeps self.old self.new (fault_of result) }
+    {
+        take_piece(self.wire, into)
+    }
+
+    /// Gives the octets, or a prefix of them where that fails.
+    pub fn give(&mut self, octets: &[u8]) -> Result<(), Fault>
+        ensures replies { Replies self.old self.new (fault_of result) octets.now }
+        ensures keeps { Keeps self.old self.new (fault_of result) }
+    {
+        give_all(self.wire, octets)
+    }
+
+    /// Keeps a message for each local account, and puts one into the queue for the remote recipients, all by one call of the
+    /// keeper. What the store has no room for it refuses.
+    pub fn deliver(&mut self, delivery: &Delivery) -> Result<Delivered, Fault>
+        requires opens { IsOpen self.old.desk }
+        requires deliverable { IsDeliverable self.old.desk.store delivery.now }
+        ensures came { IfOk result (λ came. came ≡ came_of (delivery_refusal self.old.desk.store delivery.now)) }
+        ensures makes { Makes self.old self.new (fault_of result) (changes_of self.old.desk.store delivery.now) }
+        ensures keeps { Keeps self.old self.new (fault_of result) }
+    {
+        deliver_to(&mut self.desk.store, self.keeper, delivery)
+    }
+
+    /// Takes messages away, in order, by one call of the keeper, which isn't called where there are none.
+    pub fn expunge(&mut self, ids: &[u32]) -> Result<(), Fault>
+        requires opens { IsOpen self.old.desk }
+        requires live { expunge_refusal self.old.desk.store.kept ids.now ≡ None }
+        requires distinct { IsDistinct (λ a b. a == b) ids.now }
+        ensures makes { Makes self.old self.new (fault_of result) (calls_of (expunged ids.now)) }
+        ensures nothing { ids.now ≡ [] → self.new ≡ self.old }
+        ensures keeps { Keeps self.old self.new (fault_of result) }
+    {
+        expunge_from(&mut self.desk.store, self.keeper, ids)
+    }
+
+    /// Seconds from the beginning of 1970, in UTC.
+    pub fn now(&mut self) -> u64
+        ensures told { IsTold self.old.clock result }
+        ensures same { self.new ≡ self.old }
+    {
+        self.clock.now()
+    }
+}

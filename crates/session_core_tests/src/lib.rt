@@ -1,0 +1,9 @@
+//! A toy protocol over the driver: lines are echoed, `{n}` at a line's end announces a literal of n octets, one to nine, and `QUIT` ends
+//! the session.
+#![tactic(auto)]
+
+mod echo;
+#[cfg(test)]
+mod tests;
+
+pub use echo::Echo;

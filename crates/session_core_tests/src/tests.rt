@@ -1,0 +1,62 @@
+//! The toy over a wire in memory, with every first cut of its input.
+use crate::echo::Echo;
+use mail_wire::{Entry, FixedClock, MemKeeper, MemWire, Octets};
+use session_core::{Framed, LIMITS, Outside, Served, open_desk, serve};
+use std::alloc::Global;
+use std::test::Fail;
+
+const INPUT: &[u8] = b"one\r\nab{3}\r\nx\r\nyz\r\nQUIT\r\nlater\r\n";
+
+const ANSWER: &[u8] = b"one\r\n+ go\r\nx\r\nab{3}\r\nx\r\nyz\r\nbye\r\n";
+
+// What is given to this input, whose first piece has this size.
+fn given(alloc: Global, input: &[u8], size: usize) -> Result<Octets, Fail> {
+    let mut keeper = MemKeeper::new(Octets::new(alloc), Vec::new(alloc));
+    let desk = open_desk(alloc, &mut keeper, LIMITS)?;
+    let mut wire = MemWire::new(
+        alloc,
+        Octets::from_slice(alloc, input)?,
+        Vec::from_slice(alloc, &[size])?,
+        Vec::new(alloc),
+    );
+    let mut clock = FixedClock::new(0);
+    let mut outside = Outside::new(alloc, desk, &mut wire, &mut keeper, &mut clock);
+    let served = serve::<Framed<Echo>, MemWire, MemKeeper, FixedClock>(&mut outside);
+    if served != Served::Ended {
+        return Err(Fail::from("not ended"));
+    }
+    let (_desk, _wire, _keeper, _clock) = outside.into_parts();
+    let mut all = Octets::new(alloc);
+    for entry in wire.entries() {
+        if let Entry::Given(octets) = entry {
+            all.push_slice(octets.as_slice())?;
+        }
+    }
+    Ok(all)
+}
+
+#[test]
+fn every_first_cut_gives_the_same(rt: HostRuntime) -> Result<(), Fail> {
+    let alloc = rt.alloc();
+    for size in 1..=INPUT.len() {
+        let octets = given(alloc, INPUT, size)?;
+        assert!(rt; octets.as_slice() == ANSWER, "at {size}");
+    }
+    Ok(())
+}
+
+#[test]
+fn a_line_that_is_too_long_ends_the_session(rt: HostRuntime) -> Result<(), Fail> {
+    let alloc = rt.alloc();
+    let mut input = Octets::from_slice(alloc, b"one\r\n")?;
+    input.push_slice(Vec::from_elem(alloc, b'x', 70000)?.as_slice())?;
+    input.push_slice(b"\r\ntwo\r\n")?;
+    for size in [1, 5, 4096] {
+        let octets = given(alloc, input.as_slice(), size)?;
+        assert!(rt;
+            octets.as_slice() == b"one\r\ntoo long\r\n".as_slice(),
+            "at {size}"
+        );
+    }
+    Ok(())
+}
