@@ -5,7 +5,7 @@ use Rattle.std.proofs.lemmas.List.{append-nil, take-append-drop}
 use Rattle.std.proofs.lemmas.List.Folds.{list_all-append}
 use Rattle.std.specs.List.{AllByRecursion, AllZip, list_all}
 use Rattle.mail_wire.specs.Octets.{is_ascii}
-use Rattle.mail_wire.proofs.Feeding.{all-append}
+use Rattle.mail_wire.proofs.AllLemmas.{all-append}
 use Rattle.field_tokens.specs.declared.Style.TheVariants.{Mail}
 use Rattle.field_tokens.specs.declared.TokenKind.{TokenKind}
 use Rattle.field_tokens.specs.declared.TokenKind.TheVariants.{Atom, Quoted, Literal, Special, Gap, Comment}

@@ -4,7 +4,7 @@ use Rattle.std.proofs.lemmas.List.{append_assoc, length-append}
 use Rattle.std.proofs.lemmas.Str.{IsUtf8-append}
 use Rattle.std.specs.List.{AllByRecursion}
 use Rattle.std.specs.Str.{IsUtf8}
-use Rattle.mail_wire.proofs.Feeding.{all-append}
+use Rattle.mail_wire.proofs.AllLemmas.{all-append}
 use Rattle.encoded_words.specs.Words.{UnitValue, Text, Opaque}
 use Rattle.encoded_words.specs.Units.{with_text, merged}
 use Rattle.encoded_words.specs.PhraseUnits.{HasPhraseUnits}

@@ -7,7 +7,7 @@ use Rattle.std.proofs.lemmas.List.Folds.{list_all-append}
 use Rattle.std.specs.List.{AllByRecursion, list_all, flat_map, join_with_byte}
 use Rattle.std.specs.Str.{IsUtf8}
 use Rattle.mail_wire.specs.Octets.{is_ascii}
-use Rattle.mail_wire.proofs.Feeding.{all-append}
+use Rattle.mail_wire.proofs.AllLemmas.{all-append}
 use Rattle.encoded_words.specs.Words.{UnitValue, Text, Opaque}
 use Rattle.encoded_words.specs.Units.{raw_units}
 use Rattle.encoded_words.specs.Pieces.{b_word}

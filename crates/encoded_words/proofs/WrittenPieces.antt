@@ -9,7 +9,7 @@ use Rattle.std.specs.Str.{IsUtf8, str_to_ascii_lowercase}
 use Rattle.std.specs.Char.{to_ascii_uppercase}
 use Rattle.base64.specs.Engines.{standard}
 use Rattle.base64.specs.GeneralPurpose.{encode_of}
-use Rattle.mail_wire.proofs.Feeding.{all-append}
+use Rattle.mail_wire.proofs.AllLemmas.{all-append}
 use Rattle.encoded_words.specs.Words.{UnitValue, Text, Opaque, IsEncodedWord, IsTextOf, q_spelling, q_octet, QItem, SaysWhere, is_visible, gives_text, unit_of}
 use Rattle.encoded_words.specs.Units.{word_unit, raw_units, with_text, merged}
 use Rattle.encoded_words.specs.CommentUnits.{TextItem, Plain, Pair, AreTextItems, item_spelling, item_octet, has_backslash, is_white_item, CommentWord, word_items, AreCommentWords, comment_places, HasCommentUnits}

@@ -6,7 +6,7 @@ use Rattle.std.proofs.lemmas.List.{append_assoc, length-append}
 use Rattle.std.specs.List.{AllByRecursion, list_all, flat_map, join_with_byte}
 use Rattle.mail_wire.specs.Octets.{is_white, is_ascii}
 use Rattle.mail_wire.specs.Spans.{Stops, StopsBehind}
-use Rattle.mail_wire.proofs.Feeding.{all-append}
+use Rattle.mail_wire.proofs.AllLemmas.{all-append}
 use Rattle.encoded_words.proofs.Octets.{all_append}
 use Rattle.field_tokens.specs.declared.Style.{Style}
 use Rattle.field_tokens.specs.declared.TokenKind.{TokenKind}

@@ -11,7 +11,7 @@ use Rattle.std.specs.List.{AllByRecursion, list_all, flat_map, join_with_byte}
 use Rattle.std.specs.Str.{str_to_ascii_lowercase}
 use Rattle.mail_wire.specs.Octets.{is_white, is_ascii, same_name}
 use Rattle.mail_wire.specs.Spans.{Stops, StopsBehind}
-use Rattle.mail_wire.proofs.Feeding.{all-append}
+use Rattle.mail_wire.proofs.AllLemmas.{all-append}
 use Rattle.encoded_words.proofs.Octets.{all_append}
 use Rattle.field_tokens.specs.declared.Style.TheVariants.{Mail}
 use Rattle.field_tokens.specs.declared.TokenKind.{TokenKind}

@@ -12,7 +12,7 @@ use Rattle.encoded_words.proofs.BWords.{ascii_literal}
 use Rattle.encoded_words.proofs.Octets.{all_append}
 use Rattle.mail_wire.specs.Octets.{is_white, is_ascii}
 use Rattle.mail_wire.specs.Spans.{Stops}
-use Rattle.mail_wire.proofs.Feeding.{all-append}
+use Rattle.mail_wire.proofs.AllLemmas.{all-append}
 use Rattle.field_tokens.specs.declared.Style.{Style}
 use Rattle.field_tokens.specs.declared.Style.TheVariants.{Mail, Mime}
 use Rattle.field_tokens.specs.declared.TokenKind.{TokenKind}

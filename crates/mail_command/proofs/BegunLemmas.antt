@@ -8,17 +8,17 @@ use Rattle.std.proofs.lemmas.Option.{IfSome_then}
 use Rattle.mail_wire.specs.declared.outside.Fault.{Fault}
 use Rattle.mail_wire.specs.declared.outside.Fault.TheVariants as fault
 use Rattle.journal_records.specs.declared.records.Record.{Record}
-use Rattle.mail_store.specs.Acts.{Act, changes_in}
+use Rattle.session_core.specs.Acts.{Act, changes_in}
 use Rattle.mail_store.specs.Answers.{OpensTo}
 use Rattle.mail_store.specs.Changing.{IsStoreOf, HoldsFirst}
-use Rattle.mail_store.specs.Doing.{StopsIn, FailsIn, IsDone}
+use Rattle.session_core.specs.Done.{StopsIn, FailsIn, IsDone}
 use Rattle.mail_store.specs.Following.{records_of, Follows}
 use Rattle.mail_store.specs.Kept.{nothing}
 use Rattle.mail_store.specs.Opening.{HasRecords}
 use Rattle.mail_store.specs.Records.{AreRecords}
 use Rattle.journal_records.specs.Spelling.{journal}
 use Rattle.mail_store.specs.StoreState.{StoreState}
-use Rattle.mail_store.proofs.DoingLemmas.{records_in-append}
+use Rattle.session_core.proofs.DoneLemmas.{records_in-append}
 use Rattle.mail_store.proofs.FollowLemmas.{followed, broken}
 use Rattle.setup_command.proofs.AddingLemmas.{records_had, opened_store}
 use Rattle.setup_command.specs.Running.{HoldsBegun}

@@ -7,16 +7,16 @@ use Rattle.std.proofs.lemmas.Option.{IfSome_then}
 use Rattle.mail_wire.specs.declared.outside.Fault.{Fault}
 use Rattle.mail_wire.specs.declared.outside.Fault.TheVariants as fault
 use Rattle.mail_wire.specs.Telling.{Telling}
-use Rattle.mail_wire.specs.Turns.{Turn, stay, behind, all_turns, IsFramed}
+use Rattle.session_core.specs.Turns.{Turn, stay, behind, all_turns, IsFramed}
 use Rattle.mail_wire.specs.Transcript.{taken_of, given_of}
 use Rattle.mail_wire.specs.Moves.{TakesPiece, TakesNothing}
-use Rattle.mail_wire.proofs.TurnsLemmas.{all_turns-append}
-use Rattle.mail_wire.proofs.Feeding.{all-append}
-use Rattle.mail_store.specs.Acts.{Act, gives, changes, changes_in, IsFitAct}
-use Rattle.mail_store.specs.Doing.{given_by, StopsIn, FailsIn, IsDone}
+use Rattle.session_core.proofs.TurnsLemmas.{all_turns-append}
+use Rattle.mail_wire.proofs.AllLemmas.{all-append}
+use Rattle.session_core.specs.Acts.{Act, gives, changes, changes_in, IsFitAct}
+use Rattle.session_core.specs.Done.{given_by, StopsIn, FailsIn, IsDone}
 use Rattle.mail_store.specs.Following.{records_of, Follows}
 use Rattle.mail_store.specs.StoreState.{StoreState}
-use Rattle.mail_store.proofs.DoingLemmas.{IsDone-more, StopsIn-none, given_by-append, octets_of_acts, records_in-append}
+use Rattle.session_core.proofs.DoneLemmas.{IsDone-more, StopsIn-none, given_by-append, octets_of_acts, records_in-append}
 use Rattle.mail_store.proofs.FollowLemmas.{Follows-nil, Follows-more}
 use Rattle.mail_command.specs.declared.roles.Session.{Session}
 use Rattle.mail_command.specs.declared.serving.Served.{Served}
@@ -65,7 +65,7 @@ grows : (protocol : Protocol) → IsFramed protocol.next → (store : StoreState
 grows protocol framed store xs ys = (given_by protocol.spelled (piece_turn protocol store xs ys).parts, replies_to-append protocol framed store xs ys)
 
 turns_for-nil : (protocol : Protocol) (store : StoreState) → turns_for protocol store [] ≡ stay (protocol.start store) []
-unfolding Rattle.mail_wire.specs.Turns.turns
+unfolding Rattle.session_core.specs.Turns.turns
 turns_for-nil protocol store = refl
 
 acts_for-nil : (protocol : Protocol) (store : StoreState) → acts_for protocol store [] ≡ protocol.opening store

@@ -7,14 +7,14 @@ use Rattle.std.proofs.lemmas.List.Folds.{list_all-append}
 use Rattle.mail_wire.specs.Moves.{GivesOrFails}
 use Rattle.mail_wire.specs.Octets.{is_ascii}
 use Rattle.mail_wire.specs.Telling.{Telling}
-use Rattle.mail_wire.specs.Turns.{Turn, stay, behind}
+use Rattle.session_core.specs.Turns.{Turn, stay, behind}
 use Rattle.mail_wire.specs.declared.outside.Fault.{Fault}
 use Rattle.mail_wire.specs.declared.outside.Fault.TheVariants as fault
-use Rattle.mail_store.specs.Acts.{Act}
-use Rattle.mail_store.specs.Doing.{Does}
+use Rattle.session_core.specs.Acts.{Act}
+use Rattle.session_core.specs.Done.{Does}
 use Rattle.mail_store.specs.Kept.{name_of}
 use Rattle.mail_store.specs.StoreState.{StoreState}
-use Rattle.mail_store.proofs.DoingLemmas.{Does-reply, Does-ok, Does-err}
+use Rattle.session_core.proofs.DoneLemmas.{Does-reply, Does-ok, Does-err}
 use Rattle.surrogate_cache.specs.Served.{AreMeanings, Meanings, WithMeanings}
 use Rattle.pop_session.specs.Machine as pop_machine
 use Rattle.pop_session.specs.Replies as pop_replies

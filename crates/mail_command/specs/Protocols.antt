@@ -1,9 +1,9 @@
 -- The protocols' machines, and what they make of a stream of client octets.
 use Rattle.std.specs.Prelude.{◌≡◌, ℕ, List, [], ◌++◌, Option}
 use Rattle.std.specs.List.{All}
-use Rattle.mail_wire.specs.Turns.{Turn, all_turns}
-use Rattle.mail_store.specs.Acts.{Act, acts_of, changes_in}
-use Rattle.mail_store.specs.Doing.{given_by}
+use Rattle.session_core.specs.Turns.{Turn, all_turns}
+use Rattle.session_core.specs.Acts.{Act, acts_of, changes_in}
+use Rattle.session_core.specs.Done.{given_by}
 use Rattle.mail_store.specs.Kept.{name_of}
 use Rattle.mail_store.specs.StoreState.{StoreState}
 use Rattle.journal_records.specs.declared.records.Record.{Record}

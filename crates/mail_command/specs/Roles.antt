@@ -2,10 +2,10 @@
 use Rattle.std.specs.Prelude.{◌≡◌, ℕ, ◌++◌, List, [], Option, Result, IfOk}
 use Rattle.std.specs.List.{All, AllByRecursion}
 use Rattle.mail_wire.specs.Telling.{Telling}
-use Rattle.mail_wire.specs.Turns.{Turn, stay, all_turns}
+use Rattle.session_core.specs.Turns.{Turn, stay, all_turns}
 use Rattle.mail_wire.specs.declared.outside.Fault.{Fault}
-use Rattle.mail_store.specs.Acts.{Act, IsFitAct}
-use Rattle.mail_store.specs.Doing.{Does}
+use Rattle.session_core.specs.Acts.{Act, IsFitAct}
+use Rattle.session_core.specs.Done.{Does}
 use Rattle.mail_store.specs.StoreState.{StoreState}
 use Rattle.surrogate_cache.specs.Served.{WithMeanings}
 use Rattle.pop_session.specs.Machine as pop_machine

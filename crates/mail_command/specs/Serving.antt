@@ -8,8 +8,8 @@ use Rattle.mail_wire.specs.Telling.{Telling}
 use Rattle.mail_wire.specs.Transcript.{IsLawful, taken_of, given_of}
 use Rattle.mail_wire.specs.Moves.{Moves}
 use Rattle.mail_store.specs.declared.limits.TheConstants.{MESSAGE_MAX}
-use Rattle.mail_store.specs.Acts.{IsFitAct}
-use Rattle.mail_store.specs.Doing.{IsDone}
+use Rattle.session_core.specs.Acts.{IsFitAct}
+use Rattle.session_core.specs.Done.{IsDone}
 use Rattle.mail_store.specs.Following.{records_of, Follows}
 use Rattle.mail_store.specs.Kept.{name_of}
 use Rattle.mail_store.specs.StoreState.{StoreState}

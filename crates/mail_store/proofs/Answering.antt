@@ -4,7 +4,7 @@ use Rattle.std.specs.Prelude.{count_by, slice_get, option_to_list}
 use Rattle.std.specs.List.{All}
 use Rattle.std.proofs.lemmas.Bool.{cases_Bool}
 use Rattle.std.proofs.lemmas.List.{reverse-append, length-reverse}
-use Rattle.std.proofs.lemmas.List.Elements.{All-nil, All-push, All-from_recursion, recursion_from_All}
+use Rattle.std.proofs.lemmas.List.Elements.{All-push, All-from_recursion}
 use Rattle.std.proofs.lemmas.List.Sums.{sum_by-cons, count_by-le-length}
 use Rattle.std.proofs.lemmas.Option.{slice_get-get_or}
 use Rattle.mail_store.specs.declared.contents.Content.{Content}
@@ -136,15 +136,6 @@ pub record IsBack (all : List Message) (previous : List (Option ℕ)) (left : �
   pub count : length (chain left previous place) ≡ left
   pub below : AreBelow (length all) (chain left previous place)
   pub known : All (λ one. one.id < length all) items
-
-pub IsBack-first : (all : List Message) (previous : List (Option ℕ)) (left : ℕ) (place : Option ℕ) → length (chain left previous place) ≡ left → All (λ id. id < length all) (chain left previous place)
-    → IsBack all previous left place [] (listed_back all 1 (chain left previous place))
-IsBack-first all previous left place count known = record {
-  whole_is = refl;
-  count = count;
-  below = recursion_from_All (λ (id : ℕ). id < length all) (chain left previous place) known;
-  known = All-nil (λ (one : Listed). one.id < length all);
-}
 
 -- the place names a message
 pub IsBack-within : (all : List Message) (previous : List (Option ℕ)) (left less id : ℕ) (items whole : List Listed) → left ≡ suc less → IsBack all previous left (Some id) items whole → id < length all

@@ -65,10 +65,6 @@ Breaks-more old mid new had has having all made failing first breaks =
 
 -- ---- one call
 
-pub Follows-one : (old new : StoreState) (had has : Option (List ℕ)) (all : List Record)
-    → AreRecords old.kept all × (new ≡ with_records old all) × (has ≡ with_last had (flat_map record_text all)) → Follows old new had has (records_of (all ∷ []))
-Follows-one old new had has all (records, store, journal) = rw (records_of-one [] all) (record { records = records; store = store; journal = journal })
-
 pub Breaks-one : (old new : StoreState) (had has : Option (List ℕ)) (failing : List Record)
     → AreRecords old.kept failing × (new ≡ record old { failed = true }) × (n : ℕ) × (has ≡ with_last had (take n (flat_map record_text failing))) → Breaks old new had has [] failing
 Breaks-one old new had has failing (records, store, n, journal) = record { records = records; store = store; count = n; journal = journal }

@@ -352,17 +352,3 @@ AreIndexes-locals kept i after h same = record {
   messages_are_stored = h.messages_are_stored;
   few = h.few;
 }
-
-pub AreIndexes-mailboxes : (kept : Kept) (i : Indexes) (after : List ℕ → Option ℕ) → AreIndexes kept i → ((key : List ℕ) → after key ≡ i.mailboxes key) → AreIndexes kept (record i { mailboxes = after })
-AreIndexes-mailboxes kept i after h same = record {
-  folder_count = h.folder_count;
-  chained = h.chained;
-  account_count = h.account_count;
-  inboxes_is = h.inboxes_is;
-  mailboxes_is = λ (path_of : List ℕ → Option (Option Address)) (reads : ReadsPaths path_of) (key : List ℕ). same key ∙ h.mailboxes_is path_of reads key;
-  locals_is = h.locals_is;
-  recipients_is = h.recipients_is;
-  domains_are_texts = h.domains_are_texts;
-  messages_are_stored = h.messages_are_stored;
-  few = h.few;
-}

@@ -12,8 +12,6 @@ pub mod LawLemmas
 pub mod FollowLemmas
 pub mod ListedLemmas
 pub mod UidLemmas
-pub mod ActLemmas
-pub mod DoingLemmas
 pub mod ReplayLemmas
 pub mod ChangeLemmas
 pub mod ExpungeLemmas

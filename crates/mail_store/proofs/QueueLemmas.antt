@@ -1,8 +1,8 @@
 -- Recipients of the queue who aren't settled.
-use Rattle.std.proofs.Common.{◌≡◌, ℕ, ◌+◌, ◌<◌, ◌≤◌, Bool, true, false, List, [], length, get_or, set, Option, Some, Result, Ok, Err, sym, ap, subst, ◌∙◌, arith, inl, inr}
+use Rattle.std.proofs.Common.{◌≡◌, ℕ, ◌+◌, ◌<◌, ◌≤◌, Bool, true, false, List, [], length, get_or, set, Option, Some, Result, Ok, Err, sym, ap, subst, ◌∙◌, inl, inr}
 use Rattle.std.specs.Prelude.{◌⊎◌, ◌↔◌, IfOk, IsTrue, slice_get}
 use Rattle.std.specs.List.{All}
-use Rattle.std.proofs.lemmas.Bool.{cases_lt, ltb-true, ltb-false}
+use Rattle.std.proofs.lemmas.Bool.{cases_lt, ltb-false}
 use Rattle.std.proofs.lemmas.Option.{slice_get-get_or, slice_get_past}
 use Rattle.mail_wire.specs.declared.values.Memory.{Memory}
 use Rattle.journal_records.specs.declared.records.Record.TheVariants as records
@@ -39,11 +39,6 @@ set-without es at index x made within is e = ap (λ (y : Entry). set es at y) e 
 
 pub refutes : {b : Bool} → b ≡ false → b ≡ true → ⊥
 refutes e h = cc
-
-pub too_many : (b : Bool) (count more : ℕ) → b ≡ are_too_many count more → b ≡ true → count + more ≤ THINGS_MAX → ⊥
-too_many b count more is e few =
-    let less : THINGS_MAX < count + more = ltb-true THINGS_MAX (count + more) (sym is ∙ e) in
-    omega (arith, less, few)
 
 pub few_enough : (b : Bool) (count more : ℕ) → b ≡ are_too_many count more → b ≡ false → count + more ≤ THINGS_MAX
 few_enough b count more is e = ltb-false THINGS_MAX (count + more) (sym is ∙ e)

@@ -1,5 +1,5 @@
 -- Messages that keep their folders and their octets, and changing what stands at a place.
-use Rattle.std.proofs.Common.{◌≡◌, ℕ, zero, suc, List, [], ◌∷◌, length, map, refl, sym, ap, subst, ◌∙◌, arith}
+use Rattle.std.proofs.Common.{◌≡◌, ℕ, zero, suc, List, [], ◌∷◌, length, map, refl, sym, ap, subst, arith}
 use Rattle.std.specs.List.{AllByRecursion}
 use Rattle.std.proofs.lemmas.List.{length-map}
 use Rattle.mail_store.specs.declared.kept.Message.{Message}
@@ -40,12 +40,6 @@ AreSameMessages-flags flags ms at = record {
 
 pub AreSameMessages-gone : (ms : List Message) (at : ℕ) → AreSameMessages ms (change_at gone ms at)
 AreSameMessages-gone ms at = record { folders = map-change_at folder_of gone (λ m. refl) ms at; octets = map-change_at octets_of gone (λ m. refl) ms at }
-
-pub AreSameMessages-then : (old between new : List Message) → AreSameMessages old between → AreSameMessages between new → AreSameMessages old new
-AreSameMessages-then old between new a b = record { folders = b.folders ∙ a.folders; octets = b.octets ∙ a.octets }
-
-pub AreSameMessages-none : (ms : List Message) → AreSameMessages ms ms
-AreSameMessages-none ms = record { folders = refl; octets = refl }
 
 same_octets : (x y : List ℕ) (xs ys : List (List ℕ)) → x ∷ xs ≡ y ∷ ys → (x ≡ y) × (xs ≡ ys)
 same_octets x y xs ys e = (cc, cc)

@@ -5,6 +5,4 @@ pub mod Answers
 pub mod StoreState
 pub mod Changing
 pub mod Following
-pub mod Acts
-pub mod Doing
 pub mod private

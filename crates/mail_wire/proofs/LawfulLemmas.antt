@@ -1,5 +1,5 @@
 -- Lawful transcripts, one entry after another.
-use Rattle.std.proofs.Common.{◌≡◌, ℕ, List, [], ◌∷◌, ◌++◌, refl, ap, ◌∙◌, append_assoc, append-nil, ◌⊎◌, inl, inr}
+use Rattle.std.proofs.Common.{◌≡◌, ℕ, List, [], ◌∷◌, ◌++◌, refl, ap, append_assoc, append-nil, ◌⊎◌, inl, inr}
 use Rattle.mail_wire.specs.declared.outside.Entry.{Entry}
 use Rattle.mail_wire.specs.declared.outside.Entry.TheVariants.{Taken, Given}
 use Rattle.mail_wire.specs.Transcript.{AreGiven, taken_of, given_of, IsLawful}
@@ -27,11 +27,6 @@ split_last (a ∷ xs) (b ∷ before) after x y h =
 pub IsLawful-nil : (answer : List ℕ → List ℕ) → IsLawful answer []
 IsLawful-nil answer [] octets after h = cc
 IsLawful-nil answer (x ∷ before) octets after h = cc
-
--- a transcript is lawful up to each moment
-pub IsLawful-prefix : (answer : List ℕ → List ℕ) (xs ys : List Entry) → IsLawful answer (xs ++ ys) → IsLawful answer xs
-IsLawful-prefix answer xs ys lawful before octets after h =
-    lawful before octets (after ++ ys) (ap (λ entries. entries ++ ys) h ∙ append_assoc before (Taken octets ∷ after) ys)
 
 -- a take, where all that was taken is answered
 pub IsLawful-take : (answer : List ℕ → List ℕ) (xs : List Entry) (piece : List ℕ) → IsLawful answer xs → given_of xs ≡ answer (taken_of xs)

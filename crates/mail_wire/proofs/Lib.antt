@@ -8,9 +8,8 @@ pub mod MessageLemmas
 pub mod Moving
 pub mod LawfulLemmas
 pub mod FirstLineLemmas
-pub mod TurnsLemmas
 pub mod LineEnd
-pub mod Feeding
+pub mod AllLemmas
 pub mod DateLemmas
 pub mod FramingLemmas
 pub mod NumberLemmas

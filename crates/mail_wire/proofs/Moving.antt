@@ -10,8 +10,7 @@ use Rattle.mail_wire.specs.declared.outside.Failed.TheVariants.{Outside, Memory}
 use Rattle.mail_wire.specs.Transcript.{Adds, AreGiven, taken_of, given_of}
 use Rattle.mail_wire.specs.Telling.{Telling}
 use Rattle.mail_wire.specs.Moves.{GiveNotes, Moves, Gives, GivesPrefix, GivesOrFails, GoesOn, HasWireCause}
-use Rattle.mail_wire.specs.Causes.{Rose, HasCause, StaysSure, wire_fault}
-use Rattle.mail_wire.specs.declared.outside.Fault.TheVariants as fault
+use Rattle.mail_wire.specs.Causes.{Rose}
 
 pub Adds-nil : (told : Option (List Entry)) → Adds told told []
 Adds-nil None = tt
@@ -149,34 +148,6 @@ HasWireCause-after a b c result fault one two = record {
 -- an answer that is no fault of the wire
 pub HasWireCause-fine : {T E : Type 0} (a b : Telling) (result : Result T E) (fault : E) → GoesOn a b → (result ≡ Err fault → ⊥) → HasWireCause a b result fault
 HasWireCause-fine a b result fault one fine = record { later = one.later; rose = λ failed. absurd (fine failed); sure = λ sure. (one.sure sure, fine) }
-
--- a fault that is handed on
-pub HasWireCause-as : {T U D E : Type 0} (a b : Telling) (first : Result T D) (second : Result U E) (met : D) (fault : E) → HasWireCause a b first met
-    → (second ≡ Err fault → first ≡ Err met) → HasWireCause a b second fault
-HasWireCause-as a b first second met fault one same = record {
-  later = one.later;
-  rose = λ failed. one.rose (same failed);
-  sure = λ sure. ((one.sure sure).0, λ failed. (one.sure sure).1 (same failed));
-}
-
--- one call of the wire
-pub call_cause : {T : Type 0} (a b : Telling) (result : Result T Failed) → HasCause a.faults b.faults result → StaysSure a.never_fails b.never_fails result
-    → HasWireCause a b result Outside
-call_cause a b result cause sure = record { later = cause.later; rose = cause.outside; sure = sure }
-
--- which fault of a session a refused call is
-pub wire_fault-wire : (failed : Failed) → wire_fault failed ≡ fault.Wire → failed ≡ Outside
-wire_fault-wire Outside h = refl
-wire_fault-wire Memory h = cc
-
-pub wire_fault-keeper : (failed : Failed) → wire_fault failed ≡ fault.Keeper → ⊥
-wire_fault-keeper Outside h = cc
-wire_fault-keeper Memory h = cc
-
--- a prefix was given, whichever fault is answered
-pub GivesOrFails-as : {T U D E : Type 0} (a b : Telling) (first : Result T D) (second : Result U E) (met : D) (fault : E) (octets : List ℕ) → first ≡ Err met → second ≡ Err fault
-    → GivesOrFails a b first octets → GivesOrFails a b second octets
-GivesOrFails-as a b first second met fault octets is also gives = rw also (rw is at gives)
 
 -- octets that were given, and then others or a prefix of them
 pub GivesOrFails-after : {T E : Type 0} (a b c : Telling) (result : Result T E) (xs ys : List ℕ) → Gives a b xs → GivesOrFails b c result ys → GivesOrFails a c result (xs ++ ys)

@@ -1,5 +1,5 @@
 -- Numbers that digits write.
-use Rattle.std.proofs.Common.{◌≡◌, ℕ, ◌+◌, ◌-◌, ◌*◌, ◌^◌, ◌<◌, List, [], ◌∷◌, ◌++◌, length, min, true, false, arith, refl, sym, ap, ◌∙◌, Some, None, fold}
+use Rattle.std.proofs.Common.{◌≡◌, ℕ, ◌-◌, ◌^◌, ◌<◌, List, [], ◌∷◌, length, min, true, false, arith, refl, sym, ap, ◌∙◌, Some, None}
 use Rattle.std.specs.Option.{option_map}
 use Rattle.std.specs.List.{list_all}
 use Rattle.mail_wire.specs.Numbers.{number_written, number_of, is_digit}
@@ -18,14 +18,6 @@ pub number_of-digits : (text : List ℕ) → list_all is_digit text ≡ true →
 unfolding number_of
 number_of-digits [] h some = absurd (omega arith)
 number_of-digits (x ∷ text) h some = rw h refl
-
--- one more digit
-pub number_written-more : (text : List ℕ) (x : ℕ) → number_written (text ++ x ∷ []) ≡ number_written text * 10 + (x - 48)
-number_written-more text x = fold_last 0 text x
-  where
-    fold_last : (n : ℕ) (text : List ℕ) (x : ℕ) → fold (λ n digit. n * 10 + (digit - 48)) n (text ++ x ∷ []) ≡ fold (λ n digit. n * 10 + (digit - 48)) n text * 10 + (x - 48)
-    fold_last n [] x = refl
-    fold_last n (y ∷ text) x = fold_last (n * 10 + (y - 48)) text x
 
 -- what a text that is no number gives
 pub no_number : (text : List ℕ) → number_of text ≡ None → None ≡ option_map (λ number. min number (2 ^ 64 - 1)) (number_of text)

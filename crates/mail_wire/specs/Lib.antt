@@ -11,7 +11,6 @@ pub mod Telling
 pub mod Moves
 pub mod KeeperTelling
 pub mod Keeping
-pub mod Turns
 pub mod Dates
 pub mod Framing
 pub mod private

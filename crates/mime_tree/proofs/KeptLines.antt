@@ -9,7 +9,7 @@ use Rattle.mail_wire.specs.Octets.{is_white, is_line_end}
 use Rattle.mail_wire.specs.Lines.{crlf, is_crlf}
 use Rattle.mail_wire.specs.Message.{IsNul, IsSound}
 use Rattle.mail_wire.specs.Folds.{FoldedItem, Octet, Fold, IsFoldedItem, item_octets}
-use Rattle.mail_wire.proofs.Feeding.{all-append}
+use Rattle.mail_wire.proofs.AllLemmas.{all-append}
 use Rattle.utf8_fields.specs.declared.block.Field.{Field}
 use Rattle.utf8_fields.specs.Lines.{BeginsWhite}
 use Rattle.utf8_fields.specs.Parts.{FieldParts, HasParts}

@@ -6,7 +6,7 @@ use Rattle.std.proofs.lemmas.List.Folds.{list_all-append}
 use Rattle.std.specs.List.{AllByRecursion, flat_map, list_all}
 use Rattle.std.specs.Str.{str_to_ascii_lowercase}
 use Rattle.mail_wire.specs.Octets.{is_ascii}
-use Rattle.mail_wire.proofs.Feeding.{all-append}
+use Rattle.mail_wire.proofs.AllLemmas.{all-append}
 use Rattle.encoded_words.specs.Words.{is_name_octet}
 use Rattle.encoded_words.specs.private.Parts.{lacks}
 use Rattle.encoded_words.proofs.Octets.{all_append}

@@ -12,7 +12,7 @@ use Rattle.mail_store.specs.Following.{records_of}
 use Rattle.mail_store.specs.Kept.{change_at}
 use Rattle.mail_store.specs.StoreState.{StoreState, with_records}
 use Rattle.mail_store.specs.declared.kept.Listed.{Listed}
-use Rattle.mail_store.proofs.DoingLemmas.{changes_in-acts}
+use Rattle.session_core.proofs.DoneLemmas.{changes_in-acts}
 use Rattle.surrogate_cache.specs.Served.{Mode}
 use Rattle.session_core.specs.Around.{Around, IsTold}
 use Rattle.session_core.specs.Doing.{Does, Replies}

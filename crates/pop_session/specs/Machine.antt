@@ -6,7 +6,7 @@ use Rattle.std.specs.Option.{option_map_or}
 use Rattle.mail_wire.specs.Lines.{crlf, lines_of}
 use Rattle.mail_store.specs.declared.kept.Listed.{Listed}
 use Rattle.mail_store.specs.declared.kept.Message.{Message}
-use Rattle.mail_store.specs.Acts.{Act, acts_of}
+use Rattle.session_core.specs.Acts.{Act, acts_of}
 use Rattle.mail_store.specs.Changing.{expunged}
 use Rattle.mail_store.specs.Kept.{Kept, change_at, logged_in, inbox_of, listed}
 use Rattle.mail_store.specs.StoreState.{StoreState}

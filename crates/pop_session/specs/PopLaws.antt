@@ -7,14 +7,14 @@ use Rattle.std.proofs.lemmas.Bool.Decides.{nat_tests}
 use Rattle.std.proofs.lemmas.List.Folds.{list_all-append}
 use Rattle.mail_wire.specs.Numbers.{number_of}
 use Rattle.mail_wire.specs.Octets.{is_ascii}
-use Rattle.mail_wire.proofs.Feeding.{all-append}
+use Rattle.mail_wire.proofs.AllLemmas.{all-append}
 use Rattle.journal_records.specs.declared.records.Record.{Record}
 use Rattle.mail_store.specs.Changing.{expunged}
 use Rattle.mail_store.specs.Following.{records_of}
 use Rattle.mail_store.specs.Kept.{logged_in}
 use Rattle.mail_store.specs.StoreState.{StoreState, AreStored, with_records}
 use Rattle.mail_store.specs.declared.kept.Listed.{Listed}
-use Rattle.mail_store.proofs.ActLemmas.{fit_acts}
+use Rattle.session_core.proofs.ActLemmas.{fit_acts}
 use Rattle.surrogate_cache.specs.Served.{Mode, legacy, enabled}
 use Rattle.session_core.specs.Desks.{IsOpen}
 use Rattle.session_core.specs.FramedLaws.{LongRowsFit, RowsFit}

@@ -1,8 +1,8 @@
 -- A session (RFC 1939, 3): its rows over a stream, and what its values stand for.
 use Rattle.std.specs.Prelude.{◌≡◌, ℕ, List, [], codes, Option, None, Some, Result, IfOk}
-use Rattle.mail_wire.specs.Turns.{Turn, all_turns}
+use Rattle.session_core.specs.Turns.{Turn, all_turns}
 use Rattle.mail_wire.specs.declared.outside.Fault.{Fault}
-use Rattle.mail_store.specs.Acts.{Act, acts_of}
+use Rattle.session_core.specs.Acts.{Act, acts_of}
 use Rattle.mail_store.specs.Following.{records_of}
 use Rattle.mail_store.specs.StoreState.{StoreState, AreStored, with_records}
 use Rattle.surrogate_cache.specs.Served.{legacy}

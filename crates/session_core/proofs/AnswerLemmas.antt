@@ -5,7 +5,7 @@ use Rattle.std.specs.List.{flat_map}
 use Rattle.std.proofs.lemmas.List.Elements.{All-nil}
 use Rattle.mail_wire.specs.declared.outside.Fault.{Fault}
 use Rattle.mail_wire.specs.declared.outside.Fault.TheVariants as fault
-use Rattle.mail_store.specs.Acts.{acts_of}
+use Rattle.session_core.specs.Acts.{acts_of}
 use Rattle.session_core.specs.Around.{Around, IsTold}
 use Rattle.session_core.specs.Doing.{Replies}
 use Rattle.session_core.specs.Grammar.{Grammar, Answers, StandingRows, StandsNext}

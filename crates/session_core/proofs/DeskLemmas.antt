@@ -7,7 +7,7 @@ use Rattle.mail_wire.specs.KeeperTelling.{KeeperTelling}
 use Rattle.mail_wire.specs.Keeping.{HasKeeperCause}
 use Rattle.mail_wire.specs.declared.outside.Fault.{Fault}
 use Rattle.mail_wire.specs.declared.outside.Fault.TheVariants as fault
-use Rattle.mail_wire.proofs.Feeding.{all-append}
+use Rattle.mail_wire.proofs.AllLemmas.{all-append}
 use Rattle.mail_wire.proofs.Moving.{GoesOn-nil, HasWireCause-fine}
 use Rattle.mail_store.specs.Changing.{copy_for, delivered, delivery_refusal, expunged, inboxes_of, queued}
 use Rattle.mail_store.specs.Following.{records_of}

@@ -6,11 +6,11 @@ use Rattle.mail_wire.specs.declared.outside.Fault.TheVariants as fault
 use Rattle.mail_wire.specs.Moves.{GivesOrFails}
 use Rattle.mail_wire.specs.Telling.{Telling}
 use Rattle.mail_wire.proofs.Moving.{Gives-nil, Gives-trans, GivesPrefix-nil}
-use Rattle.mail_store.specs.Acts.{Act, acts_of, changes_in}
-use Rattle.mail_store.specs.Doing.{given_by, Does as StoreDoes}
+use Rattle.session_core.specs.Acts.{Act, acts_of, changes_in}
+use Rattle.session_core.specs.Done.{given_by, Does as StoreDoes}
 use Rattle.mail_store.specs.Following.{records_of}
 use Rattle.journal_records.specs.declared.records.Record.{Record}
-use Rattle.mail_store.proofs.DoingLemmas.{given_by-append, records_in-append, Does-none, Does-made, Does-reply, Does-broken, IsDone-more}
+use Rattle.session_core.proofs.DoneLemmas.{given_by-append, records_in-append, Does-none, Does-made, Does-reply, Does-broken, IsDone-more}
 use Rattle.mail_store.proofs.FollowLemmas.{Follows-nil, Follows-more}
 use Rattle.session_core.specs.Around.{Around, LeavesDesk}
 use Rattle.session_core.specs.Doing.{Does, DoesAll, DoesFirst, Makes, Replies}

@@ -1,9 +1,9 @@
 -- What a session gives may be sent.
 use Rattle.std.proofs.Common.{◌≡◌, ℕ, zero, suc, List, [], length, Option, Some, None, refl}
-use Rattle.mail_wire.specs.Turns.{Turn, turns, all_turns, behind}
-use Rattle.mail_wire.proofs.Feeding.{all-append}
-use Rattle.mail_wire.proofs.TurnsLemmas.{turns-stop}
-use Rattle.mail_store.specs.Acts.{Act, IsFitAct}
+use Rattle.session_core.specs.Turns.{Turn, turns, all_turns, behind}
+use Rattle.mail_wire.proofs.AllLemmas.{all-append}
+use Rattle.session_core.proofs.TurnsLemmas.{turns-stop}
+use Rattle.session_core.specs.Acts.{Act, IsFitAct}
 use Rattle.session_core.specs.Meanings.{Meanings}
 use Rattle.session_core.specs.Protocol.{Protocol, IsFitTurn}
 

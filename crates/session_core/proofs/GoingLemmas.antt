@@ -3,10 +3,10 @@ use Rattle.std.proofs.Common.{◌≡◌, ◌==◌, ℕ, Bool, true, length, arit
 use Rattle.std.specs.List.{All}
 use Rattle.std.proofs.lemmas.Bool.Decides.{nat_tests}
 use Rattle.std.proofs.lemmas.List.Elements.{All-append, All-nil}
-use Rattle.mail_wire.specs.Turns.{Turn, stay, behind, all_turns}
+use Rattle.session_core.specs.Turns.{Turn, stay, behind, all_turns}
 use Rattle.mail_wire.specs.declared.outside.Fault.{Fault}
-use Rattle.mail_wire.proofs.TurnsLemmas.{all_turns-stop, behind-behind}
-use Rattle.mail_store.specs.Acts.{Act}
+use Rattle.session_core.proofs.TurnsLemmas.{all_turns-stop, behind-behind}
+use Rattle.session_core.specs.Acts.{Act}
 use Rattle.session_core.specs.Around.{Around, IsTold}
 use Rattle.session_core.specs.Doing.{DoesAll}
 use Rattle.session_core.specs.Meanings.{Meanings, AreMeanings, WithMeanings}

@@ -9,16 +9,16 @@ use Rattle.mail_wire.specs.declared.outside.Fault.{Fault}
 use Rattle.mail_wire.specs.declared.outside.Fault.TheVariants as fault
 use Rattle.mail_wire.specs.declared.traffic.TheConstants.{PIECE}
 use Rattle.mail_wire.specs.Telling.{Telling}
-use Rattle.mail_wire.specs.Turns.{Turn, IsFramed, stay, behind, all_turns}
+use Rattle.session_core.specs.Turns.{Turn, IsFramed, stay, behind, all_turns}
 use Rattle.mail_wire.specs.Transcript.{taken_of}
 use Rattle.mail_wire.specs.Moves.{TakesPiece, TakesNothing}
-use Rattle.mail_wire.proofs.Feeding.{all-append}
-use Rattle.mail_wire.proofs.TurnsLemmas.{all_turns-append, all_turns-stop}
-use Rattle.mail_store.specs.Acts.{Act, IsFitAct, gives, changes, changes_in}
-use Rattle.mail_store.specs.Doing.{given_by, StopsIn, FailsIn, IsDone}
+use Rattle.mail_wire.proofs.AllLemmas.{all-append}
+use Rattle.session_core.proofs.TurnsLemmas.{all_turns-append, all_turns-stop}
+use Rattle.session_core.specs.Acts.{Act, IsFitAct, gives, changes, changes_in}
+use Rattle.session_core.specs.Done.{given_by, StopsIn, FailsIn, IsDone}
 use Rattle.mail_store.specs.Following.{records_of, Follows}
 use Rattle.mail_store.specs.StoreState.{StoreState}
-use Rattle.mail_store.proofs.DoingLemmas.{IsDone-more, given_by-append, octets_of_acts, records_in-append}
+use Rattle.session_core.proofs.DoneLemmas.{IsDone-more, given_by-append, octets_of_acts, records_in-append}
 use Rattle.mail_store.proofs.FollowLemmas.{Follows-more}
 use Rattle.session_core.specs.Around.{Around, IsTold, LeavesDesk}
 use Rattle.session_core.specs.Desks.{IsOpen}
@@ -88,7 +88,7 @@ grows : (course : Course) → IsFramed course.next → (store : StoreState) → 
 grows course framed store xs ys = (given_by course.spelled (piece_turn course store xs ys).parts, replies_to-append course framed store xs ys)
 
 turns_for-nil : (course : Course) (store : StoreState) → turns_for course store [] ≡ stay (course.start store) []
-unfolding Rattle.mail_wire.specs.Turns.turns
+unfolding Rattle.session_core.specs.Turns.turns
 turns_for-nil course store = refl
 
 acts_for-nil : (course : Course) (store : StoreState) → acts_for course store [] ≡ course.opening store

@@ -1,11 +1,11 @@
 -- How a step of a machine is shown to be one: a turn that was carried out, no turn yet, or a fault before anything was done.
 use Rattle.std.proofs.Common.{◌≡◌, ℕ, List, [], ◌++◌, drop, Ok, Err, Some, refl, ap}
 use Rattle.std.proofs.lemmas.List.Elements.{All-nil}
-use Rattle.mail_wire.specs.Turns.{Turn, IsFramed, all_turns}
+use Rattle.session_core.specs.Turns.{Turn, IsFramed, all_turns}
 use Rattle.mail_wire.specs.declared.outside.Fault.{Fault}
 use Rattle.mail_wire.specs.declared.outside.Fault.TheVariants as fault
-use Rattle.mail_wire.proofs.TurnsLemmas.{all_turns-go}
-use Rattle.mail_store.specs.Acts.{Act}
+use Rattle.session_core.proofs.TurnsLemmas.{all_turns-go}
+use Rattle.session_core.specs.Acts.{Act}
 use Rattle.session_core.specs.Around.{Around, IsTold}
 use Rattle.session_core.specs.Doing.{DoesAll, DoesFirst}
 use Rattle.session_core.specs.Meanings.{Meanings}

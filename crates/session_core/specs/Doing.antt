@@ -3,8 +3,8 @@ use Rattle.std.specs.Prelude.{◌≡◌, ℕ, List, [], ◌∷◌, Option, None,
 use Rattle.mail_wire.specs.Moves.{Gives, GivesOrFails}
 use Rattle.mail_wire.specs.declared.outside.Fault.{Fault}
 use Rattle.mail_wire.specs.declared.outside.Fault.TheVariants as fault
-use Rattle.mail_store.specs.Acts.{Act, changes_in}
-use Rattle.mail_store.specs.Doing.{given_by, IsDone}
+use Rattle.session_core.specs.Acts.{Act, changes_in}
+use Rattle.session_core.specs.Done.{given_by, IsDone}
 use Rattle.mail_store.specs.Following.{records_of, Follows, Breaks}
 use Rattle.mail_store.specs.StoreState.{StoreState}
 use Rattle.journal_records.specs.declared.records.Record.{Record}

@@ -4,9 +4,9 @@ use Rattle.std.specs.Prelude.{nat_le}
 use Rattle.std.proofs.lemmas.Bool.Decides.{nat_tests}
 use Rattle.std.proofs.lemmas.List.{drop-append-le, take-append-le}
 use Rattle.mail_wire.specs.Framing.{Framed, waiting, whole, too_long, next_line}
-use Rattle.mail_wire.specs.Turns.{Turn, IsFramed, followed_by}
+use Rattle.session_core.specs.Turns.{Turn, IsFramed, followed_by}
 use Rattle.mail_wire.proofs.FramingLemmas.{IsSteady, steady, le_true, le_false, at_most_of}
-use Rattle.mail_store.specs.Acts.{Act}
+use Rattle.session_core.specs.Acts.{Act}
 use Rattle.session_core.specs.Grammar.{Grammar, IsFitRow, count_cut, cut_by, protocol_of, turn_by, turn_in}
 use Rattle.session_core.specs.Meanings.{Meanings, AreMeanings}
 use Rattle.session_core.specs.Protocol.{IsFitTurn}

@@ -2,9 +2,9 @@
 use Rattle.std.specs.Prelude.{◌≡◌, ◌++◌, ℕ, zero, suc, ◌≤◌, List, length, take, drop, nat_le, if◌then◌else◌, Option, Some, None, Result, IfOk}
 use Rattle.std.specs.List.{All, AllByRecursion}
 use Rattle.mail_wire.specs.Framing.{Framed, waiting, whole, too_long, next_line}
-use Rattle.mail_wire.specs.Turns.{Turn}
+use Rattle.session_core.specs.Turns.{Turn}
 use Rattle.mail_wire.specs.declared.outside.Fault.{Fault}
-use Rattle.mail_store.specs.Acts.{Act, IsFitAct}
+use Rattle.session_core.specs.Acts.{Act, IsFitAct}
 use Rattle.mail_store.specs.StoreState.{StoreState}
 use Rattle.session_core.specs.Around.{Around, IsTold}
 use Rattle.session_core.specs.Doing.{Does}

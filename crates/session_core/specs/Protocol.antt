@@ -1,8 +1,8 @@
 -- A protocol as a machine over whole lists.
 use Rattle.std.specs.Prelude.{ℕ, List, Option}
 use Rattle.std.specs.List.{AllByRecursion}
-use Rattle.mail_wire.specs.Turns.{Turn}
-use Rattle.mail_store.specs.Acts.{Act, IsFitAct}
+use Rattle.session_core.specs.Turns.{Turn}
+use Rattle.session_core.specs.Acts.{Act, IsFitAct}
 use Rattle.mail_store.specs.StoreState.{StoreState}
 use Rattle.session_core.specs.Meanings.{Meanings}
 

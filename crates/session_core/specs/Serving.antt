@@ -5,12 +5,12 @@ use Rattle.std.specs.List.{All, AllByRecursion}
 use Rattle.mail_wire.specs.Moves.{Moves}
 use Rattle.mail_wire.specs.Telling.{Telling}
 use Rattle.mail_wire.specs.Transcript.{IsLawful, taken_of, given_of}
-use Rattle.mail_wire.specs.Turns.{Turn, all_turns}
+use Rattle.session_core.specs.Turns.{Turn, all_turns}
 use Rattle.mail_wire.specs.declared.outside.Entry.{Entry}
 use Rattle.mail_wire.specs.declared.outside.Entry.TheVariants.{Taken, Given}
 use Rattle.mail_wire.specs.declared.traffic.TheConstants.{PIECE}
-use Rattle.mail_store.specs.Acts.{Act, IsFitAct, changes_in}
-use Rattle.mail_store.specs.Doing.{given_by, IsDone}
+use Rattle.session_core.specs.Acts.{Act, IsFitAct, changes_in}
+use Rattle.session_core.specs.Done.{given_by, IsDone}
 use Rattle.mail_store.specs.Following.{records_of, Follows}
 use Rattle.mail_store.specs.StoreState.{StoreState}
 use Rattle.journal_records.specs.declared.records.Record.{Record}

@@ -1,9 +1,9 @@
 -- What a session stands for, and what feeding it does.
 use Rattle.std.specs.Prelude.{ℕ, [], ◌++◌, List, Result, IfOk}
 use Rattle.std.specs.List.{All}
-use Rattle.mail_wire.specs.Turns.{Turn, all_turns}
+use Rattle.session_core.specs.Turns.{Turn, all_turns}
 use Rattle.mail_wire.specs.declared.outside.Fault.{Fault}
-use Rattle.mail_store.specs.Acts.{Act}
+use Rattle.session_core.specs.Acts.{Act}
 use Rattle.session_core.specs.Around.{Around, IsTold}
 use Rattle.session_core.specs.Doing.{Does}
 use Rattle.session_core.specs.Keeps.{fault_of}

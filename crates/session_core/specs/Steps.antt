@@ -1,9 +1,9 @@
 -- What the calls of a machine do.
 use Rattle.std.specs.Prelude.{◌≡◌, ℕ, [], ◌++◌, drop, List, Option, Some, None, Result, IfOk}
 use Rattle.std.specs.List.{All}
-use Rattle.mail_wire.specs.Turns.{Turn, behind, all_turns}
+use Rattle.session_core.specs.Turns.{Turn, behind, all_turns}
 use Rattle.mail_wire.specs.declared.outside.Fault.{Fault}
-use Rattle.mail_store.specs.Acts.{Act}
+use Rattle.session_core.specs.Acts.{Act}
 use Rattle.session_core.specs.Around.{Around, IsTold}
 use Rattle.session_core.specs.Doing.{Does}
 use Rattle.session_core.specs.Keeps.{fault_of}

@@ -1,7 +1,7 @@
 //! What a protocol gives to the driver.
 ghost use Rattle.std.specs.Prelude.{◌≡◌, ◌<◌, ◌≤◌, ℕ, List, [], IfOk, length, None, Some};
-ghost use Rattle.mail_wire.specs.Turns.{Turn, IsFramed};
-ghost use Rattle.mail_store.specs.Acts.{Act};
+ghost use Rattle.session_core.specs.Turns.{Turn, IsFramed};
+ghost use Rattle.session_core.specs.Acts.{Act};
 ghost use Rattle.session_core.specs.declared.desk.Desk.{Desk as DeskValue};
 ghost use Rattle.session_core.specs.Desks.{IsOpen};
 ghost use Rattle.session_core.specs.Keeps.{Keeps, fault_of};

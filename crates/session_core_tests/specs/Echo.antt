@@ -2,7 +2,7 @@
 use Rattle.std.specs.Prelude.{◌≡◌, ℕ, ◌+◌, ◌-◌, List, [], ◌∷◌, ◌++◌, Bool, true, false, ◌&&◌, ◌==◌, nat_le, slice_index, codes, length, if◌then◌else◌, Option, Some, None}
 use Rattle.std.specs.Str.{bytes_eq}
 use Rattle.mail_wire.specs.Lines.{crlf}
-use Rattle.mail_store.specs.Acts.{gives}
+use Rattle.session_core.specs.Acts.{gives}
 use Rattle.session_core.specs.Grammar.{Grammar, Row}
 use Rattle.session_core.specs.declared.desk.Desk.{Desk}
 use Rattle.session_core.specs.declared.rows.Wants.{Wants}

@@ -1,7 +1,7 @@
 -- What holds of the toy's rows.
 use Rattle.std.proofs.Common.{◌≡◌, ℕ, List, [], ◌∷◌, Some, refl}
 use Rattle.std.specs.List.{AllByRecursion}
-use Rattle.mail_store.specs.Acts.{Act, IsFitAct, gives, changes}
+use Rattle.session_core.specs.Acts.{Act, IsFitAct, gives, changes}
 use Rattle.session_core.specs.FramedLaws.{LongRowsFit, RowsFit}
 use Rattle.session_core.specs.declared.desk.Desk.{Desk}
 use Rattle.session_core_tests.specs.Echo.{EchoStands, State, echo_grammar, row_of, state_of, wanted_by, wants_of}

@@ -6,17 +6,17 @@ use Rattle.std.proofs.lemmas.List.{take-append-drop, length-take-le}
 use Rattle.std.proofs.lemmas.List.Elements.{All-nil, All-from_recursion}
 use Rattle.mail_wire.specs.Lines.{Cut, crlf}
 use Rattle.mail_wire.specs.Telling.{Telling}
-use Rattle.mail_wire.specs.Turns.{behind}
+use Rattle.session_core.specs.Turns.{behind}
 use Rattle.mail_wire.specs.declared.outside.Fault.{Fault}
 use Rattle.mail_wire.proofs.FirstLineLemmas.{put}
 use Rattle.mail_wire.proofs.Moving.{Gives-nil}
-use Rattle.mail_wire.proofs.TurnsLemmas.{all_turns-go}
+use Rattle.session_core.proofs.TurnsLemmas.{all_turns-go}
 use Rattle.mail_wire.specs.Dots.{unstuffed}
 use Rattle.mail_store.specs.Changing.{delivery_refusal, has_large_octets}
-use Rattle.mail_store.specs.Doing.{Does}
+use Rattle.session_core.specs.Done.{Does}
 use Rattle.mail_store.specs.StoreState.{StoreState}
-use Rattle.mail_store.proofs.ActLemmas.{fit_acts}
-use Rattle.mail_store.proofs.DoingLemmas.{Does-err, Does-ok}
+use Rattle.session_core.proofs.ActLemmas.{fit_acts}
+use Rattle.session_core.proofs.DoneLemmas.{Does-err, Does-ok}
 use Rattle.mail_store.proofs.FollowLemmas.{Follows-nil}
 use Rattle.smtp_grammar.specs.Data.{behind_command, data_cut, end_cut}
 use Rattle.smtp_grammar.proofs.DataLemmas.{end_cut-apart, end_cut-parts, unstuffed-long}

@@ -8,9 +8,9 @@ use Rattle.mail_wire.specs.declared.outside.Fault.{Fault}
 use Rattle.mail_wire.specs.declared.outside.Fault.TheVariants as fault
 use Rattle.mail_wire.proofs.Moving.{Gives-nil}
 use Rattle.mail_wire.specs.Dots.{unstuffed}
-use Rattle.mail_store.specs.Acts.{Act, gives, changes, acts_of}
+use Rattle.session_core.specs.Acts.{Act, gives, changes, acts_of}
 use Rattle.mail_store.specs.Changing.{Changes, IsDeliverable, IsRefusedAs, copy_for, delivered, delivery_refusal, has_large_octets, inboxes_of, queued}
-use Rattle.mail_store.specs.Doing.{Does}
+use Rattle.session_core.specs.Done.{Does}
 use Rattle.mail_store.specs.Following.{Follows, records_of}
 use Rattle.mail_store.specs.Kept.{Kept, after_all, name_of}
 use Rattle.mail_store.specs.StoreState.{StoreState, with_records}
@@ -22,7 +22,7 @@ use Rattle.journal_records.specs.declared.records.Record.{Record}
 use Rattle.journal_records.specs.declared.records.Record.TheVariants as records
 use Rattle.mail_store.proofs.ChangeLemmas.{after_all-append}
 use Rattle.mail_store.proofs.DeliveryLemmas.{after-copies}
-use Rattle.mail_store.proofs.DoingLemmas.{Does-made, Does-more, Does-reply, changes_in-acts}
+use Rattle.session_core.proofs.DoneLemmas.{Does-made, Does-more, Does-reply, changes_in-acts}
 use Rattle.mail_store.proofs.FollowLemmas.{Breaks-one, Follows-nil}
 use Rattle.smtp_session.specs.declared.states.Client.{Client}
 use Rattle.smtp_session.specs.declared.states.Envelope.{Envelope}

@@ -12,18 +12,18 @@ use Rattle.mail_wire.specs.KeeperTelling.{KeeperTelling}
 use Rattle.mail_wire.specs.Lines.{Cut, first_line}
 use Rattle.mail_wire.specs.Moves.{GoesOn}
 use Rattle.mail_wire.specs.Telling.{Telling}
-use Rattle.mail_wire.specs.Turns.{Turn, stay, behind, followed_by, IsFramed}
+use Rattle.session_core.specs.Turns.{Turn, stay, behind, followed_by, IsFramed}
 use Rattle.mail_wire.specs.declared.outside.Fault.{Fault}
 use Rattle.mail_wire.specs.declared.outside.Fault.TheVariants as fault
 use Rattle.mail_wire.proofs.FramingLemmas.{IsSteady, steady}
-use Rattle.mail_wire.proofs.TurnsLemmas.{all_turns-stop}
-use Rattle.mail_store.specs.Acts.{Act}
-use Rattle.mail_store.specs.Doing.{Does}
+use Rattle.session_core.proofs.TurnsLemmas.{all_turns-stop}
+use Rattle.session_core.specs.Acts.{Act}
+use Rattle.session_core.specs.Done.{Does}
 use Rattle.mail_store.specs.Following.{records_of}
 use Rattle.mail_store.specs.StoreState.{StoreState, with_records}
 use Rattle.journal_records.specs.declared.records.Record.{Record}
-use Rattle.mail_store.proofs.ActLemmas.{Serving, ServedSoFar, ServedSoFar-start, ServedSoFar-more, ServedSoFar-fails, ServedAll-does, ServedSoFar-all, ServedSoFar-ends}
-use Rattle.mail_store.proofs.DoingLemmas.{Does-none, changes_in-acts}
+use Rattle.session_core.proofs.ActLemmas.{Serving, ServedSoFar, ServedSoFar-start, ServedSoFar-more, ServedSoFar-fails, ServedAll-does, ServedSoFar-all, ServedSoFar-ends}
+use Rattle.session_core.proofs.DoneLemmas.{Does-none, changes_in-acts}
 use Rattle.smtp_grammar.specs.Data.{behind_command, data_cut, end_cut}
 use Rattle.smtp_grammar.proofs.DataLemmas.{data_cut-shorter, data_cut-stays}
 use Rattle.smtp_session.specs.declared.session.Came.{Came}

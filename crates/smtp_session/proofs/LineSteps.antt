@@ -7,7 +7,7 @@ use Rattle.mail_wire.specs.Framing.{waiting, whole, too_long, next_line, framed_
 use Rattle.mail_wire.specs.Lines.{Cut, first_line}
 use Rattle.mail_wire.specs.Moves.{Gives, GivesOrFails, GivesPrefix}
 use Rattle.mail_wire.specs.Telling.{Telling}
-use Rattle.mail_wire.specs.Turns.{behind}
+use Rattle.session_core.specs.Turns.{behind}
 use Rattle.mail_wire.specs.declared.framing.TheConstants.{LINE_MAX}
 use Rattle.mail_wire.specs.declared.framing.FoundLine.{FoundLine}
 use Rattle.mail_wire.specs.declared.framing.FoundLine.TheVariants as variant
@@ -16,13 +16,13 @@ use Rattle.mail_wire.specs.declared.outside.Fault.TheVariants as fault
 use Rattle.mail_wire.proofs.FirstLineLemmas.{first_line-cut}
 use Rattle.mail_wire.proofs.FramingLemmas.{next_line-line, next_line-long_line, next_line-waiting, next_line-long}
 use Rattle.mail_wire.proofs.Moving.{Gives-nil, GivesPrefix-so_far}
-use Rattle.mail_wire.proofs.TurnsLemmas.{all_turns-go}
-use Rattle.mail_store.specs.Acts.{acts_of}
-use Rattle.mail_store.specs.Doing.{Does}
+use Rattle.session_core.proofs.TurnsLemmas.{all_turns-go}
+use Rattle.session_core.specs.Acts.{acts_of}
+use Rattle.session_core.specs.Done.{Does}
 use Rattle.mail_store.specs.Kept.{name_of}
 use Rattle.mail_store.specs.StoreState.{StoreState}
-use Rattle.mail_store.proofs.ActLemmas.{fit_acts}
-use Rattle.mail_store.proofs.DoingLemmas.{Does-err, Does-ok, Does-reply}
+use Rattle.session_core.proofs.ActLemmas.{fit_acts}
+use Rattle.session_core.proofs.DoneLemmas.{Does-err, Does-ok, Does-reply}
 use Rattle.mail_store.proofs.FollowLemmas.{Follows-nil}
 use Rattle.smtp_grammar.specs.Commands.{command_of}
 use Rattle.smtp_grammar.specs.Data.{end_cut}

@@ -7,13 +7,13 @@ use Rattle.std.specs.Option.{option_map}
 use Rattle.std.proofs.lemmas.Bool.{cond_both}
 use Rattle.mail_wire.specs.Framing.{Framed, waiting, whole, too_long, next_line}
 use Rattle.mail_wire.specs.Lines.{Cut}
-use Rattle.mail_wire.specs.Turns.{Turn, all_turns}
-use Rattle.mail_wire.proofs.TurnsLemmas.{all_turns-stop, all_turns-go}
+use Rattle.session_core.specs.Turns.{Turn, all_turns}
+use Rattle.session_core.proofs.TurnsLemmas.{all_turns-stop, all_turns-go}
 use Rattle.mail_wire.specs.Dots.{unstuffed}
 use Rattle.ace_domains.proofs.FormLemmas.{form_name}
 use Rattle.mail_store.specs.declared.delivery.Delivery.{Delivery}
 use Rattle.journal_records.specs.declared.records.Record.{Record}
-use Rattle.mail_store.specs.Acts.{Act, gives, changes, acts_of}
+use Rattle.session_core.specs.Acts.{Act, gives, changes, acts_of}
 use Rattle.mail_store.specs.Answers.{IsFold}
 use Rattle.mail_store.specs.Changing.{delivered, delivery_refusal, has_large_octets}
 use Rattle.mail_store.specs.Kept.{Kept, name_of}

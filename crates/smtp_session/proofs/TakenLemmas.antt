@@ -5,14 +5,14 @@ use Rattle.std.specs.Option.{option_map}
 use Rattle.std.proofs.lemmas.Bool.Decides.{nat_tests}
 use Rattle.mail_wire.specs.Lines.{Cut}
 use Rattle.mail_wire.specs.Message.{IsEnded}
-use Rattle.mail_wire.specs.Turns.{Turn, behind}
-use Rattle.mail_wire.proofs.TurnsLemmas.{all_turns-go}
+use Rattle.session_core.specs.Turns.{Turn, behind}
+use Rattle.session_core.proofs.TurnsLemmas.{all_turns-go}
 use Rattle.mail_wire.specs.Dots.{stuffed}
 use Rattle.mail_store.specs.declared.changing.StoreFault.TheVariants as faults
 use Rattle.mail_store.specs.declared.delivery.Delivery.{Delivery}
 use Rattle.mail_store.specs.declared.limits.TheConstants.{THINGS_MAX}
 use Rattle.journal_records.specs.declared.records.Record.{Record}
-use Rattle.mail_store.specs.Acts.{Act, gives, changes}
+use Rattle.session_core.specs.Acts.{Act, gives, changes}
 use Rattle.mail_store.specs.Changing.{delivered, delivery_refusal, has_large_octets, has_many_things}
 use Rattle.mail_store.specs.Records.{recipient_count as waiting_count}
 use Rattle.mail_store.specs.StoreState.{StoreState, with_records}

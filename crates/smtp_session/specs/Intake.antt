@@ -7,7 +7,7 @@ use Rattle.mail_store.specs.declared.delivery.Delivery.{Delivery}
 use Rattle.mail_store.specs.declared.kept.Entry.{Entry}
 use Rattle.mail_store.specs.declared.kept.Message.{Message}
 use Rattle.journal_records.specs.declared.records.Record.{Record}
-use Rattle.mail_store.specs.Acts.{Act, gives, changes}
+use Rattle.session_core.specs.Acts.{Act, gives, changes}
 use Rattle.journal_records.specs.Addresses.{path_text}
 use Rattle.mail_store.specs.private.Delivering.{copied}
 use Rattle.mail_store.specs.Following.{records_of}

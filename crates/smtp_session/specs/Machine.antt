@@ -4,7 +4,7 @@ use Rattle.std.specs.List.{list_any, list_all}
 use Rattle.std.specs.Str.{bytes_eq}
 use Rattle.mail_wire.specs.Octets.{is_ascii}
 use Rattle.address_grammar.specs.declared.Address.{Address}
-use Rattle.mail_store.specs.Acts.{Act, acts_of}
+use Rattle.session_core.specs.Acts.{Act, acts_of}
 use Rattle.journal_records.specs.Addresses.{is_same_domain, path_text}
 use Rattle.mail_store.specs.Changing.{delivered, delivery_refusal, has_large_octets}
 use Rattle.mail_store.specs.Kept.{find_account, is_local, name_of}

@@ -6,13 +6,13 @@ use Rattle.mail_wire.specs.Framing.{Framed, waiting, whole, too_long, next_line}
 use Rattle.mail_wire.specs.Lines.{Cut, crlf}
 use Rattle.mail_wire.specs.Octets.{is_ascii}
 use Rattle.mail_wire.specs.Telling.{Telling}
-use Rattle.mail_wire.specs.Turns.{Turn, all_turns}
+use Rattle.session_core.specs.Turns.{Turn, all_turns}
 use Rattle.mail_wire.specs.declared.outside.Fault.{Fault}
 use Rattle.mail_wire.specs.Dots.{unstuffed}
 use Rattle.address_grammar.specs.Paths.{ReadsPaths}
-use Rattle.mail_store.specs.Acts.{Act, acts_of, IsFitAct}
+use Rattle.session_core.specs.Acts.{Act, acts_of, IsFitAct}
 use Rattle.journal_records.specs.Addresses.{IsDomainText, IsSendable}
-use Rattle.mail_store.specs.Doing.{Does}
+use Rattle.session_core.specs.Done.{Does}
 use Rattle.mail_store.specs.Following.{records_of}
 use Rattle.mail_store.specs.StoreState.{StoreState, with_records}
 use Rattle.mail_store.specs.declared.limits.TheConstants.{RECIPIENTS_MAX}

@@ -2,10 +2,10 @@
 ghost use Rattle.std.specs.Prelude.{◌≡◌, ◌≢◌, ◌<◌, ◌++◌, ◌∷◌, ℕ, List, [], Bool, Option, Some, IfSome, length, true, codes};
 ghost use Rattle.std.specs.List.{All};
 ghost use Rattle.mail_wire.specs.Message.{IsEnded};
-ghost use Rattle.mail_wire.specs.Turns.{behind};
+ghost use Rattle.session_core.specs.Turns.{behind};
 ghost use Rattle.address_grammar.specs.declared.Address.{Address};
 ghost use Rattle.address_grammar.specs.Paths.{ComesInPath, in_angles};
-ghost use Rattle.mail_store.specs.Acts.{gives, changes};
+ghost use Rattle.session_core.specs.Acts.{gives, changes};
 ghost use Rattle.mail_store.specs.Answers.{IsFold};
 ghost use Rattle.journal_records.specs.Addresses.{path_text};
 ghost use Rattle.mail_store.specs.Changing.{delivered};

@@ -8,7 +8,7 @@ ghost use Rattle.address_grammar.specs.Paths.{ComesInPath};
 ghost use Rattle.mail_store.specs.Kept.{name_of};
 ghost use Rattle.mail_store.specs.StoreState.{StoreState};
 ghost use Rattle.mail_store.specs.Changing.{IsDeliverable};
-ghost use Rattle.mail_store.specs.Doing.{Does};
+ghost use Rattle.session_core.specs.Done.{Does};
 ghost use Rattle.journal_records.specs.Stored.{IsStored};
 ghost use Rattle.smtp_grammar.specs.Commands.{command_of};
 ghost use Rattle.smtp_grammar.specs.Data.{end_cut};

@@ -2,11 +2,11 @@
 use Rattle.std.specs.Prelude.{◌≡◌, ℕ, ◌<◌, ◌++◌, drop, length, List, [], Bool, false, true, Option, None, Some, IfOk, Result}
 use Rattle.std.specs.List.{All}
 use Rattle.mail_wire.specs.Telling.{Telling}
-use Rattle.mail_wire.specs.Turns.{Turn, behind}
+use Rattle.session_core.specs.Turns.{Turn, behind}
 use Rattle.mail_wire.specs.declared.outside.Fault.{Fault}
 use Rattle.mail_wire.specs.Dots.{unstuffed}
-use Rattle.mail_store.specs.Acts.{Act, acts_of}
-use Rattle.mail_store.specs.Doing.{Does, IsDone}
+use Rattle.session_core.specs.Acts.{Act, acts_of}
+use Rattle.session_core.specs.Done.{Does, IsDone}
 use Rattle.mail_store.specs.StoreState.{StoreState}
 use Rattle.journal_records.specs.declared.records.Record.{Record}
 use Rattle.smtp_session.specs.Machine.{Readings}

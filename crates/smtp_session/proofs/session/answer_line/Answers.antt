@@ -1,7 +1,7 @@
 use Rattle.std.proofs.Common.{Option, Err, Ok, ap}
 use Rattle.std.proofs.lemmas.Result.{err_from_is_err_and}
 use Rattle.mail_wire.specs.declared.outside.Fault.TheVariants as fault
-use Rattle.mail_store.proofs.DoingLemmas.{Does-none}
+use Rattle.session_core.proofs.DoneLemmas.{Does-none}
 use Rattle.smtp_session.specs.Session.{line_octets}
 use Rattle.smtp_session.specs.declared.states.SmtpState.{SmtpState}
 use Rattle.smtp_session.proofs.FeedLemmas.{err_is}

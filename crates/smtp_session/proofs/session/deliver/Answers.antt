@@ -1,7 +1,7 @@
 use Rattle.std.proofs.Common.{Bor, List, [], ℕ}
 use Rattle.std.proofs.lemmas.Result.{err_from_is_err_and}
-use Rattle.mail_store.proofs.DoingLemmas.{StopsIn-none}
-use Rattle.mail_store.specs.Acts.{acts_of}
+use Rattle.session_core.proofs.DoneLemmas.{StopsIn-none}
+use Rattle.session_core.specs.Acts.{acts_of}
 use Rattle.smtp_session.specs.Machine.{end_by}
 use Rattle.smtp_session.specs.Session.{line_octets}
 use Rattle.smtp_session.specs.private.Steps.{content_of}

@@ -2,8 +2,8 @@ use Rattle.std.proofs.Common.{subst, ◌∙◌}
 use Rattle.std.proofs.lemmas.Result.{err_from_is_err_and}
 use Rattle.mail_wire.specs.declared.outside.Fault.TheVariants as fault
 use Rattle.mail_wire.specs.Dots.{unstuffed}
-use Rattle.mail_store.specs.Doing.{Does}
-use Rattle.mail_store.proofs.DoingLemmas.{Does-none}
+use Rattle.session_core.specs.Done.{Does}
+use Rattle.session_core.proofs.DoneLemmas.{Does-none}
 use Rattle.smtp_session.specs.declared.states.Greeted.{Greeted}
 use Rattle.smtp_session.specs.declared.states.Smtp.{Smtp}
 use Rattle.smtp_session.specs.Machine.{Step, acts_in, end_data}

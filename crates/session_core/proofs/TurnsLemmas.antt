@@ -1,6 +1,6 @@
 -- All turns of octets: one turn first, no turn, and octets that come later.
 use Rattle.std.proofs.Common.{◌≡◌, ◌≤◌, ℕ, zero, suc, List, ◌++◌, length, Option, Some, None, refl, sym, ap, ◌∙◌, arith, append_assoc}
-use Rattle.mail_wire.specs.Turns.{Turn, stay, behind, turns, all_turns, IsFramed}
+use Rattle.session_core.specs.Turns.{Turn, stay, behind, turns, all_turns, IsFramed}
 
 -- a state and octets that begin with no whole command
 pub turns-stop : {S P : Type 0} (next : S → List ℕ → Option (Turn S P)) (n : ℕ) (s : S) (octets : List ℕ) → next s octets ≡ None → turns next n s octets ≡ stay s octets

@@ -3,17 +3,17 @@ use Rattle.std.proofs.Common.{◌≡◌, ℕ, List, [], ◌∷◌, ◌++◌, Opt
 use Rattle.std.specs.List.{AllByRecursion}
 use Rattle.mail_wire.specs.Moves.{Gives, GoesOn}
 use Rattle.mail_wire.specs.Telling.{Telling}
-use Rattle.mail_wire.specs.Turns.{Turn, stay, behind, all_turns}
+use Rattle.session_core.specs.Turns.{Turn, stay, behind, all_turns}
 use Rattle.mail_wire.specs.declared.outside.Fault.{Fault}
-use Rattle.mail_wire.proofs.Feeding.{Feed, FedSoFar, FedAll, FedSoFar-all, FedSoFar-ends, all-append}
+use Rattle.mail_wire.proofs.AllLemmas.{Feed, FedSoFar, FedAll, FedSoFar-all, FedSoFar-ends, all-append}
 use Rattle.mail_wire.proofs.Moving.{Gives-nil, Gives-trans, GoesOn-nil, GoesOn-trans}
-use Rattle.mail_wire.proofs.TurnsLemmas.{behind-behind}
-use Rattle.mail_store.specs.Acts.{Act, gives, acts_of, changes_in, act_octets, IsFitAct}
-use Rattle.mail_store.specs.Doing.{given_by, Does}
+use Rattle.session_core.proofs.TurnsLemmas.{behind-behind}
+use Rattle.session_core.specs.Acts.{Act, gives, acts_of, changes_in, act_octets, IsFitAct}
+use Rattle.session_core.specs.Done.{given_by, Does}
 use Rattle.mail_store.specs.Following.{records_of, Follows}
 use Rattle.mail_store.specs.StoreState.{StoreState}
 use Rattle.journal_records.specs.declared.records.Record.{Record}
-use Rattle.mail_store.proofs.DoingLemmas.{Does-more, records_in-append, given_by-append}
+use Rattle.session_core.proofs.DoneLemmas.{Does-more, records_in-append, given_by-append}
 use Rattle.mail_store.proofs.FollowLemmas.{Follows-nil, Follows-more}
 
 fit_reply : {P : Type 0} (Fits : P → Type 0) (reply : List P) → AllByRecursion Fits reply → AllByRecursion (IsFitAct Fits) (acts_of [] reply)

@@ -5,7 +5,7 @@ use Rattle.mail_wire.specs.Moves.{Gives}
 use Rattle.mail_wire.specs.Telling.{Telling}
 use Rattle.mail_wire.specs.declared.outside.Fault.{Fault}
 use Rattle.mail_wire.specs.declared.outside.Fault.TheVariants as fault
-use Rattle.mail_store.specs.Acts.{Act, gives, changes, changes_in, act_octets}
+use Rattle.session_core.specs.Acts.{Act, gives, changes, changes_in, act_octets}
 use Rattle.mail_store.specs.Following.{records_of, Follows, Breaks}
 use Rattle.mail_store.specs.StoreState.{StoreState}
 use Rattle.journal_records.specs.declared.records.Record.{Record}
