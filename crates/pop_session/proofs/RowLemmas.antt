@@ -14,11 +14,12 @@ use Rattle.mail_store.specs.StoreState.{StoreState, with_records}
 use Rattle.mail_store.specs.declared.kept.Listed.{Listed}
 use Rattle.session_core.proofs.DoneLemmas.{changes_in-acts}
 use Rattle.surrogate_cache.specs.Served.{Mode}
-use Rattle.session_core.specs.Around.{Around, IsTold}
+use Rattle.session_core.specs.Around.{Around}
 use Rattle.session_core.specs.Doing.{Does, Replies}
 use Rattle.session_core.specs.Grammar.{Answers, AnswersBy, StandsNext}
 use Rattle.session_core.specs.Keeps.{fault_of}
 use Rattle.session_core.specs.Meanings.{Meanings, WithMeanings}
+use Rattle.session_core.specs.Moments.{Moment, IsTold}
 use Rattle.session_core.proofs.DoingLemmas.{Does-replies, DoesFirst-none}
 use Rattle.pop_session.specs.declared.command.Keyword.{Keyword}
 use Rattle.pop_session.specs.declared.command.Keyword.TheVariants as keyword
@@ -93,12 +94,12 @@ takes_as a b result taken other same takes = record {
 }
 
 -- the session behind a step stands for what it leaves
-stands_behind : (a b : Around) (found : Option PopState) (taken : Step) (more : List ℕ) → state_or_ended found ≡ taken.state → b.desk.store ≡ with_records a.desk.store (records_of taken.changes)
+stands_behind : (a b : Around) (found : Option PopState) (taken : Step) (more : List Moment) → state_or_ended found ≡ taken.state → b.desk.store ≡ with_records a.desk.store (records_of taken.changes)
     → StandsNext pop_grammar PopStands more found b.desk (after_step a.desk.store taken)
 stands_behind a b None taken more next store = rw (← next) refl
 stands_behind a b (Some session) taken more next store = rw (← next, ← store) refl
 
-row_done : (meanings : Meanings) (a b : Around) (result : Result (Option PopState) Fault) (more : List ℕ) (taken : Step) → Does (part_octets meanings) a b (fault_of result) (acts_in taken)
+row_done : (meanings : Meanings) (a b : Around) (result : Result (Option PopState) Fault) (more : List Moment) (taken : Step) → Does (part_octets meanings) a b (fault_of result) (acts_in taken)
     → IfOk result (λ next. state_or_ended next ≡ taken.state)
     → AnswersBy pop_grammar PopStands meanings a b result more (record { acts = acts_in taken; after = after_step a.desk.store taken })
 row_done meanings a b (Ok found) more taken does next =

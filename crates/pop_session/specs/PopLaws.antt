@@ -14,12 +14,13 @@ use Rattle.mail_store.specs.Following.{records_of}
 use Rattle.mail_store.specs.Kept.{logged_in}
 use Rattle.mail_store.specs.StoreState.{StoreState, AreStored, with_records}
 use Rattle.mail_store.specs.declared.kept.Listed.{Listed}
-use Rattle.session_core.proofs.ActLemmas.{fit_acts}
+use Rattle.session_core.proofs.FitLemmas.{fit_acts}
 use Rattle.surrogate_cache.specs.Served.{Mode, legacy, enabled}
 use Rattle.session_core.specs.Desks.{IsOpen}
 use Rattle.session_core.specs.FramedLaws.{LongRowsFit, RowsFit}
 use Rattle.session_core.specs.Grammar.{IsFitRow, opening_row}
 use Rattle.session_core.specs.Meanings.{Meanings, AreMeanings}
+use Rattle.session_core.specs.Moments.{Moment}
 use Rattle.session_core.specs.declared.desk.Desk.{Desk}
 use Rattle.session_core.specs.declared.rows.Wants.TheVariants as wants
 use Rattle.session_core.proofs.StoredLemmas.{stored_at, stored-expunged, surrogate_shown}
@@ -299,10 +300,10 @@ wants_by (pop.EnabledAuthorization session) = refl
 wants_by (pop.Transaction session) = refl
 wants_by (pop.EnabledTransaction session) = refl
 
-pub agrees_by : (more : List ℕ) (session : PopState) (desk : Desk) (machine : Machine) → PopStands more session desk machine → wants_in machine.state ≡ Some wants.Line
+pub agrees_by : (more : List Moment) (session : PopState) (desk : Desk) (machine : Machine) → PopStands more session desk machine → wants_in machine.state ≡ Some wants.Line
 agrees_by more session desk machine is = rw is (wants_by session)
 
-pub opening_fits_by : (meanings : Meanings) → AreMeanings meanings → (moments : List ℕ) (desk : Desk) → IsOpen desk → IsFitRow pop_grammar meanings (opening_row pop_grammar moments desk.store)
+pub opening_fits_by : (meanings : Meanings) → AreMeanings meanings → (moments : List Moment) (desk : Desk) → IsOpen desk → IsFitRow pop_grammar meanings (opening_row pop_grammar moments desk.store)
 opening_fits_by meanings are moments desk opens = record { fit = fit_acts (IsFit meanings) [] greeting (refl, tt); sound = opens.stored }
 
 pub rows_fit_by : RowsFit pop_grammar

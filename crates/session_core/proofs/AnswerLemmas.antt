@@ -6,11 +6,12 @@ use Rattle.std.proofs.lemmas.List.Elements.{All-nil}
 use Rattle.mail_wire.specs.declared.outside.Fault.{Fault}
 use Rattle.mail_wire.specs.declared.outside.Fault.TheVariants as fault
 use Rattle.session_core.specs.Acts.{acts_of}
-use Rattle.session_core.specs.Around.{Around, IsTold}
+use Rattle.session_core.specs.Around.{Around}
 use Rattle.session_core.specs.Doing.{Replies}
 use Rattle.session_core.specs.Grammar.{Grammar, Answers, StandingRows, StandsNext}
 use Rattle.session_core.specs.Keeps.{fault_of}
 use Rattle.session_core.specs.Meanings.{Meanings, WithMeanings}
+use Rattle.session_core.specs.Moments.{Moment, IsTold}
 use Rattle.session_core.proofs.DoingLemmas.{Does-replies, DoesFirst-none}
 
 -- nothing of it was done
@@ -24,9 +25,9 @@ Answers-stop grammar stands a rows unit met fine = record {
 -- a reply, given or broken off, whatever functions tell its octets
 pub Answers-reply : (grammar : Grammar) {R : Type 0} (stands : StandingRows grammar R) (a b : Around) (rows : R) (unit : List ℕ) (result : Result (Option R) Fault) (reply : Meanings → List grammar.P)
     (after : Meanings → List ℕ → grammar.S) (octets : List ℕ)
-    → WithMeanings (λ meanings. (more : List ℕ) (state : grammar.S) → stands more rows a.desk state → grammar.row meanings state unit ≡ record { acts = acts_of [] (reply meanings); after = after meanings more })
+    → WithMeanings (λ meanings. (more : List Moment) (state : grammar.S) → stands more rows a.desk state → grammar.row meanings state unit ≡ record { acts = acts_of [] (reply meanings); after = after meanings more })
     → WithMeanings (λ meanings. flat_map (grammar.spelled meanings) (reply meanings) ≡ octets) → Replies a b (fault_of result) octets
-    → WithMeanings (λ meanings. (more : List ℕ) → IfOk result (λ next. StandsNext grammar stands more next b.desk (after meanings more))) → Answers grammar stands a b rows unit result
+    → WithMeanings (λ meanings. (more : List Moment) → IfOk result (λ next. StandsNext grammar stands more next b.desk (after meanings more))) → Answers grammar stands a b rows unit result
 Answers-reply grammar stands a b rows unit result reply after octets has spelled replies next = record {
   told = [];
   are_told = All-nil (IsTold a.clock);

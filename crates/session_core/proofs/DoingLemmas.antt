@@ -1,16 +1,17 @@
 -- Acts that are done one after another.
-use Rattle.std.proofs.Common.{◌≡◌, ℕ, List, [], ◌++◌, Option, None, Some, Result, Ok, Err, refl, ◌∙◌, append-nil}
+use Rattle.std.proofs.Common.{◌≡◌, ℕ, List, [], ◌++◌, Option, None, Some, Result, Ok, Err, refl, ap, ◌∙◌, append-nil}
+use Rattle.std.specs.Prelude.{map}
 use Rattle.std.specs.List.{flat_map}
 use Rattle.mail_wire.specs.declared.outside.Fault.{Fault}
 use Rattle.mail_wire.specs.declared.outside.Fault.TheVariants as fault
 use Rattle.mail_wire.specs.Moves.{GivesOrFails}
 use Rattle.mail_wire.specs.Telling.{Telling}
 use Rattle.mail_wire.proofs.Moving.{Gives-nil, Gives-trans, GivesPrefix-nil}
-use Rattle.session_core.specs.Acts.{Act, acts_of, changes_in}
-use Rattle.session_core.specs.Done.{given_by, Does as StoreDoes}
+use Rattle.session_core.specs.Acts.{Act, gives, acts_of, changes_in}
+use Rattle.session_core.specs.Done.{given_by, StopsIn}
 use Rattle.mail_store.specs.Following.{records_of}
 use Rattle.journal_records.specs.declared.records.Record.{Record}
-use Rattle.session_core.proofs.DoneLemmas.{given_by-append, records_in-append, Does-none, Does-made, Does-reply, Does-broken, IsDone-more}
+use Rattle.session_core.proofs.DoneLemmas.{given_by-append, records_in-append, changes_in-acts, octets_of_acts, StopsIn-none, StopsIn-reply, IsDone-more}
 use Rattle.mail_store.proofs.FollowLemmas.{Follows-nil, Follows-more}
 use Rattle.session_core.specs.Around.{Around, LeavesDesk}
 use Rattle.session_core.specs.Doing.{Does, DoesAll, DoesFirst, Makes, Replies}
@@ -29,10 +30,10 @@ DoesAll-then spelled a b c xs ys one two = record {
 -- some of these acts were done behind others, and before others
 pub DoesFirst-between : {P : Type 0} (spelled : P → List ℕ) (a b c : Around) (met : Fault) (xs ys more : List (Act P)) → DoesAll spelled a b xs → DoesFirst spelled b c met ys
     → DoesFirst spelled a c met (xs ++ (ys ++ more))
-DoesFirst-between {P = P} spelled a b c met xs ys more one two = record {
+DoesFirst-between spelled a b c met xs ys more one two = record {
   given = given_by spelled xs ++ two.given;
   gives = Gives-trans a.wire b.wire c.wire (given_by spelled xs) two.given one.gives two.gives;
-  done = IsDone-more P (Unit {0}) (Unit {0}) spelled a.desk.store b.desk.store c.desk.store a.keeper.octets b.keeper.octets c.keeper.octets met xs ys more two.given one.follows two.done;
+  done = IsDone-more spelled a.desk.store b.desk.store c.desk.store a.keeper.octets b.keeper.octets c.keeper.octets met xs ys more two.given one.follows two.done;
 }
 
 -- a fault in acts behind others that were done
@@ -48,15 +49,11 @@ pub Does-then : {P : Type 0} (spelled : P → List ℕ) (a b c : Around) (met : 
 Does-then spelled a b c None xs ys one two = DoesAll-then spelled a b c xs ys one two
 Does-then spelled a b c (Some met) xs ys one two = DoesFirst-behind spelled a b c met xs ys one two
 
--- what the store's definitions say of a call
-of_store : {P : Type 0} (spelled : P → List ℕ) (a b : Around) (met : Option Fault) (acts : List (Act P))
-    → StoreDoes {T = Unit {0}} spelled a.wire b.wire a.desk.store b.desk.store a.keeper.octets b.keeper.octets (answer_of met) acts → Does spelled a b met acts
-of_store spelled a b None acts does = record { gives = rw does.done.0 at does.gives; follows = does.done.1 }
-of_store spelled a b (Some met) acts does = record { given = does.given; gives = does.gives; done = does.done }
-
 -- a fault before anything was done
 pub DoesFirst-none : {P : Type 0} (spelled : P → List ℕ) (a : Around) (met : Fault) (acts : List (Act P)) → (met ≡ fault.Keeper → ⊥) → DoesFirst spelled a a met acts
-DoesFirst-none spelled a met acts fine = of_store spelled a a (Some met) acts (Does-none {T = Unit {0}} spelled a.wire a.desk.store a.keeper.octets met acts fine)
+DoesFirst-none spelled a fault.Keeper acts fine = absurd (fine refl)
+DoesFirst-none spelled a fault.Wire acts fine = record { given = []; gives = Gives-nil a.wire; done = StopsIn-none spelled a.desk.store a.keeper.octets acts }
+DoesFirst-none spelled a fault.Memory acts fine = record { given = []; gives = Gives-nil a.wire; done = StopsIn-none spelled a.desk.store a.keeper.octets acts }
 
 -- ---- replies
 
@@ -87,31 +84,56 @@ Replies-stop a met octets fine = record {
   fine = λ is. let same : met ≡ fault.Keeper = cc in fine same;
 }
 
-no_keeper_fault : (met : Option Fault) → ¬ (met ≡ Some fault.Keeper) → answer_of met ≡ Err fault.Keeper → ⊥
-no_keeper_fault None fine bad = cc
-no_keeper_fault (Some met) fine bad = let same : met ≡ fault.Keeper = cc in fine (rw same refl)
-
--- a reply
-pub Does-replies : {P : Type 0} (spelled : P → List ℕ) (a b : Around) (met : Option Fault) (reply : List P) → Replies a b met (flat_map spelled reply) → Does spelled a b met (acts_of [] reply)
-Does-replies spelled a b met reply replies =
-    of_store spelled a b met (acts_of [] reply) (rw (replies.leaves.desk, replies.leaves.keeper)
-    (Does-reply {T = Unit {0}} spelled a.wire b.wire a.desk.store a.keeper.octets (answer_of met) [] reply refl replies.gives (no_keeper_fault met replies.fine)))
+-- the changes were made, and of the reply a prefix was given
+stopped : {P : Type 0} (spelled : P → List ℕ) (a b c : Around) (made : List (List Record)) (reply : List P) (given missing : List ℕ) → Makes a b None made → LeavesDesk b c
+    → given ++ missing ≡ flat_map spelled reply → StopsIn spelled a.desk.store c.desk.store a.keeper.octets c.keeper.octets (acts_of made reply) given
+stopped spelled a b c made reply given missing makes leaves whole =
+    rw (leaves.desk, leaves.keeper) (StopsIn-reply spelled a.desk.store b.desk.store a.keeper.octets b.keeper.octets made reply given missing makes.changes whole)
 
 -- changes, and then a reply
 pub Does-changes : {P : Type 0} (spelled : P → List ℕ) (a b c : Around) (met : Option Fault) (made : List (List Record)) (reply : List P) → Makes a b None made → Replies b c met (flat_map spelled reply)
     → Does spelled a c met (acts_of made reply)
-Does-changes spelled a b c met made reply makes replies =
-    of_store spelled a c met (acts_of made reply) (rw (replies.leaves.desk, replies.leaves.keeper, ← makes.wire)
-    (Does-made {T = Unit {0}} spelled b.wire c.wire a.desk.store b.desk.store a.keeper.octets b.keeper.octets (answer_of met) made reply makes.changes replies.gives (no_keeper_fault met replies.fine)))
+Does-changes spelled a b c None made reply makes replies = record {
+  gives = rw (octets_of_acts spelled made reply, ← makes.wire) replies.gives;
+  follows = rw (changes_in-acts made reply, replies.leaves.desk, replies.leaves.keeper) makes.changes;
+}
+Does-changes spelled a b c (Some fault.Keeper) made reply makes replies = absurd (replies.fine refl)
+Does-changes spelled a b c (Some fault.Wire) made reply makes replies = record {
+  given = replies.gives.given;
+  gives = rw (← makes.wire) replies.gives.gives;
+  done = stopped spelled a b c made reply replies.gives.given replies.gives.missing makes replies.leaves replies.gives.whole;
+}
+Does-changes spelled a b c (Some fault.Memory) made reply makes replies = record {
+  given = replies.gives.given;
+  gives = rw (← makes.wire) replies.gives.gives;
+  done = stopped spelled a b c made reply replies.gives.given replies.gives.missing makes replies.leaves replies.gives.whole;
+}
+
+-- a reply
+pub Does-replies : {P : Type 0} (spelled : P → List ℕ) (a b : Around) (met : Option Fault) (reply : List P) → Replies a b met (flat_map spelled reply) → Does spelled a b met (acts_of [] reply)
+Does-replies spelled a b met reply replies = Does-changes spelled a a b met [] reply (record { wire = refl; changes = Follows-nil a.desk.store a.keeper.octets }) replies
 
 -- changes that broke off
 pub Does-unchanged : {P : Type 0} (spelled : P → List ℕ) (a b : Around) (met : Fault) (made : List (List Record)) (reply : List P) → Makes a b (Some met) made → DoesFirst spelled a b met (acts_of made reply)
-Does-unchanged spelled a b fault.Keeper made reply makes =
-    of_store spelled a b (Some fault.Keeper) (acts_of made reply) (rw (makes.wire, makes.changes.1)
-    (Does-broken {T = Unit {0}} spelled a.wire a.desk.store b.desk.store a.keeper.octets b.keeper.octets makes.changes.0 reply makes.changes.2))
-Does-unchanged spelled a b fault.Memory made reply makes =
-    of_store spelled a b (Some fault.Memory) (acts_of made reply) (rw (makes.wire, makes.changes.0, makes.changes.1)
-    (Does-none {T = Unit {0}} spelled a.wire a.desk.store a.keeper.octets fault.Memory (acts_of made reply) (λ bad. cc)))
-Does-unchanged spelled a b fault.Wire made reply makes =
-    of_store spelled a b (Some fault.Wire) (acts_of made reply) (rw (makes.wire, makes.changes.0, makes.changes.1)
-    (Does-none {T = Unit {0}} spelled a.wire a.desk.store a.keeper.octets fault.Wire (acts_of made reply) (λ bad. cc)))
+Does-unchanged spelled a b fault.Keeper made reply makes = record {
+  given = [];
+  gives = rw makes.wire (Gives-nil a.wire);
+  done = record {
+    done = [];
+    failing = makes.changes.0;
+    left = map gives reply;
+    acts_are = ap (λ all. acts_of all reply) makes.changes.1;
+    given_is = refl;
+    breaks = makes.changes.2;
+  };
+}
+Does-unchanged spelled a b fault.Memory made reply makes = record {
+  given = [];
+  gives = rw makes.wire (Gives-nil a.wire);
+  done = rw (makes.changes.0, makes.changes.1) (StopsIn-none spelled a.desk.store a.keeper.octets (acts_of made reply));
+}
+Does-unchanged spelled a b fault.Wire made reply makes = record {
+  given = [];
+  gives = rw makes.wire (Gives-nil a.wire);
+  done = rw (makes.changes.0, makes.changes.1) (StopsIn-none spelled a.desk.store a.keeper.octets (acts_of made reply));
+}

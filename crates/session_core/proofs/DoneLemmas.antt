@@ -1,16 +1,13 @@
 -- What calls do by acts that are due.
-use Rattle.std.proofs.Common.{◌≡◌, ℕ, List, [], ◌∷◌, ◌++◌, Option, Result, Ok, Err, refl, sym, ap, ◌∙◌, append-nil, append_assoc}
+use Rattle.std.proofs.Common.{◌≡◌, ℕ, List, [], ◌∷◌, ◌++◌, Option, refl, sym, ap, ◌∙◌, append-nil, append_assoc}
 use Rattle.std.specs.Prelude.{map}
 use Rattle.std.specs.List.{flat_map}
 use Rattle.std.proofs.lemmas.List.Concat.{flat_map-append}
-use Rattle.mail_wire.specs.Moves.{Gives, GivesOrFails}
-use Rattle.mail_wire.specs.Telling.{Telling}
 use Rattle.mail_wire.specs.declared.outside.Fault.{Fault}
 use Rattle.mail_wire.specs.declared.outside.Fault.TheVariants as fault
-use Rattle.mail_wire.proofs.Moving.{Gives-nil, Gives-trans}
 use Rattle.session_core.specs.Acts.{Act, gives, changes, acts_of, changes_in, act_octets}
-use Rattle.session_core.specs.Done.{given_by, StopsIn, FailsIn, IsDone, Does}
-use Rattle.mail_store.specs.Following.{records_of, Follows, Breaks}
+use Rattle.session_core.specs.Done.{given_by, StopsIn, FailsIn, IsDone}
+use Rattle.mail_store.specs.Following.{records_of, Follows}
 use Rattle.mail_store.specs.StoreState.{StoreState}
 use Rattle.journal_records.specs.declared.records.Record.{Record}
 use Rattle.mail_store.proofs.FollowLemmas.{Follows-nil, Follows-more, Breaks-more, records_of-append}
@@ -61,17 +58,10 @@ pub StopsIn-none : {P : Type 0} (spelled : P → List ℕ) (old : StoreState) (h
 StopsIn-none spelled old had acts =
     record { done = []; parts = []; left = acts; acts_are = refl; begun = []; missing = []; parts_are = refl; given_is = refl; follows = Follows-nil old had }
 
--- a fault before anything was done
-pub Does-none : {P T : Type 0} (spelled : P → List ℕ) (a : Telling) (old : StoreState) (had : Option (List ℕ)) (met : Fault) (acts : List (Act P)) → (met ≡ fault.Keeper → ⊥)
-    → Does {T = T} spelled a a old old had had (Err met) acts
-Does-none spelled a old had fault.Keeper acts fine = absurd (fine refl)
-Does-none spelled a old had fault.Wire acts fine = record { given = []; gives = Gives-nil a; done = StopsIn-none spelled old had acts }
-Does-none spelled a old had fault.Memory acts fine = record { given = []; gives = Gives-nil a; done = StopsIn-none spelled old had acts }
-
 -- the changes were made, and of the reply a prefix was given
-stops_in_reply : {P : Type 0} (spelled : P → List ℕ) (old new : StoreState) (had has : Option (List ℕ)) (made : List (List Record)) (reply : List P) (given missing : List ℕ)
+pub StopsIn-reply : {P : Type 0} (spelled : P → List ℕ) (old new : StoreState) (had has : Option (List ℕ)) (made : List (List Record)) (reply : List P) (given missing : List ℕ)
     → Follows old new had has (records_of made) → given ++ missing ≡ flat_map spelled reply → StopsIn spelled old new had has (acts_of made reply) given
-stops_in_reply {P = P} spelled old new had has made reply given missing follows whole = record {
+StopsIn-reply {P = P} spelled old new had has made reply given missing follows whole = record {
   done = map changes made;
   parts = reply;
   left = [];
@@ -81,34 +71,6 @@ stops_in_reply {P = P} spelled old new had has made reply given missing follows 
   parts_are = sym whole;
   given_is = ap (λ l. l ++ given) (sym (nothing_given spelled made));
   follows = rw (changes_alone P made) follows;
-}
-
--- the changes were made, and then the reply was given, or a prefix of it
-pub Does-made : {P T : Type 0} (spelled : P → List ℕ) (a b : Telling) (old new : StoreState) (had has : Option (List ℕ)) (result : Result T Fault) (made : List (List Record)) (reply : List P)
-    → Follows old new had has (records_of made) → GivesOrFails a b result (flat_map spelled reply) → (result ≡ Err fault.Keeper → ⊥) → Does spelled a b old new had has result (acts_of made reply)
-Does-made spelled a b old new had has (Ok done) made reply follows gave fine = record {
-  given = flat_map spelled reply;
-  gives = gave;
-  done = (sym (octets_of_acts spelled made reply), rw (changes_in-acts made reply) follows);
-}
-Does-made spelled a b old new had has (Err fault.Keeper) made reply follows gave fine = absurd (fine refl)
-Does-made spelled a b old new had has (Err fault.Wire) made reply follows gave fine =
-    record { given = gave.given; gives = gave.gives; done = stops_in_reply spelled old new had has made reply gave.given gave.missing follows gave.whole }
-Does-made spelled a b old new had has (Err fault.Memory) made reply follows gave fine =
-    record { given = gave.given; gives = gave.gives; done = stops_in_reply spelled old new had has made reply gave.given gave.missing follows gave.whole }
-
--- nothing is due but the reply
-pub Does-reply : {P T : Type 0} (spelled : P → List ℕ) (a b : Telling) (old : StoreState) (had : Option (List ℕ)) (result : Result T Fault) (made : List (List Record)) (reply : List P) → made ≡ []
-    → GivesOrFails a b result (flat_map spelled reply) → (result ≡ Err fault.Keeper → ⊥) → Does spelled a b old old had had result (acts_of made reply)
-Does-reply spelled a b old had result made reply none gave fine = rw none (Does-made spelled a b old old had had result [] reply (Follows-nil old had) gave fine)
-
--- the keeper failed in the one change
-pub Does-broken : {P T : Type 0} (spelled : P → List ℕ) (a : Telling) (old new : StoreState) (had has : Option (List ℕ)) (failing : List Record) (reply : List P)
-    → Breaks old new had has [] failing → Does {T = T} spelled a a old new had has (Err fault.Keeper) (acts_of (failing ∷ []) reply)
-Does-broken spelled a old new had has failing reply breaks = record {
-  given = [];
-  gives = Gives-nil a;
-  done = record { done = []; failing = failing; left = map gives reply; acts_are = refl; given_is = refl; breaks = breaks };
 }
 
 -- ---- acts behind others, and before others
@@ -151,30 +113,9 @@ FailsIn-more spelled old mid new had has having front acts more given first fail
 }
 
 -- what a fault leaves of acts that stand between others, the first of which were done
-pub IsDone-more : (P T U : Type 0) (spelled : P → List ℕ) (old mid new : StoreState) (had has having : Option (List ℕ)) (met : Fault) (front acts more : List (Act P)) (given : List ℕ)
-    → Follows old mid had has (records_of (changes_in front)) → IsDone {T = T} spelled mid new has having (Err met) acts given
-    → IsDone {T = U} spelled old new had having (Err met) (front ++ (acts ++ more)) (given_by spelled front ++ given)
-IsDone-more P T U spelled old mid new had has having fault.Keeper front acts more given first done = FailsIn-more spelled old mid new had has having front acts more given first done
-IsDone-more P T U spelled old mid new had has having fault.Wire front acts more given first done = StopsIn-more spelled old mid new had has having front acts more given first done
-IsDone-more P T U spelled old mid new had has having fault.Memory front acts more given first done = StopsIn-more spelled old mid new had has having front acts more given first done
-
-pub Does-more : (P T U : Type 0) (spelled : P → List ℕ) (a b c : Telling) (old mid new : StoreState) (had has having : Option (List ℕ)) (met : Fault) (front acts more : List (Act P))
-    → Gives a b (given_by spelled front) → Follows old mid had has (records_of (changes_in front)) → Does {T = T} spelled b c mid new has having (Err met) acts
-    → Does {T = U} spelled a c old new had having (Err met) (front ++ (acts ++ more))
-Does-more P T U spelled a b c old mid new had has having met front acts more gave first does = record {
-  given = given_by spelled front ++ does.given;
-  gives = Gives-trans a b c (given_by spelled front) does.given gave does.gives;
-  done = IsDone-more P T U spelled old mid new had has having met front acts more does.given first does.done;
-}
-
--- ---- the same of another answer
-
-pub Does-ok : {P T U : Type 0} (spelled : P → List ℕ) (a b : Telling) (old new : StoreState) (had has : Option (List ℕ)) (x : T) (y : U) (acts : List (Act P))
-    → Does spelled a b old new had has (Ok x) acts → Does spelled a b old new had has (Ok y) acts
-Does-ok spelled a b old new had has x y acts does = record { given = does.given; gives = does.gives; done = does.done }
-
-pub Does-err : {P : Type 0} (T U : Type 0) (spelled : P → List ℕ) (a b : Telling) (old new : StoreState) (had has : Option (List ℕ)) (met : Fault) (acts : List (Act P))
-    → Does {T = T} spelled a b old new had has (Err met) acts → Does {T = U} spelled a b old new had has (Err met) acts
-Does-err T U spelled a b old new had has fault.Keeper acts does = record { given = does.given; gives = does.gives; done = does.done }
-Does-err T U spelled a b old new had has fault.Wire acts does = record { given = does.given; gives = does.gives; done = does.done }
-Does-err T U spelled a b old new had has fault.Memory acts does = record { given = does.given; gives = does.gives; done = does.done }
+pub IsDone-more : {P : Type 0} (spelled : P → List ℕ) (old mid new : StoreState) (had has having : Option (List ℕ)) (met : Fault) (front acts more : List (Act P)) (given : List ℕ)
+    → Follows old mid had has (records_of (changes_in front)) → IsDone spelled mid new has having (Some met) acts given
+    → IsDone spelled old new had having (Some met) (front ++ (acts ++ more)) (given_by spelled front ++ given)
+IsDone-more spelled old mid new had has having fault.Keeper front acts more given first done = FailsIn-more spelled old mid new had has having front acts more given first done
+IsDone-more spelled old mid new had has having fault.Wire front acts more given first done = StopsIn-more spelled old mid new had has having front acts more given first done
+IsDone-more spelled old mid new had has having fault.Memory front acts more given first done = StopsIn-more spelled old mid new had has having front acts more given first done

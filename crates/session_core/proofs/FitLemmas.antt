@@ -1,16 +1,22 @@
 -- What a session gives may be sent.
-use Rattle.std.proofs.Common.{◌≡◌, ℕ, zero, suc, List, [], length, Option, Some, None, refl}
-use Rattle.session_core.specs.Turns.{Turn, turns, all_turns, behind}
+use Rattle.std.proofs.Common.{◌≡◌, ℕ, zero, suc, List, [], ◌∷◌, length, Option, Some, None, refl}
+use Rattle.session_core.specs.Turns.{Turn, turns, all_turns}
 use Rattle.mail_wire.proofs.AllLemmas.{all-append}
-use Rattle.session_core.proofs.TurnsLemmas.{turns-stop}
-use Rattle.session_core.specs.Acts.{Act, IsFitAct}
+use Rattle.session_core.proofs.TurnsLemmas.{turns-stop, turns-go}
+use Rattle.std.specs.List.{AllByRecursion}
+use Rattle.journal_records.specs.declared.records.Record.{Record}
+use Rattle.session_core.specs.Acts.{Act, acts_of, IsFitAct}
 use Rattle.session_core.specs.Meanings.{Meanings}
 use Rattle.session_core.specs.Protocol.{Protocol, IsFitTurn}
 
-turns-go : {S P : Type 0} (next : S → List ℕ → Option (Turn S P)) (n : ℕ) (s : S) (octets : List ℕ) (turn : Turn S P) → next s octets ≡ Some turn
-    → turns next (suc n) s octets ≡ behind turn.parts (turns next n turn.after turn.rest)
-unfolding turns
-turns-go next n s octets turn some = rw (some, turns) refl
+fit_reply : {P : Type 0} (Fits : P → Type 0) (reply : List P) → AllByRecursion Fits reply → AllByRecursion (IsFitAct Fits) (acts_of [] reply)
+fit_reply Fits [] fit = tt
+fit_reply Fits (part ∷ reply) fit = (fit.0, fit_reply Fits reply fit.1)
+
+-- acts whose parts are fit
+pub fit_acts : {P : Type 0} (Fits : P → Type 0) (made : List (List Record)) (reply : List P) → AllByRecursion Fits reply → AllByRecursion (IsFitAct Fits) (acts_of made reply)
+fit_acts Fits [] reply fit = fit_reply Fits reply fit
+fit_acts Fits (records ∷ made) reply fit = (tt, fit_acts Fits made reply fit)
 
 turns-zero : {S P : Type 0} (next : S → List ℕ → Option (Turn S P)) (s : S) (octets : List ℕ) → turns next zero s octets ≡ record { parts = []; after = s; rest = octets }
 unfolding turns

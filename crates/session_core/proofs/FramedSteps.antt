@@ -13,11 +13,12 @@ use Rattle.mail_wire.specs.declared.framing.TheConstants.{LINE_MAX}
 use Rattle.mail_wire.specs.declared.outside.Fault.{Fault}
 use Rattle.mail_wire.proofs.FirstLineLemmas.{first_line-cut}
 use Rattle.mail_wire.proofs.FramingLemmas.{next_line-line, next_line-long_line, next_line-waiting, next_line-long, at_most_of}
-use Rattle.session_core.specs.Around.{Around, IsTold}
+use Rattle.session_core.specs.Around.{Around}
 use Rattle.session_core.specs.FramedLaws.{count_cut-some, count_cut-none, count_cut-zero, framed_by}
 use Rattle.session_core.specs.FramedRows.{framed_next}
 use Rattle.session_core.specs.Grammar.{Grammar, Answers, IsUnit, Refuses, StandingRows, StandsNext, count_cut, cut_by, protocol_of, turn_by}
 use Rattle.session_core.specs.Meanings.{Meanings}
+use Rattle.session_core.specs.Moments.{Moment, IsTold}
 use Rattle.session_core.specs.Steps.{IsReadyAfter, Standing, StandsAfter, Steps}
 use Rattle.session_core.specs.declared.desk.Desk.{Desk}
 use Rattle.session_core.specs.declared.rows.Framed.{Framed}
@@ -106,7 +107,7 @@ FramedStands grammar stands more machine kept desk state rest = stands more mach
 
 -- the rows want what their states want
 abbrev pub Agrees : (grammar : Grammar) {R : Type 0} → StandingRows grammar R → R → Desk → Wants → Type 0
-Agrees grammar stands rows desk want = (more : List ℕ) (state : grammar.S) → stands more rows desk state → grammar.wants state ≡ Some want
+Agrees grammar stands rows desk want = (more : List Moment) (state : grammar.S) → stands more rows desk state → grammar.wants state ≡ Some want
 
 -- more of a unit
 pub Steps-more : (grammar : Grammar) {R : Type 0} (stands : StandingRows grammar R) (a : Around) (machine : Framed R) (kept keeps piece : List ℕ) → keeps ≡ kept ++ piece
@@ -119,7 +120,7 @@ Steps-more grammar stands a machine kept keeps piece same = record {
       (has.0, rw (has.1, same) refl) (rw (drop-length piece, append-nil (rest ++ piece)) refl);
 }
 
-next_stands : (grammar : Grammar) {R : Type 0} (stands : StandingRows grammar R) (more : List ℕ) (next : Option R) (b : Desk) (state : grammar.S) → StandsNext grammar stands more next b state
+next_stands : (grammar : Grammar) {R : Type 0} (stands : StandingRows grammar R) (more : List Moment) (next : Option R) (b : Desk) (state : grammar.S) → StandsNext grammar stands more next b state
     → StandsAfter (protocol_of grammar) (FramedStands grammar stands) more (framed_next next) [] b state []
 next_stands grammar stands more None b state is = is
 next_stands grammar stands more (Some rows) b state is = (is, refl)

@@ -7,9 +7,10 @@ use Rattle.session_core.specs.Turns.{Turn, stay, behind, all_turns}
 use Rattle.mail_wire.specs.declared.outside.Fault.{Fault}
 use Rattle.session_core.proofs.TurnsLemmas.{all_turns-stop, behind-behind}
 use Rattle.session_core.specs.Acts.{Act}
-use Rattle.session_core.specs.Around.{Around, IsTold}
+use Rattle.session_core.specs.Around.{Around}
 use Rattle.session_core.specs.Doing.{DoesAll}
 use Rattle.session_core.specs.Meanings.{Meanings, AreMeanings, WithMeanings}
+use Rattle.session_core.specs.Moments.{Moment, IsTold}
 use Rattle.session_core.specs.Protocol.{Protocol}
 use Rattle.session_core.specs.Sessions.{Feeds}
 use Rattle.session_core.specs.Steps.{Standing, Steps}
@@ -23,7 +24,7 @@ use Rattle.session_core.proofs.DoingLemmas.{DoesAll-nil, DoesAll-then, DoesFirst
 
 -- what a machine is ready for brings no turn by itself
 abbrev pub Waits : (protocol : Protocol) {M : Type 0} → Standing protocol M → (M → List ℕ → Desk → Type 0) → Type 0
-Waits protocol {M} stands is_ready = (meanings : Meanings) → AreMeanings meanings → (more : List ℕ) (machine : M) (kept : List ℕ) (desk : Desk) (state : protocol.S) (rest : List ℕ)
+Waits protocol {M} stands is_ready = (meanings : Meanings) → AreMeanings meanings → (more : List Moment) (machine : M) (kept : List ℕ) (desk : Desk) (state : protocol.S) (rest : List ℕ)
     → is_ready machine kept desk → stands more machine kept desk state rest → protocol.next meanings state rest ≡ None
 
 -- after the end nothing brings a turn
@@ -33,7 +34,7 @@ Quiet protocol = (meanings : Meanings) (state : protocol.S) (rest : List ℕ) �
 -- ---- so far
 
 -- Acts were done, and what is left of the piece brings the other turns.
-pub record SoFar (protocol : Protocol) {M : Type 0} (stands : Standing protocol M) (meanings : Meanings) (a b : Around) (turns : Turn protocol.S (Act protocol.P)) (machine : M) (more kept left : List ℕ) : Type 0 where
+pub record SoFar (protocol : Protocol) {M : Type 0} (stands : Standing protocol M) (meanings : Meanings) (a b : Around) (turns : Turn protocol.S (Act protocol.P)) (machine : M) (more : List Moment) (kept left : List ℕ) : Type 0 where
   pub state : protocol.S
   pub rest : List ℕ
   pub has : stands more machine kept b.desk state rest
@@ -43,9 +44,9 @@ pub record SoFar (protocol : Protocol) {M : Type 0} (stands : Standing protocol 
 
 -- The same of whatever stood at the beginning, and of the moments to come.
 pub record Going (protocol : Protocol) {M : Type 0} (stands : Standing protocol M) (a b : Around) (first : M) (had piece : List ℕ) (machine : M) (kept left : List ℕ) : Type 0 where
-  pub told : List ℕ
+  pub told : List Moment
   pub are_told : All (IsTold a.clock) told
-  pub so_far : WithMeanings (λ meanings. (more : List ℕ) (state : protocol.S) (rest : List ℕ) → stands (told ++ more) first had a.desk state rest
+  pub so_far : WithMeanings (λ meanings. (more : List Moment) (state : protocol.S) (rest : List ℕ) → stands (told ++ more) first had a.desk state rest
       → SoFar protocol stands meanings a b (all_turns (protocol.next meanings) state (rest ++ piece)) machine more kept left)
 
 pub Going-start : (protocol : Protocol) {M : Type 0} (stands : Standing protocol M) (a : Around) (machine : M) (kept piece : List ℕ) → Going protocol stands a a machine kept piece machine kept piece
@@ -55,7 +56,7 @@ Going-start protocol stands a machine kept piece = record {
   so_far = λ meanings are more state rest has. record { state = state; rest = rest; has = has; acts = []; does = DoesAll-nil (protocol.spelled meanings) a; turns_are = refl };
 }
 
-pub told_then : (reading also : Option ℕ) (first second : List ℕ) → also ≡ reading → All (IsTold reading) first → All (IsTold also) second → All (IsTold reading) (first ++ second)
+pub told_then : (reading also : Option ℕ) (first second : List Moment) → also ≡ reading → All (IsTold reading) first → All (IsTold also) second → All (IsTold reading) (first ++ second)
 told_then reading also first second same one two = All-append (IsTold reading) first second one (rw same at two)
 
 -- one more step

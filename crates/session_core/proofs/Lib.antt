@@ -1,6 +1,8 @@
 pub mod MeaningLemmas
 pub mod DeskLemmas
 pub mod KeepsLemmas
+pub mod TurnsLemmas
+pub mod DoneLemmas
 pub mod DoingLemmas
 pub mod FitLemmas
 pub mod GoingLemmas

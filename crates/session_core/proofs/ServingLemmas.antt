@@ -1,5 +1,5 @@
 -- A session over a wire, between two takes and at its end, whatever its machine.
-use Rattle.std.proofs.Common.{◌≡◌, ℕ, ◌+◌, ◌<◌, ◌≤◌, List, [], ◌∷◌, ◌++◌, length, take, Option, None, Result, Ok, Err, refl, sym, ap, ◌∙◌, append-nil, append_assoc, arith, inl, inr, subst, length-append}
+use Rattle.std.proofs.Common.{◌≡◌, ℕ, ◌+◌, ◌<◌, ◌≤◌, List, [], ◌∷◌, ◌++◌, length, take, Option, None, Ok, Err, refl, sym, ap, ◌∙◌, append-nil, append_assoc, arith, inl, inr, subst, length-append}
 use Rattle.std.specs.Prelude.{map}
 use Rattle.std.specs.List.{All, AllByRecursion}
 use Rattle.std.proofs.lemmas.List.{length-take-le}
@@ -20,10 +20,10 @@ use Rattle.mail_store.specs.Following.{records_of, Follows}
 use Rattle.mail_store.specs.StoreState.{StoreState}
 use Rattle.session_core.proofs.DoneLemmas.{IsDone-more, given_by-append, octets_of_acts, records_in-append}
 use Rattle.mail_store.proofs.FollowLemmas.{Follows-more}
-use Rattle.session_core.specs.Around.{Around, IsTold, LeavesDesk}
+use Rattle.session_core.specs.Around.{Around, LeavesDesk}
 use Rattle.session_core.specs.Desks.{IsOpen}
-use Rattle.session_core.specs.Keeps.{answer_of}
 use Rattle.session_core.specs.Meanings.{Meanings, AreMeanings, WithMeanings}
+use Rattle.session_core.specs.Moments.{Moment, IsTold}
 use Rattle.session_core.specs.Protocol.{Protocol, IsFitTurn}
 use Rattle.session_core.specs.Served.{met_of, served_of}
 use Rattle.session_core.specs.Serving.{Course, course_of, turns_for, acts_for, replies_to, changes_by, EndsBy, IsSent, IsPrefixOf, MayTake, ServesLawfully, Serves, ServesBy}
@@ -45,19 +45,19 @@ use Rattle.session_core.proofs.TranscriptLemmas.{Grows, Serving, Halfway, Halfwa
 -- is given may be sent.
 pub record AreLaws (protocol : Protocol) {M : Type 0} (stands : Standing protocol M) : Type 0 where
   pub framed : (meanings : Meanings) → AreMeanings meanings → IsFramed (protocol.next meanings)
-  pub goes_on : (more : List ℕ) (machine : M) (kept : List ℕ) (desk : Desk) (state : protocol.S) (rest : List ℕ) → stands more machine kept desk state rest → ¬ protocol.HasEnded state
+  pub goes_on : (more : List Moment) (machine : M) (kept : List ℕ) (desk : Desk) (state : protocol.S) (rest : List ℕ) → stands more machine kept desk state rest → ¬ protocol.HasEnded state
   pub quiet : Quiet protocol
-  pub begins_fit : (meanings : Meanings) → AreMeanings meanings → (moments : List ℕ) (desk : Desk) → IsOpen desk
+  pub begins_fit : (meanings : Meanings) → AreMeanings meanings → (moments : List Moment) (desk : Desk) → IsOpen desk
       → IsFitTurn protocol meanings (record { parts = protocol.opening desk.store; after = protocol.start moments desk.store; rest = [] })
   pub fits : (meanings : Meanings) → AreMeanings meanings → TurnsFit protocol meanings
 
 -- what a session that stands for an end is
-ended_session : (protocol : Protocol) {M : Type 0} (stands : Standing protocol M) → AreLaws protocol stands → (more : List ℕ) (at : Session M) (desk : Desk) (state : protocol.S) (rest : List ℕ)
+ended_session : (protocol : Protocol) {M : Type 0} (stands : Standing protocol M) → AreLaws protocol stands → (more : List Moment) (at : Session M) (desk : Desk) (state : protocol.S) (rest : List ℕ)
     → StandsFor protocol stands more at desk state rest → protocol.HasEnded state → HasEnded at
 ended_session protocol stands laws more (session.Open reading) desk state rest stood ends = absurd (laws.goes_on more reading.machine reading.kept desk state rest stood ends)
 ended_session protocol stands laws more session.Ended desk state rest stood ends = tt
 
-ended_state : (protocol : Protocol) {M : Type 0} (stands : Standing protocol M) (more : List ℕ) (at : Session M) (desk : Desk) (state : protocol.S) (rest : List ℕ)
+ended_state : (protocol : Protocol) {M : Type 0} (stands : Standing protocol M) (more : List Moment) (at : Session M) (desk : Desk) (state : protocol.S) (rest : List ℕ)
     → StandsFor protocol stands more at desk state rest → HasEnded at → protocol.HasEnded state
 ended_state protocol stands more (session.Open reading) desk state rest stood is = absurd is
 ended_state protocol stands more session.Ended desk state rest stood is = stood
@@ -118,15 +118,15 @@ fails_begins spelled old new had has acts given fails =
     (given_by spelled left, ap (given_by spelled) fails.acts_are ∙ given_by-append spelled fails.done left ∙ ap (λ l. l ++ given_by spelled left) (sym fails.given_is))
 
 -- what was given is a prefix of what the acts give
-done_begins : {P T : Type 0} (spelled : P → List ℕ) (old new : StoreState) (had has : Option (List ℕ)) (result : Result T Fault) (acts : List (Act P)) (given : List ℕ)
-    → IsDone spelled old new had has result acts given → IsPrefixOf given (given_by spelled acts)
-done_begins spelled old new had has (Ok done) acts given is = ([], sym is.0 ∙ sym (append-nil given))
-done_begins spelled old new had has (Err fault.Keeper) acts given is = fails_begins spelled old new had has acts given is
-done_begins spelled old new had has (Err fault.Wire) acts given is = stops_begins spelled old new had has acts given is
-done_begins spelled old new had has (Err fault.Memory) acts given is = stops_begins spelled old new had has acts given is
+done_begins : {P : Type 0} (spelled : P → List ℕ) (old new : StoreState) (had has : Option (List ℕ)) (met : Option Fault) (acts : List (Act P)) (given : List ℕ)
+    → IsDone spelled old new had has met acts given → IsPrefixOf given (given_by spelled acts)
+done_begins spelled old new had has None acts given is = ([], sym is.0 ∙ sym (append-nil given))
+done_begins spelled old new had has (Some fault.Keeper) acts given is = fails_begins spelled old new had has acts given is
+done_begins spelled old new had has (Some fault.Wire) acts given is = stops_begins spelled old new had has acts given is
+done_begins spelled old new had has (Some fault.Memory) acts given is = stops_begins spelled old new had has acts given is
 
--- a fault as the call answers it
-answered : (met : Fault) → answer_of (met_of (served_of (Err met))) ≡ Err met
+-- a fault as the answer tells it
+answered : (met : Fault) → met_of (served_of (Err met)) ≡ Some met
 answered fault.Keeper = refl
 answered fault.Wire = refl
 answered fault.Memory = refl
@@ -147,7 +147,7 @@ never_limit is = cc
 -- ---- what was served so far, by its answer
 
 lawfully : (course : Course) → IsFramed course.next → (store after : StoreState) (had has : Option (List ℕ)) (served : Served) (max : ℕ) (a b : Telling) (taken given : List ℕ) → length taken ≤ max
-    → (half : Halfway (replies_to course store) (MayTake course store) a b taken given) → IsDone course.spelled store after had has (answer_of (met_of served)) (acts_for course store taken) given
+    → (half : Halfway (replies_to course store) (MayTake course store) a b taken given) → IsDone course.spelled store after had has (met_of served) (acts_for course store taken) given
     → ServesLawfully course store after had has served max a b
 lawfully course framed store after had has served max a b taken given few half done = record {
   entries = half.entries;
@@ -156,13 +156,13 @@ lawfully course framed store after had has served max a b taken given few half d
   takes = half.takes;
   few = rw half.taken_is few;
   begun = rw half.given_is (begins_answer (replies_to course store) (MayTake course store) a b taken given (grows course framed store) half
-      (done_begins course.spelled store after had has (answer_of (met_of served)) (acts_for course store taken) given done));
+      (done_begins course.spelled store after had has (met_of served) (acts_for course store taken) given done));
   done = rw (half.taken_is, half.given_is) done;
 }
 
 -- a fault broke it off
 broken_off : (course : Course) → IsFramed course.next → (store after : StoreState) (had has : Option (List ℕ)) (met : Fault) (max : ℕ) (a b : Telling) (taken given : List ℕ) → length taken ≤ max
-    → Halfway (replies_to course store) (MayTake course store) a b taken given → IsDone {T = Unit {0}} course.spelled store after had has (Err met) (acts_for course store taken) given
+    → Halfway (replies_to course store) (MayTake course store) a b taken given → IsDone course.spelled store after had has (Some met) (acts_for course store taken) given
     → Serves course store after had has (served_of (Err met)) max a b
 broken_off course framed store after had has met max a b taken given few half done = record {
   lawful = lawfully course framed store after had has (served_of (Err met)) max a b taken given few half (rw answered done);
@@ -173,7 +173,7 @@ broken_off course framed store after had has met max a b taken given few half do
 -- ---- what holds between two takes
 
 -- All that was taken is answered, its changes are made, and the session stands for what follows.
-pub record GoesBy (protocol : Protocol) {M : Type 0} (stands : Standing protocol M) (meanings : Meanings) (moments more : List ℕ) (a b : Around) (at : Session M) (taken : ℕ) : Type 0 where
+pub record GoesBy (protocol : Protocol) {M : Type 0} (stands : Standing protocol M) (meanings : Meanings) (moments more : List Moment) (a b : Around) (at : Session M) (taken : ℕ) : Type 0 where
   pub octets : List ℕ
   pub serving : Serving (replies_to (course_of protocol meanings moments) a.desk.store) (MayTake (course_of protocol meanings moments) a.desk.store) a.wire b.wire octets
   pub stood : StandsFor protocol stands more at b.desk (turns_for (course_of protocol meanings moments) a.desk.store octets).after (turns_for (course_of protocol meanings moments) a.desk.store octets).rest
@@ -182,9 +182,9 @@ pub record GoesBy (protocol : Protocol) {M : Type 0} (stands : Standing protocol
 
 -- The same whatever is meant, with moments that the clock told, and whatever moments are to come.
 pub record Goes (protocol : Protocol) {M : Type 0} (stands : Standing protocol M) (a b : Around) (at : Session M) (taken : ℕ) : Type 0 where
-  pub told : List ℕ
+  pub told : List Moment
   pub are_told : All (IsTold a.clock) told
-  pub goes : WithMeanings (λ meanings. (more : List ℕ) → GoesBy protocol stands meanings (told ++ more) more a b at taken)
+  pub goes : WithMeanings (λ meanings. (more : List Moment) → GoesBy protocol stands meanings (told ++ more) more a b at taken)
 
 -- the session has begun
 pub goes_first : (protocol : Protocol) {M : Type 0} (stands : Standing protocol M) (a b : Around) (at : Session M) → BeginsSession protocol stands a b (Ok at) → Goes protocol stands a b at 0
@@ -210,7 +210,7 @@ taken_more : (octets into : List ℕ) (taken n : ℕ) → length octets ≡ take
 taken_more octets into taken n count low = length-append octets (take n into) ∙ (rw (count, length-take-le n into low) refl)
 
 -- a take of a session that goes on
-may_take : (protocol : Protocol) {M : Type 0} (stands : Standing protocol M) → AreLaws protocol stands → (meanings : Meanings) (moments more : List ℕ) (a b : Around) (at : Session M) (taken n : ℕ) (into : List ℕ)
+may_take : (protocol : Protocol) {M : Type 0} (stands : Standing protocol M) → AreLaws protocol stands → (meanings : Meanings) (moments more : List Moment) (a b : Around) (at : Session M) (taken n : ℕ) (into : List ℕ)
     → (so : GoesBy protocol stands meanings moments more a b at taken) → (HasEnded at → ⊥) → n ≤ length into → n ≤ PIECE → MayTake (course_of protocol meanings moments) a.desk.store so.octets (take n into)
 may_take protocol stands laws meanings moments more a b at taken n into so still low most = record {
   goes_on = λ ends. still (ended_session protocol stands laws more at b.desk (turns_for (course_of protocol meanings moments) a.desk.store so.octets).after (turns_for (course_of protocol meanings moments) a.desk.store so.octets).rest so.stood ends);
@@ -218,7 +218,7 @@ may_take protocol stands laws meanings moments more a b at taken n into so still
 }
 
 -- what a piece brought was done
-more_by : (protocol : Protocol) {M : Type 0} (stands : Standing protocol M) → AreLaws protocol stands → (meanings : Meanings) → AreMeanings meanings → (moments sooner more : List ℕ) (a b c d : Around) (at next : Session M)
+more_by : (protocol : Protocol) {M : Type 0} (stands : Standing protocol M) → AreLaws protocol stands → (meanings : Meanings) → AreMeanings meanings → (moments : List Moment) (sooner : List ℕ) (more : List Moment) (a b c d : Around) (at next : Session M)
     (taken n : ℕ) (into : List ℕ) → (so : GoesBy protocol stands meanings moments sooner a b at taken) → (HasEnded at → ⊥) → LeavesDesk b c → TakesPiece b.wire c.wire n into → n ≤ length into → n ≤ PIECE
     → FeedsBy protocol stands meanings c d (Ok next) more (piece_turn (course_of protocol meanings moments) a.desk.store so.octets (take n into)) → GoesBy protocol stands meanings moments more a d next (taken + n)
 more_by protocol stands laws meanings are moments sooner more a b c d at next taken n into so still leaves took low most fed =
@@ -244,10 +244,10 @@ more_by protocol stands laws meanings are moments sooner more a b c d at next ta
     }
 
 -- the same moments, some of which were told by a later call
-moments_as : (protocol : Protocol) {M : Type 0} (stands : Standing protocol M) (meanings : Meanings) (told later more : List ℕ) (a b : Around) (at : Session M) (taken : ℕ)
+moments_as : (protocol : Protocol) {M : Type 0} (stands : Standing protocol M) (meanings : Meanings) (told later more : List Moment) (a b : Around) (at : Session M) (taken : ℕ)
     → GoesBy protocol stands meanings (told ++ (later ++ more)) (later ++ more) a b at taken → GoesBy protocol stands meanings ((told ++ later) ++ more) (later ++ more) a b at taken
 moments_as protocol stands meanings told later more a b at taken so =
-    subst (λ (moments : List ℕ). GoesBy protocol stands meanings moments (later ++ more) a b at taken) (sym (append_assoc told later more)) so
+    subst (λ (moments : List Moment). GoesBy protocol stands meanings moments (later ++ more) a b at taken) (sym (append_assoc told later more)) so
 
 -- one more piece
 pub goes_on : (protocol : Protocol) {M : Type 0} (stands : Standing protocol M) → AreLaws protocol stands → (a b c d : Around) (at next : Session M) (taken n : ℕ) (into piece : List ℕ)
@@ -265,19 +265,14 @@ goes_on protocol stands laws a b c d at next taken n into piece clock ticks stil
 
 -- ---- the ends
 
--- no moments are to come
-at_end : (protocol : Protocol) {M : Type 0} (stands : Standing protocol M) (meanings : Meanings) (told : List ℕ) (a b : Around) (at : Session M) (taken : ℕ)
-    → GoesBy protocol stands meanings (told ++ []) [] a b at taken → GoesBy protocol stands meanings told [] a b at taken
-at_end protocol stands meanings told a b at taken so = subst (λ (moments : List ℕ). GoesBy protocol stands meanings moments [] a b at taken) (append-nil told) so
-
 -- the opening was broken off
 pub start_fails : (protocol : Protocol) {M : Type 0} (stands : Standing protocol M) → AreLaws protocol stands → (a b : Around) (met : Fault) → BeginsSession protocol stands a b (Err met)
     → ServesBy protocol a b (served_of (Err met))
 start_fails protocol stands laws a b met begins = (
   [],
   All-nil (IsTold a.clock),
-  λ meanings are.
-      let course = course_of protocol meanings [] in
+  λ meanings are more.
+      let course = course_of protocol meanings more in
       let does = begins.does meanings are in
       let store = a.desk.store in
       let first = DoesFirst-between course.spelled a a b met [] (course.opening store) (turns_for course store []).parts (DoesAll-nil course.spelled a) does in
@@ -291,15 +286,15 @@ pub take_fails : (protocol : Protocol) {M : Type 0} (stands : Standing protocol 
 take_fails protocol stands laws a b c at taken met fine few leaves nothing goes = (
   goes.told,
   goes.are_told,
-  λ meanings are.
-      let course = course_of protocol meanings goes.told in
-      let so = at_end protocol stands meanings goes.told a b at taken (goes.goes meanings are []) in
+  λ meanings are more.
+      let course = course_of protocol meanings (goes.told ++ more) in
+      let so = goes.goes meanings are more in
       let store = a.desk.store in
       let acts = acts_for course store so.octets in
       let front = replies_to course store so.octets in
       let none = DoesFirst-none course.spelled c met [] fine in
       let follows : Follows store c.desk.store a.keeper.octets c.keeper.octets (records_of (changes_in acts)) = rw (leaves.desk, leaves.keeper) so.follows in
-      let done = IsDone-more course.P (Unit {0}) (Unit {0}) course.spelled store c.desk.store c.desk.store a.keeper.octets c.keeper.octets c.keeper.octets met acts [] [] none.given follows none.done in
+      let done = IsDone-more course.spelled store c.desk.store c.desk.store a.keeper.octets c.keeper.octets c.keeper.octets met acts [] [] none.given follows none.done in
       broken_off course (laws.framed meanings are) store c.desk.store a.keeper.octets c.keeper.octets met a.desk.limits.session_max a.wire c.wire so.octets (front ++ none.given) (rw so.count few)
       (Halfway-give (replies_to course store) (MayTake course store) a.wire c.wire c.wire so.octets front none.given
       (Halfway-of (replies_to course store) (MayTake course store) a.wire c.wire so.octets (Serving-nothing (replies_to course store) (MayTake course store) a.wire b.wire c.wire so.octets so.serving nothing)) none.gives)
@@ -313,29 +308,28 @@ pub feed_fails : (protocol : Protocol) {M : Type 0} (stands : Standing protocol 
 feed_fails protocol stands laws a b c d at taken n into piece met few clock ticks still leaves took low most same goes fed = (
   goes.told ++ fed.told,
   told_then a.clock c.clock goes.told fed.told (ticks ∙ clock) goes.are_told fed.are_told,
-  λ meanings are.
-      let moments = goes.told ++ fed.told in
+  λ meanings are more.
+      let moments = (goes.told ++ fed.told) ++ more in
       let course = course_of protocol meanings moments in
-      let kept = append-nil moments in
-      let so = subst (λ (m : List ℕ). GoesBy protocol stands meanings m (fed.told ++ []) a b at taken) kept (moments_as protocol stands meanings goes.told fed.told [] a b at taken (goes.goes meanings are (fed.told ++ []))) in
+      let so = moments_as protocol stands meanings goes.told fed.told more a b at taken (goes.goes meanings are (fed.told ++ more)) in
       let store = a.desk.store in
       let turns = turns_for course store so.octets in
       let turn = piece_turn course store so.octets (take n into) in
       let acts = acts_for course store so.octets in
       let front = replies_to course store so.octets in
-      let by = rw same at (fed.feeds meanings are [] turns.after turns.rest (rw leaves.desk so.stood)) in
+      let by = rw same at (fed.feeds meanings are more turns.after turns.rest (rw leaves.desk so.stood)) in
       let follows : Follows store c.desk.store a.keeper.octets c.keeper.octets (records_of (changes_in acts)) = rw (leaves.desk, leaves.keeper) so.follows in
       let whole : acts_for course store (so.octets ++ take n into) ≡ acts ++ (turn.parts ++ []) =
       acts_for-append course (laws.framed meanings are) store so.octets (take n into) ∙ ap (λ l. acts ++ l) (sym (append-nil turn.parts)) in
       broken_off course (laws.framed meanings are) store d.desk.store a.keeper.octets d.keeper.octets met a.desk.limits.session_max a.wire d.wire (so.octets ++ take n into) (front ++ by.does.given)
       (rw (taken_more so.octets into taken n so.count low) few)
       (Halfway-give (replies_to course store) (MayTake course store) a.wire c.wire d.wire (so.octets ++ take n into) front by.does.given
-      (Halfway-take (replies_to course store) (MayTake course store) a.wire b.wire c.wire so.octets into n so.serving took (may_take protocol stands laws meanings moments (fed.told ++ []) a b at taken n into so still low most)) by.does.gives)
-      (rw whole (IsDone-more course.P (Unit {0}) (Unit {0}) course.spelled store c.desk.store d.desk.store a.keeper.octets c.keeper.octets d.keeper.octets met acts turn.parts [] by.does.given follows by.does.done)),
+      (Halfway-take (replies_to course store) (MayTake course store) a.wire b.wire c.wire so.octets into n so.serving took (may_take protocol stands laws meanings moments (fed.told ++ more) a b at taken n into so still low most)) by.does.gives)
+      (rw whole (IsDone-more course.spelled store c.desk.store d.desk.store a.keeper.octets c.keeper.octets d.keeper.octets met acts turn.parts [] by.does.given follows by.does.done)),
 )
 
 -- what is given of a stream may be sent
-acts_fit : (protocol : Protocol) {M : Type 0} (stands : Standing protocol M) → AreLaws protocol stands → (meanings : Meanings) → AreMeanings meanings → (moments : List ℕ) (desk : Desk) (octets : List ℕ) → IsOpen desk
+acts_fit : (protocol : Protocol) {M : Type 0} (stands : Standing protocol M) → AreLaws protocol stands → (meanings : Meanings) → AreMeanings meanings → (moments : List Moment) (desk : Desk) (octets : List ℕ) → IsOpen desk
     → AllByRecursion (IsFitAct (protocol.Fits meanings)) (acts_for (course_of protocol meanings moments) desk.store octets)
 acts_fit protocol stands laws meanings are moments desk octets opens =
     let begun = laws.begins_fit meanings are moments desk opens in
@@ -343,14 +337,14 @@ acts_fit protocol stands laws meanings are moments desk octets opens =
     all-append (IsFitAct (protocol.Fits meanings)) (protocol.opening desk.store) (turns_for (course_of protocol meanings moments) desk.store octets).parts begun.fit later.fit
 
 -- what was sent for octets
-sent : (protocol : Protocol) {M : Type 0} (stands : Standing protocol M) → AreLaws protocol stands → (meanings : Meanings) → AreMeanings meanings → (moments more : List ℕ) (a b : Around) (at : Session M) (taken : ℕ) → IsOpen a.desk
+sent : (protocol : Protocol) {M : Type 0} (stands : Standing protocol M) → AreLaws protocol stands → (meanings : Meanings) → AreMeanings meanings → (moments more : List Moment) (a b : Around) (at : Session M) (taken : ℕ) → IsOpen a.desk
     → (so : GoesBy protocol stands meanings moments more a b at taken)
     → IsSent (course_of protocol meanings moments) a.desk.store b.desk.store a.keeper.octets b.keeper.octets so.octets (replies_to (course_of protocol meanings moments) a.desk.store so.octets)
 sent protocol stands laws meanings are moments more a b at taken opens so = record { replies = refl; fit = acts_fit protocol stands laws meanings are moments a.desk so.octets opens; changes = so.follows }
 
 -- after the end more octets change nothing
 sent_more : (course : Course) → IsFramed course.next → ((state : course.S) (octets : List ℕ) → course.HasEnded state → all_turns course.next state octets ≡ stay state octets) → (store after : StoreState) (had has : Option (List ℕ))
-    (octets given more : List ℕ) → EndsBy course store octets → IsSent course store after had has octets given → IsSent course store after had has (octets ++ more) given
+    (octets given : List ℕ) (more : List Moment) → EndsBy course store octets → IsSent course store after had has octets given → IsSent course store after had has (octets ++ more) given
 sent_more course framed quiet store after had has octets given more ends is =
     let turn = turns_for course store octets in
     let none : piece_turn course store octets more ≡ stay turn.after (turn.rest ++ more) = quiet turn.after (turn.rest ++ more) ends in
@@ -364,7 +358,7 @@ sent_more course framed quiet store after had has octets given more ends is =
     }
 
 -- all that was taken was done
-goes_lawfully : (protocol : Protocol) {M : Type 0} (stands : Standing protocol M) → AreLaws protocol stands → (meanings : Meanings) → AreMeanings meanings → (moments more : List ℕ) (a b : Around) (at : Session M) (taken max : ℕ)
+goes_lawfully : (protocol : Protocol) {M : Type 0} (stands : Standing protocol M) → AreLaws protocol stands → (meanings : Meanings) → AreMeanings meanings → (moments more : List Moment) (a b : Around) (at : Session M) (taken max : ℕ)
     (served : Served) → met_of served ≡ None → taken ≤ max → GoesBy protocol stands meanings moments more a b at taken
     → ServesLawfully (course_of protocol meanings moments) a.desk.store b.desk.store a.keeper.octets b.keeper.octets served max a.wire b.wire
 goes_lawfully protocol stands laws meanings are moments more a b at taken max served whole few so =
@@ -373,7 +367,7 @@ goes_lawfully protocol stands laws meanings are moments more a b at taken max se
     (Halfway-of (replies_to course a.desk.store) (MayTake course a.desk.store) a.wire b.wire so.octets so.serving) (rw whole (refl, so.follows))
 
 -- the session has ended
-session_by : (protocol : Protocol) {M : Type 0} (stands : Standing protocol M) → AreLaws protocol stands → (meanings : Meanings) → AreMeanings meanings → (moments more : List ℕ) (a b : Around) (at : Session M) (taken max : ℕ)
+session_by : (protocol : Protocol) {M : Type 0} (stands : Standing protocol M) → AreLaws protocol stands → (meanings : Meanings) → AreMeanings meanings → (moments more : List Moment) (a b : Around) (at : Session M) (taken max : ℕ)
     → IsOpen a.desk → taken ≤ max → HasEnded at → GoesBy protocol stands meanings moments more a b at taken
     → Serves (course_of protocol meanings moments) a.desk.store b.desk.store a.keeper.octets b.keeper.octets Ended max a.wire b.wire
 session_by protocol stands laws meanings are moments more a b at taken max opens few is so =
@@ -406,11 +400,11 @@ pub session_ends : (protocol : Protocol) {M : Type 0} (stands : Standing protoco
 session_ends protocol stands laws a b at taken opens few is goes = (
   goes.told,
   goes.are_told,
-  λ meanings are. session_by protocol stands laws meanings are goes.told [] a b at taken a.desk.limits.session_max opens few is (at_end protocol stands meanings goes.told a b at taken (goes.goes meanings are [])),
+  λ meanings are more. session_by protocol stands laws meanings are (goes.told ++ more) more a b at taken a.desk.limits.session_max opens few is (goes.goes meanings are more),
 )
 
 -- nothing was left to take
-input_by : (protocol : Protocol) {M : Type 0} (stands : Standing protocol M) → AreLaws protocol stands → (meanings : Meanings) → AreMeanings meanings → (moments more : List ℕ) (a b c : Around) (at : Session M) (taken max n : ℕ) (into : List ℕ)
+input_by : (protocol : Protocol) {M : Type 0} (stands : Standing protocol M) → AreLaws protocol stands → (meanings : Meanings) → AreMeanings meanings → (moments more : List Moment) (a b c : Around) (at : Session M) (taken max n : ℕ) (into : List ℕ)
     → IsOpen a.desk → (HasEnded at → ⊥) → TakesPiece b.wire c.wire n into → n ≡ 0 → taken < max → GoesBy protocol stands meanings moments more a b at taken
     → Serves (course_of protocol meanings moments) a.desk.store b.desk.store a.keeper.octets b.keeper.octets Ended max a.wire c.wire
 input_by protocol stands laws meanings are moments more a b c at taken max n into opens still piece none low so =
@@ -444,12 +438,12 @@ pub input_ends : (protocol : Protocol) {M : Type 0} (stands : Standing protocol 
 input_ends protocol stands laws a b c at taken n into opens still leaves piece none low goes = (
   goes.told,
   goes.are_told,
-  λ meanings are. rw (leaves.desk, leaves.keeper) (input_by protocol stands laws meanings are goes.told [] a b c at taken a.desk.limits.session_max n into opens still piece none low
-      (at_end protocol stands meanings goes.told a b at taken (goes.goes meanings are []))),
+  λ meanings are more. rw (leaves.desk, leaves.keeper) (input_by protocol stands laws meanings are (goes.told ++ more) more a b c at taken a.desk.limits.session_max n into opens still piece none low
+      (goes.goes meanings are more)),
 )
 
 -- the limit was reached
-limit_by : (protocol : Protocol) {M : Type 0} (stands : Standing protocol M) → AreLaws protocol stands → (meanings : Meanings) → AreMeanings meanings → (moments more : List ℕ) (a b : Around) (at : Session M) (taken max : ℕ)
+limit_by : (protocol : Protocol) {M : Type 0} (stands : Standing protocol M) → AreLaws protocol stands → (meanings : Meanings) → AreMeanings meanings → (moments more : List Moment) (a b : Around) (at : Session M) (taken max : ℕ)
     → IsOpen a.desk → (HasEnded at → ⊥) → taken ≡ max → GoesBy protocol stands meanings moments more a b at taken
     → Serves (course_of protocol meanings moments) a.desk.store b.desk.store a.keeper.octets b.keeper.octets Limit max a.wire b.wire
 limit_by protocol stands laws meanings are moments more a b at taken max opens still full so =
@@ -475,5 +469,5 @@ pub limit_reached : (protocol : Protocol) {M : Type 0} (stands : Standing protoc
 limit_reached protocol stands laws a b at taken opens still full goes = (
   goes.told,
   goes.are_told,
-  λ meanings are. limit_by protocol stands laws meanings are goes.told [] a b at taken a.desk.limits.session_max opens still full (at_end protocol stands meanings goes.told a b at taken (goes.goes meanings are [])),
+  λ meanings are more. limit_by protocol stands laws meanings are (goes.told ++ more) more a b at taken a.desk.limits.session_max opens still full (goes.goes meanings are more),
 )

@@ -6,16 +6,17 @@ use Rattle.mail_wire.specs.declared.outside.Fault.{Fault}
 use Rattle.mail_wire.specs.declared.outside.Fault.TheVariants as fault
 use Rattle.session_core.proofs.TurnsLemmas.{all_turns-go}
 use Rattle.session_core.specs.Acts.{Act}
-use Rattle.session_core.specs.Around.{Around, IsTold}
+use Rattle.session_core.specs.Around.{Around}
 use Rattle.session_core.specs.Doing.{DoesAll, DoesFirst}
 use Rattle.session_core.specs.Meanings.{Meanings}
+use Rattle.session_core.specs.Moments.{Moment, IsTold}
 use Rattle.session_core.specs.Protocol.{Protocol}
 use Rattle.session_core.specs.Steps.{Standing, StandsAfter, Steps, StepsBy}
 use Rattle.session_core.specs.declared.machine.Came.{Came}
 use Rattle.session_core.proofs.DoingLemmas.{DoesAll-nil, DoesFirst-none}
 
 -- the turn at the head of what was kept and the piece was carried out
-pub StepsBy-turn : (protocol : Protocol) {M : Type 0} (stands : Standing protocol M) (meanings : Meanings) → IsFramed (protocol.next meanings) → (a b : Around) (came : Came M) (keeps piece more rest : List ℕ)
+pub StepsBy-turn : (protocol : Protocol) {M : Type 0} (stands : Standing protocol M) (meanings : Meanings) → IsFramed (protocol.next meanings) → (a b : Around) (came : Came M) (keeps piece : List ℕ) (more : List Moment) (rest : List ℕ)
     (state : protocol.S) (octets : List ℕ) (turn : Turn protocol.S (Act protocol.P))
     → protocol.next meanings state octets ≡ Some turn → DoesAll (protocol.spelled meanings) a b turn.parts
     → StandsAfter protocol stands more came.next keeps b.desk turn.after rest → turn.rest ≡ rest ++ drop came.used piece
@@ -29,7 +30,7 @@ StepsBy-turn protocol stands meanings framed a b came keeps piece more rest stat
 }
 
 -- a fault in it
-pub StepsBy-fails : (protocol : Protocol) {M : Type 0} (stands : Standing protocol M) (meanings : Meanings) → IsFramed (protocol.next meanings) → (a b : Around) (keeps piece more : List ℕ) (met : Fault)
+pub StepsBy-fails : (protocol : Protocol) {M : Type 0} (stands : Standing protocol M) (meanings : Meanings) → IsFramed (protocol.next meanings) → (a b : Around) (keeps piece : List ℕ) (more : List Moment) (met : Fault)
     (state : protocol.S) (octets : List ℕ) (turn : Turn protocol.S (Act protocol.P)) → protocol.next meanings state octets ≡ Some turn → DoesFirst (protocol.spelled meanings) a b met turn.parts
     → StepsBy protocol {M = M} stands meanings a b (Err met) keeps piece more (all_turns (protocol.next meanings) state octets)
 StepsBy-fails protocol stands meanings framed a b keeps piece more met state octets turn is first = record {
@@ -41,7 +42,7 @@ StepsBy-fails protocol stands meanings framed a b keeps piece more met state oct
 }
 
 -- no turn yet: more was kept
-pub StepsBy-waits : (protocol : Protocol) {M : Type 0} (stands : Standing protocol M) (meanings : Meanings) (a : Around) (came : Came M) (keeps piece more rest : List ℕ)
+pub StepsBy-waits : (protocol : Protocol) {M : Type 0} (stands : Standing protocol M) (meanings : Meanings) (a : Around) (came : Came M) (keeps piece : List ℕ) (more : List Moment) (rest : List ℕ)
     (state : protocol.S) (octets : List ℕ) → StandsAfter protocol stands more came.next keeps a.desk state rest → octets ≡ rest ++ drop came.used piece
     → StepsBy protocol stands meanings a a (Ok came) keeps piece more (all_turns (protocol.next meanings) state octets)
 StepsBy-waits protocol stands meanings a came keeps piece more rest state octets has left = record {

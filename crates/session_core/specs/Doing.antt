@@ -1,5 +1,5 @@
 -- What a call does to the outside: it gives octets, makes a change, or does acts.
-use Rattle.std.specs.Prelude.{◌≡◌, ℕ, List, [], ◌∷◌, Option, None, Some, Err}
+use Rattle.std.specs.Prelude.{◌≡◌, ℕ, List, [], ◌∷◌, Option, None, Some}
 use Rattle.mail_wire.specs.Moves.{Gives, GivesOrFails}
 use Rattle.mail_wire.specs.declared.outside.Fault.{Fault}
 use Rattle.mail_wire.specs.declared.outside.Fault.TheVariants as fault
@@ -38,7 +38,7 @@ pub record DoesAll {P : Type 0} (spelled : P → List ℕ) (before now : Around)
 pub record DoesFirst {P : Type 0} (spelled : P → List ℕ) (before now : Around) (met : Fault) (acts : List (Act P)) : Type 0 where
   pub given : List ℕ
   pub gives : Gives before.wire now.wire given
-  pub done : IsDone {T = Unit {0}} spelled before.desk.store now.desk.store before.keeper.octets now.keeper.octets (Err met) acts given
+  pub done : IsDone spelled before.desk.store now.desk.store before.keeper.octets now.keeper.octets (Some met) acts given
 
 -- all these acts, or where the call was broken off the first of them, in their order
 abbrev pub Does : {P : Type 0} → (P → List ℕ) → Around → Around → Option Fault → List (Act P) → Type 0

@@ -1,8 +1,6 @@
--- What a call does by the acts that are due, to its wire, its store and its keeper: always the first of them, in their order.
-use Rattle.std.specs.Prelude.{◌≡◌, ℕ, List, ◌∷◌, ◌++◌, map, Option, Result, Ok, Err}
+-- How far a call came with the acts that were due, on its wire, in its store and in its keeper: always the first of them, in their order.
+use Rattle.std.specs.Prelude.{◌≡◌, ℕ, List, ◌∷◌, ◌++◌, map, Option, None, Some}
 use Rattle.std.specs.List.{flat_map}
-use Rattle.mail_wire.specs.Moves.{Gives}
-use Rattle.mail_wire.specs.Telling.{Telling}
 use Rattle.mail_wire.specs.declared.outside.Fault.{Fault}
 use Rattle.mail_wire.specs.declared.outside.Fault.TheVariants as fault
 use Rattle.session_core.specs.Acts.{Act, gives, changes, changes_in, act_octets}
@@ -35,15 +33,9 @@ pub record FailsIn {P : Type 0} (spelled : P → List ℕ) (old new : StoreState
   pub given_is : given ≡ given_by spelled done
   pub breaks : Breaks old new had has (records_of (changes_in done)) failing
 
--- what was given and changed of these acts, by the answer
-abbrev pub IsDone : {P T : Type 0} → (P → List ℕ) → StoreState → StoreState → Option (List ℕ) → Option (List ℕ) → Result T Fault → List (Act P) → List ℕ → Type 0
-IsDone spelled old new had has (Ok done) acts given = (given ≡ given_by spelled acts) × Follows old new had has (records_of (changes_in acts))
-IsDone spelled old new had has (Err fault.Keeper) acts given = FailsIn spelled old new had has acts given
-IsDone spelled old new had has (Err fault.Wire) acts given = StopsIn spelled old new had has acts given
-IsDone spelled old new had has (Err fault.Memory) acts given = StopsIn spelled old new had has acts given
-
--- A call takes nothing, and does these acts; after a fault the first of them.
-pub record Does {P T : Type 0} (spelled : P → List ℕ) (before now : Telling) (old new : StoreState) (had has : Option (List ℕ)) (result : Result T Fault) (acts : List (Act P)) : Type 0 where
-  pub given : List ℕ
-  pub gives : Gives before now given
-  pub done : IsDone spelled old new had has result acts given
+-- what was given and changed of these acts, where nothing or this broke the call off
+abbrev pub IsDone : {P : Type 0} → (P → List ℕ) → StoreState → StoreState → Option (List ℕ) → Option (List ℕ) → Option Fault → List (Act P) → List ℕ → Type 0
+IsDone spelled old new had has None acts given = (given ≡ given_by spelled acts) × Follows old new had has (records_of (changes_in acts))
+IsDone spelled old new had has (Some fault.Keeper) acts given = FailsIn spelled old new had has acts given
+IsDone spelled old new had has (Some fault.Wire) acts given = StopsIn spelled old new had has acts given
+IsDone spelled old new had has (Some fault.Memory) acts given = StopsIn spelled old new had has acts given

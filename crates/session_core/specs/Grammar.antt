@@ -6,10 +6,11 @@ use Rattle.session_core.specs.Turns.{Turn}
 use Rattle.mail_wire.specs.declared.outside.Fault.{Fault}
 use Rattle.session_core.specs.Acts.{Act, IsFitAct}
 use Rattle.mail_store.specs.StoreState.{StoreState}
-use Rattle.session_core.specs.Around.{Around, IsTold}
+use Rattle.session_core.specs.Around.{Around}
 use Rattle.session_core.specs.Doing.{Does}
 use Rattle.session_core.specs.Keeps.{fault_of}
 use Rattle.session_core.specs.Meanings.{Meanings, WithMeanings}
+use Rattle.session_core.specs.Moments.{Moment, IsTold}
 use Rattle.session_core.specs.Protocol.{Protocol}
 use Rattle.session_core.specs.declared.desk.Desk.{Desk}
 use Rattle.session_core.specs.declared.rows.Wants.{Wants}
@@ -24,7 +25,7 @@ pub record Grammar : Type 1 where
   pub S : Type 0
   pub P : Type 0
   pub opening : StoreState → List (Act P)
-  pub start : List ℕ → StoreState → S
+  pub start : List Moment → StoreState → S
   -- what a state reads next; one that has ended reads nothing
   pub wants : S → Option Wants
   -- the row of what was read, and that of a line that is too long
@@ -77,34 +78,34 @@ IsUnit (wants.Count n) unit = length unit ≡ n
 
 -- the states that rows stand for, with these moments to come
 abbrev pub StandingRows : Grammar → Type 0 → Type 1
-StandingRows grammar R = List ℕ → R → Desk → grammar.S → Type 0
+StandingRows grammar R = List Moment → R → Desk → grammar.S → Type 0
 
 -- what the rows behind an answer stand for; none stands for an end
-abbrev pub StandsNext : (grammar : Grammar) {R : Type 0} → StandingRows grammar R → List ℕ → Option R → Desk → grammar.S → Type 0
+abbrev pub StandsNext : (grammar : Grammar) {R : Type 0} → StandingRows grammar R → List Moment → Option R → Desk → grammar.S → Type 0
 StandsNext grammar stands more None desk state = grammar.wants state ≡ None
 StandsNext grammar stands more (Some rows) desk state = stands more rows desk state
 
 -- The opening was done, or the first of it; and the rows stand for the start.
 pub record BeginsRows (grammar : Grammar) {R : Type 0} (stands : StandingRows grammar R) (before now : Around) (result : Result R Fault) : Type 0 where
   pub does : WithMeanings (λ meanings. Does (grammar.spelled meanings) before now (fault_of result) (grammar.opening before.desk.store))
-  pub stands_for : IfOk result (λ rows. (moments : List ℕ) → stands moments rows now.desk (grammar.start moments before.desk.store))
+  pub stands_for : IfOk result (λ rows. (moments : List Moment) → stands moments rows now.desk (grammar.start moments before.desk.store))
 
 -- this row was done
-pub record AnswersBy (grammar : Grammar) {R : Type 0} (stands : StandingRows grammar R) (meanings : Meanings) (before now : Around) (result : Result (Option R) Fault) (more : List ℕ) (row : Row grammar.S grammar.P) : Type 0 where
+pub record AnswersBy (grammar : Grammar) {R : Type 0} (stands : StandingRows grammar R) (meanings : Meanings) (before now : Around) (result : Result (Option R) Fault) (more : List Moment) (row : Row grammar.S grammar.P) : Type 0 where
   pub does : Does (grammar.spelled meanings) before now (fault_of result) row.acts
   pub next : IfOk result (λ next. StandsNext grammar stands more next now.desk row.after)
 
 -- The row of the unit was done, or after a fault the first of it, with moments that the clock told.
 pub record Answers (grammar : Grammar) {R : Type 0} (stands : StandingRows grammar R) (before now : Around) (rows : R) (unit : List ℕ) (result : Result (Option R) Fault) : Type 0 where
-  pub told : List ℕ
+  pub told : List Moment
   pub are_told : All (IsTold before.clock) told
-  pub answers : WithMeanings (λ meanings. (more : List ℕ) (state : grammar.S) → stands (told ++ more) rows before.desk state
+  pub answers : WithMeanings (λ meanings. (more : List Moment) (state : grammar.S) → stands (told ++ more) rows before.desk state
       → AnswersBy grammar stands meanings before now result more (grammar.row meanings state unit))
 
 -- The row of a line that is too long was done, or after a fault the first of it.
 abbrev pub Refuses : (grammar : Grammar) {R : Type 0} → StandingRows grammar R → Around → Around → R → Result (Unit {0}) Fault → Type 0
 Refuses grammar stands before now rows result =
-    WithMeanings (λ meanings. (more : List ℕ) (state : grammar.S) → stands more rows before.desk state
+    WithMeanings (λ meanings. (more : List Moment) (state : grammar.S) → stands more rows before.desk state
     → Does (grammar.spelled meanings) before now (fault_of result) (grammar.long_row meanings state).acts)
 
 -- what a row gives may be sent, and its state is sound
@@ -113,5 +114,5 @@ pub record IsFitRow (grammar : Grammar) (meanings : Meanings) (row : Row grammar
   pub sound : grammar.IsSound row.after
 
 -- what a session does first, as a row
-abbrev pub opening_row : (grammar : Grammar) → List ℕ → StoreState → Row grammar.S grammar.P
+abbrev pub opening_row : (grammar : Grammar) → List Moment → StoreState → Row grammar.S grammar.P
 opening_row grammar moments store = record { acts = grammar.opening store; after = grammar.start moments store }

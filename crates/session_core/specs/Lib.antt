@@ -1,7 +1,11 @@
+pub mod Turns
+pub mod Acts
 pub mod Meanings
 pub mod Desks
+pub mod Moments
 pub mod Around
 pub mod Keeps
+pub mod Done
 pub mod Doing
 pub mod Changes
 pub mod Protocol

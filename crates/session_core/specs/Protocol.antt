@@ -5,6 +5,7 @@ use Rattle.session_core.specs.Turns.{Turn}
 use Rattle.session_core.specs.Acts.{Act, IsFitAct}
 use Rattle.mail_store.specs.StoreState.{StoreState}
 use Rattle.session_core.specs.Meanings.{Meanings}
+use Rattle.session_core.specs.Moments.{Moment}
 
 pub record Protocol : Type 1 where
   -- states, each with its store, and parts of replies
@@ -12,7 +13,7 @@ pub record Protocol : Type 1 where
   pub P : Type 0
   -- what a session does first, and its state then, with the moments that are still to come
   pub opening : StoreState → List (Act P)
-  pub start : List ℕ → StoreState → S
+  pub start : List Moment → StoreState → S
   -- the turn at the head of a stream
   pub next : Meanings → S → List ℕ → Option (Turn S (Act P))
   -- the octets of a part, and what may be sent

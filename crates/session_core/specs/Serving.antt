@@ -14,9 +14,9 @@ use Rattle.session_core.specs.Done.{given_by, IsDone}
 use Rattle.mail_store.specs.Following.{records_of, Follows}
 use Rattle.mail_store.specs.StoreState.{StoreState}
 use Rattle.journal_records.specs.declared.records.Record.{Record}
-use Rattle.session_core.specs.Around.{Around, IsTold}
-use Rattle.session_core.specs.Keeps.{answer_of}
+use Rattle.session_core.specs.Around.{Around}
 use Rattle.session_core.specs.Meanings.{Meanings, WithMeanings}
+use Rattle.session_core.specs.Moments.{Moment, IsTold}
 use Rattle.session_core.specs.Protocol.{Protocol}
 use Rattle.session_core.specs.Served.{met_of}
 use Rattle.session_core.specs.declared.serving.Served.{Served}
@@ -36,7 +36,7 @@ pub record Course : Type 1 where
   pub Fits : P → Type 0
 
 -- with what is meant, and the moments that a clock told
-abbrev pub course_of : Protocol → Meanings → List ℕ → Course
+abbrev pub course_of : Protocol → Meanings → List Moment → Course
 course_of protocol meanings moments = record {
   S = protocol.S;
   P = protocol.P;
@@ -51,7 +51,7 @@ course_of protocol meanings moments = record {
 -- What holds of a protocol, whatever functions give surrogates, read paths and tell trees, with moments that a clock told, which may
 -- tell a fixed reading.
 abbrev pub OfCourse : Protocol → Option ℕ → (Course → Type 0) → Type 0
-OfCourse protocol reading P = (moments : List ℕ) × All (IsTold reading) moments × WithMeanings (λ meanings. P (course_of protocol meanings moments))
+OfCourse protocol reading P = (told : List Moment) × All (IsTold reading) told × WithMeanings (λ meanings. (more : List Moment) → P (course_of protocol meanings (told ++ more)))
 
 -- ---- what the machine makes of a stream
 
@@ -112,7 +112,7 @@ pub record ServesLawfully (course : Course) (store after : StoreState) (had has 
   pub takes : EachTake (MayTake course store) [] entries
   pub few : length (taken_of entries) ≤ max
   pub begun : IfSome before.left (λ octets. IsPrefixOf (given_of entries) (replies_to course store octets))
-  pub done : IsDone course.spelled store after had has (answer_of (met_of served)) (acts_for course store (taken_of entries)) (given_of entries)
+  pub done : IsDone course.spelled store after had has (met_of served) (acts_for course store (taken_of entries)) (given_of entries)
 
 -- The session was sent what is due for all that was left, and has ended, or nothing is left.
 pub record ServesAll (course : Course) (store after : StoreState) (had has : Option (List ℕ)) (max : ℕ) (before now : Telling) : Type 0 where

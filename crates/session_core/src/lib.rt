@@ -12,6 +12,6 @@ mod serving;
 pub use desk::{Desk, LIMITS, Limits, open_desk};
 pub use feeding::{Reading, Session, feed};
 pub use machine::{Came, Machine};
-pub use outside::{Delivered, Outside};
+pub use outside::{Delivered, Outside, Stamp};
 pub use rows::{Framed, Rows, Wants};
 pub use serving::{Served, serve};

@@ -6,6 +6,7 @@ ghost use Rattle.session_core.specs.declared.desk.Desk.{Desk as DeskValue};
 ghost use Rattle.session_core.specs.Desks.{IsOpen};
 ghost use Rattle.session_core.specs.Keeps.{Keeps, fault_of};
 ghost use Rattle.session_core.specs.Meanings.{Meanings, AreMeanings};
+ghost use Rattle.session_core.specs.Moments.{Moment};
 ghost use Rattle.session_core.specs.Protocol.{Protocol, IsFitTurn};
 ghost use Rattle.session_core.specs.Steps.{Begins, IsReadyAfter, Steps};
 
@@ -25,7 +26,7 @@ pub trait Machine: Drop {
     ghost protocol: { Protocol };
 
     /// The states and the rests of the stream that a machine with these octets kept stands for, with these moments to come.
-    ghost stands: { List ℕ → Self → List ℕ → DeskValue → protocol.S → List ℕ → Type 0 };
+    ghost stands: { List Moment → Self → List ℕ → DeskValue → protocol.S → List ℕ → Type 0 };
 
     /// What was kept has no whole turn, and the machine has what it needs.
     ghost is_ready: { Self → List ℕ → DeskValue → Type 0 };
@@ -56,17 +57,17 @@ pub trait Machine: Drop {
     ghost framed: { (meanings : Meanings) → AreMeanings meanings → IsFramed (protocol.next meanings) };
 
     /// What was kept brings no turn.
-    ghost waits: { (meanings : Meanings) → AreMeanings meanings → (more : List ℕ) (machine : Self) (kept : List ℕ) (desk : DeskValue) (state : protocol.S) (rest : List ℕ)
+    ghost waits: { (meanings : Meanings) → AreMeanings meanings → (more : List Moment) (machine : Self) (kept : List ℕ) (desk : DeskValue) (state : protocol.S) (rest : List ℕ)
         → is_ready machine kept desk → stands more machine kept desk state rest → protocol.next meanings state rest ≡ None };
 
     /// A machine stands for no end, after which nothing brings a turn.
-    ghost goes_on: { (more : List ℕ) (machine : Self) (kept : List ℕ) (desk : DeskValue) (state : protocol.S) (rest : List ℕ)
+    ghost goes_on: { (more : List Moment) (machine : Self) (kept : List ℕ) (desk : DeskValue) (state : protocol.S) (rest : List ℕ)
         → stands more machine kept desk state rest → ¬ protocol.HasEnded state };
 
     ghost quiet: { (meanings : Meanings) (state : protocol.S) (rest : List ℕ) → protocol.HasEnded state → protocol.next meanings state rest ≡ None };
 
     /// Whatever is asked for, the replies may be sent.
-    ghost begins_fit: { (meanings : Meanings) → AreMeanings meanings → (moments : List ℕ) (desk : DeskValue) → IsOpen desk
+    ghost begins_fit: { (meanings : Meanings) → AreMeanings meanings → (moments : List Moment) (desk : DeskValue) → IsOpen desk
         → IsFitTurn protocol meanings (record { parts = protocol.opening desk.store; after = protocol.start moments desk.store; rest = [] }) };
 
     ghost fits: { (meanings : Meanings) → AreMeanings meanings → (state : protocol.S) (octets : List ℕ) (turn : Turn protocol.S (Act protocol.P)) → protocol.IsSound state

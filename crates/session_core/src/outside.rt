@@ -6,7 +6,8 @@ ghost use Rattle.mail_wire.specs.Moves.{TakesNothing, TakesPiece};
 ghost use Rattle.mail_store.specs.Changing.{IsDeliverable, delivery_refusal, expunged, expunge_refusal};
 ghost use Rattle.surrogate_rope.specs.Served.{IsShownOf, shown_octets};
 ghost use Rattle.surrogate_cache.specs.Served.{IsServed, HasServedHeaders};
-ghost use Rattle.session_core.specs.Around.{IsTold, LeavesDesk};
+ghost use Rattle.session_core.specs.Around.{LeavesDesk};
+ghost use Rattle.session_core.specs.Moments.{IsTold, moment_of};
 ghost use Rattle.session_core.specs.Changes.{calls_of, came_of, changes_of};
 ghost use Rattle.session_core.specs.Desks.{IsOpen, octets_at};
 ghost use Rattle.session_core.specs.Doing.{IsChanged, Makes, Replies};
@@ -14,7 +15,9 @@ ghost use Rattle.session_core.specs.Keeps.{Keeps, fault_of};
 
 use crate::desk::{Desk, Limits};
 use mail_store::{Delivery, Store, StoreFault};
-use mail_wire::{Clock, Fault, Keeper, Memory, Wire, give_all, take_piece};
+use mail_wire::{
+    Clock, Fault, Keeper, Memory, Octets, Wire, date_text, give_all, internal_date, take_piece,
+};
 use mime_tree::{TreeFault, read_tree};
 use std::alloc::Global;
 use std::marker::Model;
@@ -43,6 +46,15 @@ impl<'w, 'k, 'c, W: Wire, J: Keeper, C: Clock> Model for Outside<'w, 'k, 'c, W, 
       desk = a.desk;
       loans = record { wire = a.wire.ghost_name; keeper = a.keeper.ghost_name; clock = a.clock.ghost_name };
     } };
+}
+
+/// The texts of a moment.
+#[derive(Debug, Drop)]
+pub struct Stamp {
+    /// In a field of a message (RFC 5322, 3.3).
+    pub date: Octets,
+    /// Under which a message is kept (RFC 3501, date-time, without its quotes).
+    pub internal: Octets,
 }
 
 /// What came of a delivery.
@@ -112,6 +124,18 @@ fn expunge_from<J: Keeper>(store: &mut Store, keeper: &mut J, ids: &[u32]) -> Re
         Err(StoreFault::Memory) => Err(Fault::Memory),
         Err(StoreFault::Exists | StoreFault::NoSuch | StoreFault::TooLarge) => unreachable!(),
     }
+}
+
+// The texts of this moment.
+fn read_stamp<C: Clock>(alloc: Global, clock: &mut C) -> Result<Stamp, Memory>
+    ensures told { IfOk result (λ stamp. IsTold (C.tells clock.old) (moment_of stamp)) }
+    ensures clock { C.tells clock.new ≡ C.tells clock.old }
+{
+    let seconds = clock.now();
+    Ok(Stamp {
+        date: date_text(alloc, seconds)?,
+        internal: internal_date(alloc, seconds)?,
+    })
 }
 
 impl<'w, 'k, 'c, W: Wire, J: Keeper, C: Clock> Outside<'w, 'k, 'c, W, J, C> {
@@ -238,11 +262,11 @@ impl<'w, 'k, 'c, W: Wire, J: Keeper, C: Clock> Outside<'w, 'k, 'c, W, J, C> {
         expunge_from(&mut self.desk.store, self.keeper, ids)
     }
 
-    /// Seconds from the beginning of 1970, in UTC.
-    pub fn now(&mut self) -> u64
-        ensures told { IsTold self.old.clock result }
+    /// The present moment, in UTC.
+    pub fn now(&mut self) -> Result<Stamp, Memory>
+        ensures told { IfOk result (λ stamp. IsTold self.old.clock (moment_of stamp)) }
         ensures same { self.new ≡ self.old }
     {
-        self.clock.now()
+        read_stamp(self.alloc, self.clock)
     }
 }

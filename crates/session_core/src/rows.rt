@@ -9,6 +9,7 @@ ghost use Rattle.session_core.specs.FramedRows.{framed_next};
 ghost use Rattle.session_core.specs.Grammar.{Grammar, Answers, IsFitRow, IsUnit, BeginsRows, Refuses, cut_by, opening_row, protocol_of};
 ghost use Rattle.session_core.specs.Keeps.{Keeps, fault_of};
 ghost use Rattle.session_core.specs.Meanings.{Meanings, AreMeanings};
+ghost use Rattle.session_core.specs.Moments.{Moment};
 
 use crate::machine::{Came, Machine};
 use crate::outside::Outside;
@@ -29,7 +30,7 @@ pub trait Rows: Drop {
     ghost grammar: { Grammar };
 
     /// The states that these rows stand for, with these moments to come.
-    ghost stands: { List ℕ → Self → DeskValue → grammar.S → Type 0 };
+    ghost stands: { List Moment → Self → DeskValue → grammar.S → Type 0 };
 
     ghost wanted: { Self → Wanted };
 
@@ -70,12 +71,12 @@ pub trait Rows: Drop {
         ensures keeps { Keeps outside.old outside.new (fault_of result) };
 
     /// The rows want what their states want, and a line that is too long ends the session.
-    ghost agrees: { (more : List ℕ) (rows : Self) (desk : DeskValue) (state : grammar.S) → stands more rows desk state → grammar.wants state ≡ Some (wanted rows) };
+    ghost agrees: { (more : List Moment) (rows : Self) (desk : DeskValue) (state : grammar.S) → stands more rows desk state → grammar.wants state ≡ Some (wanted rows) };
 
     ghost ends: { (meanings : Meanings) (state : grammar.S) → grammar.wants (grammar.long_row meanings state).after ≡ None };
 
     /// Whatever is asked for, the replies may be sent.
-    ghost opening_fits: { (meanings : Meanings) → AreMeanings meanings → (moments : List ℕ) (desk : DeskValue) → IsOpen desk → IsFitRow grammar meanings (opening_row grammar moments desk.store) };
+    ghost opening_fits: { (meanings : Meanings) → AreMeanings meanings → (moments : List Moment) (desk : DeskValue) → IsOpen desk → IsFitRow grammar meanings (opening_row grammar moments desk.store) };
 
     ghost rows_fit: { RowsFit grammar };
 

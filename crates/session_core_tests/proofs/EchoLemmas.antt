@@ -12,6 +12,7 @@ use Rattle.session_core.specs.Keeps.{fault_of}
 use Rattle.session_core.proofs.AnswerLemmas.{Answers-reply}
 use Rattle.session_core_tests.specs.Echo.{EchoStands, State, announces, echo_grammar, ended, literal, literal_of, quit, replies, row_of, saying, state_of}
 use Rattle.session_core_tests.specs.declared.echo.Echo.{Echo}
+use Rattle.session_core.specs.Moments.{Moment}
 
 -- ---- literals
 
@@ -60,7 +61,7 @@ not_announced line apart = none_by line (nat_le 5 (length line)) (announces line
 
 -- a reply of the row
 pub echo_answers : (a b : Around) (session : Echo) (unit : List ℕ) (result : Result (Option Echo) Fault) (octets : List ℕ) (after : State) → row_of (state_of session) unit ≡ replies octets after
-    → Replies a b (fault_of result) octets → ((more : List ℕ) → IfOk result (λ next. StandsNext echo_grammar EchoStands more next b.desk after)) → Answers echo_grammar EchoStands a b session unit result
+    → Replies a b (fault_of result) octets → ((more : List Moment) → IfOk result (λ next. StandsNext echo_grammar EchoStands more next b.desk after)) → Answers echo_grammar EchoStands a b session unit result
 echo_answers a b session unit result octets after row gave next =
     Answers-reply echo_grammar EchoStands a b session unit result (λ meanings. octets ∷ []) (λ meanings more. after) octets (λ meanings are more state stood. rw stood row) (λ meanings are. append-nil octets) gave
     (λ meanings are more. next more)

@@ -7,12 +7,13 @@ use Rattle.session_core.specs.declared.desk.Desk.{Desk}
 use Rattle.session_core_tests.specs.Echo.{EchoStands, State, echo_grammar, row_of, state_of, wanted_by, wants_of}
 use Rattle.session_core_tests.specs.declared.echo.Echo.{Echo}
 use Rattle.session_core_tests.specs.declared.echo.Echo.TheVariants as echo
+use Rattle.session_core.specs.Moments.{Moment}
 
 wants_by : (session : Echo) → wants_of (state_of session) ≡ Some (wanted_by session)
 wants_by (echo.Saying said) = refl
 wants_by (echo.Literal said n) = refl
 
-pub agrees_by : (more : List ℕ) (session : Echo) (desk : Desk) (state : State) → EchoStands more session desk state → wants_of state ≡ Some (wanted_by session)
+pub agrees_by : (more : List Moment) (session : Echo) (desk : Desk) (state : State) → EchoStands more session desk state → wants_of state ≡ Some (wanted_by session)
 agrees_by more session desk state is = rw is (wants_by session)
 
 all_fit : (acts : List (Act (List ℕ))) → AllByRecursion (IsFitAct (λ part. Unit {0})) acts

@@ -15,7 +15,7 @@ use Rattle.mail_wire.specs.Dots.{unstuffed}
 use Rattle.mail_store.specs.Changing.{delivery_refusal, has_large_octets}
 use Rattle.session_core.specs.Done.{Does}
 use Rattle.mail_store.specs.StoreState.{StoreState}
-use Rattle.session_core.proofs.ActLemmas.{fit_acts}
+use Rattle.session_core.proofs.FitLemmas.{fit_acts}
 use Rattle.session_core.proofs.DoneLemmas.{Does-err, Does-ok}
 use Rattle.mail_store.proofs.FollowLemmas.{Follows-nil}
 use Rattle.smtp_grammar.specs.Data.{behind_command, data_cut, end_cut}

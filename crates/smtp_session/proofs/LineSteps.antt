@@ -21,7 +21,7 @@ use Rattle.session_core.specs.Acts.{acts_of}
 use Rattle.session_core.specs.Done.{Does}
 use Rattle.mail_store.specs.Kept.{name_of}
 use Rattle.mail_store.specs.StoreState.{StoreState}
-use Rattle.session_core.proofs.ActLemmas.{fit_acts}
+use Rattle.session_core.proofs.FitLemmas.{fit_acts}
 use Rattle.session_core.proofs.DoneLemmas.{Does-err, Does-ok, Does-reply}
 use Rattle.mail_store.proofs.FollowLemmas.{Follows-nil}
 use Rattle.smtp_grammar.specs.Commands.{command_of}

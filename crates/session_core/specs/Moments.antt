@@ -1,0 +1,26 @@
+-- The moments that a clock told, by their texts.
+use Rattle.std.specs.Prelude.{◌≡◌, ℕ, ◌<◌, List, Option, IfSome}
+use Rattle.mail_wire.specs.Dates.{IsDateText, IsInternalDate}
+use Rattle.mail_wire.specs.declared.clock.TheConstants.{CLOCK_END}
+use Rattle.session_core.specs.declared.outside.Stamp.{Stamp}
+
+-- the texts of a moment: in a field of a message, and under which a message is kept
+pub record Moment : Type 0 where
+  pub date : List ℕ
+  pub internal : List ℕ
+
+-- they are the texts of these seconds
+pub record IsMoment (seconds : ℕ) (moment : Moment) : Type 0 where
+  pub bound : seconds < CLOCK_END
+  pub date : IsDateText seconds moment.date
+  pub internal : IsInternalDate seconds moment.internal
+
+-- a moment that a clock told, which may tell a fixed reading
+pub record IsTold (reading : Option ℕ) (moment : Moment) : Type 0 where
+  pub seconds : ℕ
+  pub is : IsMoment seconds moment
+  pub reads : IfSome reading (λ fixed. seconds ≡ fixed)
+
+-- the moment of these texts
+abbrev pub moment_of : Stamp → Moment
+moment_of stamp = record { date = stamp.date; internal = stamp.internal }
