@@ -10,6 +10,7 @@ use Rattle.session_core.specs.Around.{Around}
 use Rattle.session_core.specs.Doing.{Does}
 use Rattle.session_core.specs.Grammar.{Grammar, Row, protocol_of}
 use Rattle.session_core.specs.Keeps.{fault_of}
+use Rattle.session_core.specs.Moments.{Moment}
 use Rattle.session_core.specs.Meanings.{Meanings, WithMeanings}
 use Rattle.session_core.specs.Protocol.{Protocol}
 use Rattle.session_core.specs.declared.desk.Desk.{Desk}
@@ -80,7 +81,7 @@ turns_of meanings machine octets = all_turns (pop_protocol.next meanings) machin
 abbrev pub machine_of : PopState → Desk → Machine
 machine_of session desk = record { state = state_of session; store = desk.store }
 
-abbrev pub PopStands : List ℕ → PopState → Desk → Machine → Type 0
+abbrev pub PopStands : List Moment → PopState → Desk → Machine → Type 0
 PopStands more session desk machine = machine ≡ machine_of session desk
 
 -- the store has the messages that the session names

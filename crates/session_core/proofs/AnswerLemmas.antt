@@ -24,7 +24,7 @@ Answers-stop grammar stands a rows unit met fine = record {
 
 -- a reply, given or broken off, whatever functions tell its octets
 pub Answers-reply : (grammar : Grammar) {R : Type 0} (stands : StandingRows grammar R) (a b : Around) (rows : R) (unit : List ℕ) (result : Result (Option R) Fault) (reply : Meanings → List grammar.P)
-    (after : Meanings → List ℕ → grammar.S) (octets : List ℕ)
+    (after : Meanings → List Moment → grammar.S) (octets : List ℕ)
     → WithMeanings (λ meanings. (more : List Moment) (state : grammar.S) → stands more rows a.desk state → grammar.row meanings state unit ≡ record { acts = acts_of [] (reply meanings); after = after meanings more })
     → WithMeanings (λ meanings. flat_map (grammar.spelled meanings) (reply meanings) ≡ octets) → Replies a b (fault_of result) octets
     → WithMeanings (λ meanings. (more : List Moment) → IfOk result (λ next. StandsNext grammar stands more next b.desk (after meanings more))) → Answers grammar stands a b rows unit result

@@ -2,6 +2,7 @@
 use Rattle.std.specs.Prelude.{◌≡◌, ℕ, ◌+◌, ◌-◌, List, [], ◌∷◌, ◌++◌, Bool, true, false, ◌&&◌, ◌==◌, nat_le, slice_index, codes, length, if◌then◌else◌, Option, Some, None}
 use Rattle.std.specs.Str.{bytes_eq}
 use Rattle.mail_wire.specs.Lines.{crlf}
+use Rattle.session_core.specs.Moments.{Moment}
 use Rattle.session_core.specs.Acts.{gives}
 use Rattle.session_core.specs.Grammar.{Grammar, Row}
 use Rattle.session_core.specs.declared.desk.Desk.{Desk}
@@ -74,7 +75,7 @@ abbrev pub state_of : Echo → State
 state_of (echo.Saying said) = saying said
 state_of (echo.Literal said n) = literal said n
 
-abbrev pub EchoStands : List ℕ → Echo → Desk → State → Type 0
+abbrev pub EchoStands : List Moment → Echo → Desk → State → Type 0
 EchoStands more session desk state = state ≡ state_of session
 
 abbrev pub wanted_by : Echo → Wants

@@ -27,9 +27,10 @@ use Rattle.smtp_session.specs.declared.states.Envelope.{Envelope}
 use Rattle.smtp_session.specs.declared.states.Greeted.{Greeted}
 use Rattle.smtp_session.specs.declared.states.Smtp.{Smtp}
 use Rattle.smtp_session.specs.declared.states.SmtpState.TheVariants as smtp
-use Rattle.smtp_session.specs.Machine.{Readings, State, Step, acts_in, collecting, delivery_of, end_data, greeted, says, too_large}
-use Rattle.smtp_session.specs.Session.{AreDropped, HasRestIn, IsFit, IsTold, WithReadings, after_step, data_turn, line_octets, next_turn, turns_of}
-use Rattle.smtp_session.specs.Trace.{Moment}
+use Rattle.smtp_session.specs.Machine.{State, Step, acts_in, collecting, delivery_of, end_data, greeted, says, too_large}
+use Rattle.session_core.specs.Meanings.{Meanings, WithMeanings}
+use Rattle.smtp_session.specs.Session.{AreDropped, HasRestIn, IsFit, after_step, data_turn, line_octets, next_turn, turns_of}
+use Rattle.session_core.specs.Moments.{IsTold, Moment}
 use Rattle.smtp_session.specs.private.Steps.{IsSaid, Steps}
 use Rattle.smtp_session.proofs.DroppedLemmas.{AreDropped-more}
 use Rattle.smtp_session.proofs.FeedLemmas.{machine_at, next_turn-framed, store_behind}
@@ -124,25 +125,25 @@ end_in dropped message_max kept rest piece front now lines body n old at front_i
 -- ---- the turn of data
 
 -- what data bring that say these octets
-abbrev pub finished : Readings → Smtp Data → StoreState → Moment → List ℕ → Step
-finished readings session store moment octets = end_data readings store session.state.client session.state.envelope moment octets
+abbrev pub finished : Meanings → Smtp Data → StoreState → Moment → List ℕ → Step
+finished meanings session store moment octets = end_data meanings store session.state.client session.state.envelope moment octets
 
 -- data are read up to their end
-next_turn-data : (readings : Readings) (session : Smtp Data) (store : StoreState) (moments : List Moment) (octets : List ℕ)
-    → next_turn readings (machine_at (smtp.Data session) store moments) octets
-    ≡ option_map (data_turn readings (machine_at (smtp.Data session) store moments) session.state.client session.state.envelope) (data_cut octets)
+next_turn-data : (meanings : Meanings) (session : Smtp Data) (store : StoreState) (moments : List Moment) (octets : List ℕ)
+    → next_turn meanings (machine_at (smtp.Data session) store moments) octets
+    ≡ option_map (data_turn meanings (machine_at (smtp.Data session) store moments) session.state.client session.state.envelope) (data_cut octets)
 unfolding next_turn
-next_turn-data readings session store moments octets = refl
+next_turn-data meanings session store moments octets = refl
 
 -- whole data bring their turn, and then the others
-turns_of-data : (readings : Readings) (session : Smtp Data) (store : StoreState) (moment : Moment) (moments : List Moment) (octets line left : List ℕ)
-    → data_cut octets ≡ Some (record { line = line; rest = left }) → turns_of readings (machine_at (smtp.Data session) store (moment ∷ moments)) octets
-    ≡ behind (acts_in (finished readings session store moment (unstuffed line)))
-    (turns_of readings (after_step store moments (finished readings session store moment (unstuffed line))) left)
-turns_of-data readings session store moment moments octets line left cut =
-    all_turns-go (next_turn readings) (next_turn-framed readings) (machine_at (smtp.Data session) store (moment ∷ moments)) octets _
-    (next_turn-data readings session store (moment ∷ moments) octets
-    ∙ ap (option_map (data_turn readings (machine_at (smtp.Data session) store (moment ∷ moments)) session.state.client session.state.envelope)) cut)
+turns_of-data : (meanings : Meanings) (session : Smtp Data) (store : StoreState) (moment : Moment) (moments : List Moment) (octets line left : List ℕ)
+    → data_cut octets ≡ Some (record { line = line; rest = left }) → turns_of meanings (machine_at (smtp.Data session) store (moment ∷ moments)) octets
+    ≡ behind (acts_in (finished meanings session store moment (unstuffed line)))
+    (turns_of meanings (after_step store moments (finished meanings session store moment (unstuffed line))) left)
+turns_of-data meanings session store moment moments octets line left cut =
+    all_turns-go (next_turn meanings) (next_turn-framed meanings) (machine_at (smtp.Data session) store (moment ∷ moments)) octets _
+    (next_turn-data meanings session store (moment ∷ moments) octets
+    ∙ ap (option_map (data_turn meanings (machine_at (smtp.Data session) store (moment ∷ moments)) session.state.client session.state.envelope)) cut)
 
 -- whatever becomes of data the client stands greeted
 greeted_by : (client : Client) (large message refused : Bool) (text : List ℕ) (stored : Step) → stored.state ≡ greeted client
@@ -153,11 +154,11 @@ greeted_by client false true true text stored is = refl
 greeted_by client false true false text stored is = is
 
 -- behind data the client stands greeted
-finished_greeted : (readings : Readings) (session : Smtp Data) (store : StoreState) (moment : Moment) (octets : List ℕ)
-    → (finished readings session store moment octets).state ≡ greeted session.state.client
-finished_greeted readings session store moment octets =
+finished_greeted : (meanings : Meanings) (session : Smtp Data) (store : StoreState) (moment : Moment) (octets : List ℕ)
+    → (finished meanings session store moment octets).state ≡ greeted session.state.client
+finished_greeted meanings session store moment octets =
     let delivery = delivery_of store session.state.client session.state.envelope moment octets in
-    greeted_by session.state.client (has_large_octets store.message_max delivery) (readings.has_tree octets) (is_some (delivery_refusal store delivery)) (codes "554 5.6.0 not a message") _ refl
+    greeted_by session.state.client (has_large_octets store.message_max delivery) (meanings.has_tree octets) (is_some (delivery_refusal store delivery)) (codes "554 5.6.0 not a message") _ refl
 
 -- ---- steps
 
@@ -165,30 +166,30 @@ finished_greeted readings session store moment octets =
 pub Steps-data : (reading : Option ℕ) (a b : Telling) (store new : StoreState) (had has : Option (List ℕ)) (session : Smtp Data) (kept keeps piece body : List ℕ) (n : ℕ) (moment : Moment) (next : Smtp Greeted)
     → IsTold reading moment
     → ((rest : List ℕ) → HasRestIn (smtp.Data session) store.message_max kept rest → IsEnd session.state.dropped store.message_max (rest ++ piece) body (drop n piece))
-    → WithReadings (λ readings. (octets : List ℕ) → IsSaid session.state.dropped store.message_max body octets
-    → Does line_octets a b store new had has (Ok next) (acts_in (finished readings session store moment octets)))
+    → WithMeanings (λ meanings. (octets : List ℕ) → IsSaid session.state.dropped store.message_max body octets
+    → Does line_octets a b store new had has (Ok next) (acts_in (finished meanings session store moment octets)))
     → next.state.client ≡ session.state.client → keeps ≡ []
     → Steps reading a b store new had has (smtp.Data session) kept keeps piece (Ok (record { next = Some (smtp.Greeted next); used = n }))
 Steps-data reading a b store new had has session kept keeps piece body n moment next told ends does client nothing = record {
   moments = moment ∷ [];
   told = All-from_recursion (IsTold reading) (moment ∷ []) (told, tt);
-  steps = λ readings are rest at more.
+  steps = λ meanings are rest at more.
       let end = ends rest at in
-      let taken = finished readings session store moment (unstuffed end.line) in
-      let done = does readings are (unstuffed end.line) end.said in
+      let taken = finished meanings session store moment (unstuffed end.line) in
+      let done = does meanings are (unstuffed end.line) end.said in
       record {
         acts = acts_in taken;
-        turn = turns_of readings (after_step store more taken) (drop n piece);
-        turns_are = turns_of-data readings session store moment more (rest ++ piece) end.line (drop n piece) end.cut;
+        turn = turns_of meanings (after_step store more taken) (drop n piece);
+        turns_are = turns_of-data meanings session store moment more (rest ++ piece) end.line (drop n piece) end.cut;
         does = Does-ok line_octets a b store new had has next _ (acts_in taken) done;
-        fit = fit_acts IsFit taken.changes taken.reply (end_by_fit (readings.has_tree (unstuffed end.line)) store session.state.client
+        fit = fit_acts IsFit taken.changes taken.reply (end_by_fit (meanings.has_tree (unstuffed end.line)) store session.state.client
             (delivery_of store session.state.client session.state.envelope moment (unstuffed end.line)));
         stands = record {
           rest = [];
           has = sym nothing;
-          turn_is = ap (λ (s : State). turns_of readings (record { state = s; store = (after_step store more taken).store; moments = more }) (drop n piece))
-              (finished_greeted readings session store moment (unstuffed end.line) ∙ ap greeted (sym client))
-              ∙ ap (λ (s : StoreState). turns_of readings (record { state = greeted next.state.client; store = s; moments = more }) (drop n piece)) (store_behind a b store new had has next taken done);
+          turn_is = ap (λ (s : State). turns_of meanings (record { state = s; store = (after_step store more taken).store; moments = more }) (drop n piece))
+              (finished_greeted meanings session store moment (unstuffed end.line) ∙ ap greeted (sym client))
+              ∙ ap (λ (s : StoreState). turns_of meanings (record { state = greeted next.state.client; store = s; moments = more }) (drop n piece)) (store_behind a b store new had has next taken done);
         };
       };
 }
@@ -197,20 +198,20 @@ Steps-data reading a b store new had has session kept keeps piece body n moment 
 pub Steps-data_fails : (reading : Option ℕ) (a b : Telling) (store new : StoreState) (had has : Option (List ℕ)) (session : Smtp Data) (kept keeps piece body : List ℕ) (n : ℕ) (moment : Moment) (met : Fault)
     → IsTold reading moment
     → ((rest : List ℕ) → HasRestIn (smtp.Data session) store.message_max kept rest → IsEnd session.state.dropped store.message_max (rest ++ piece) body (drop n piece))
-    → WithReadings (λ readings. (octets : List ℕ) → IsSaid session.state.dropped store.message_max body octets
-    → Does {T = Smtp Greeted} line_octets a b store new had has (Err met) (acts_in (finished readings session store moment octets)))
+    → WithMeanings (λ meanings. (octets : List ℕ) → IsSaid session.state.dropped store.message_max body octets
+    → Does {T = Smtp Greeted} line_octets a b store new had has (Err met) (acts_in (finished meanings session store moment octets)))
     → Steps reading a b store new had has (smtp.Data session) kept keeps piece (Err met)
 Steps-data_fails reading a b store new had has session kept keeps piece body n moment met told ends does = record {
   moments = moment ∷ [];
   told = All-from_recursion (IsTold reading) (moment ∷ []) (told, tt);
-  steps = λ readings are rest at more.
+  steps = λ meanings are rest at more.
       let end = ends rest at in
-      let taken = finished readings session store moment (unstuffed end.line) in
+      let taken = finished meanings session store moment (unstuffed end.line) in
       record {
         acts = acts_in taken;
-        turn = turns_of readings (after_step store more taken) (drop n piece);
-        turns_are = turns_of-data readings session store moment more (rest ++ piece) end.line (drop n piece) end.cut;
-        does = Does-err (Smtp Greeted) Came line_octets a b store new had has met (acts_in taken) (does readings are (unstuffed end.line) end.said);
+        turn = turns_of meanings (after_step store more taken) (drop n piece);
+        turns_are = turns_of-data meanings session store moment more (rest ++ piece) end.line (drop n piece) end.cut;
+        does = Does-err (Smtp Greeted) Came line_octets a b store new had has met (acts_in taken) (does meanings are (unstuffed end.line) end.said);
         fit = tt;
         stands = tt;
       };
@@ -231,7 +232,7 @@ pub Steps-data_wait : (reading : Option ℕ) (a : Telling) (store : StoreState) 
 Steps-data_wait reading a store had session next kept now keeps piece front n max front_is now_is max_is four none client envelope goes = record {
   moments = [];
   told = All-nil (IsTold reading);
-  steps = λ readings are rest at more.
+  steps = λ meanings are rest at more.
       let back = drop n piece in
       let parts : front ++ back ≡ piece = ap (λ l. l ++ back) front_is ∙ take-append-drop n piece in
       let left : drop (length front) piece ≡ back = ap (drop (length front)) (sym parts) ∙ drop_whole front back in
@@ -241,15 +242,15 @@ Steps-data_wait reading a store had session next kept now keeps piece front n ma
       ap (λ (c : Client). collecting c session.state.envelope) (sym client) ∙ ap (λ (e : Envelope). collecting next.state.client e) (sym envelope) in
       record {
         acts = [];
-        turn = turns_of readings (machine_at (smtp.Data session) store more) (rest ++ piece);
+        turn = turns_of meanings (machine_at (smtp.Data session) store more) (rest ++ piece);
         turns_are = refl;
         does = record { given = []; gives = Gives-nil a; done = (refl, Follows-nil store had) };
         fit = tt;
         stands = record {
           rest = rest ++ front;
           has = rw max_is at (goes (rest ++ front) (rw (now_is, max_is) (has_more session store.message_max kept front rest four (rw now_is at none) at)));
-          turn_is = ap (λ (s : State). turns_of readings (record { state = s; store = store; moments = more }) (rest ++ piece)) state
-              ∙ ap (turns_of readings (machine_at (smtp.Data next) store more)) octets;
+          turn_is = ap (λ (s : State). turns_of meanings (record { state = s; store = store; moments = more }) (rest ++ piece)) state
+              ∙ ap (turns_of meanings (machine_at (smtp.Data next) store more)) octets;
         };
       };
 }

@@ -26,9 +26,12 @@ use Rattle.session_core.proofs.DoneLemmas.{Does-made, Does-more, Does-reply, cha
 use Rattle.mail_store.proofs.FollowLemmas.{Breaks-one, Follows-nil}
 use Rattle.smtp_session.specs.declared.states.Client.{Client}
 use Rattle.smtp_session.specs.declared.states.Envelope.{Envelope}
-use Rattle.smtp_session.specs.Machine.{Readings, Step, TellsTrees, acts_in, collecting, delivery_of, end_by, end_data, greeted, recipient_count, too_large, trace}
-use Rattle.smtp_session.specs.Session.{IsName, KnowsState, line_octets, reply_octets}
-use Rattle.smtp_session.specs.Trace.{IsMoment, Moment, return_path}
+use Rattle.smtp_session.specs.Machine.{Step, acts_in, collecting, delivery_of, end_by, end_data, greeted, recipient_count, too_large, trace}
+use Rattle.session_core.specs.Meanings.{Meanings, TellsTrees}
+use Rattle.smtp_session.specs.Session.{KnowsState, line_octets, reply_octets}
+use Rattle.session_core.specs.Desks.{IsName}
+use Rattle.smtp_session.specs.Trace.{return_path}
+use Rattle.session_core.specs.Moments.{IsMoment, Moment}
 use Rattle.smtp_session.specs.private.Steps.{IsSaid, Makes}
 use Rattle.smtp_session.proofs.KeptLemmas.{delivery-deliverable}
 
@@ -121,9 +124,9 @@ first_of : (large : Bool) (a b : Step) → large ≡ true → cond large a b ≡
 first_of large a b p = rw p refl
 
 -- data that say more octets than the limit are too large
-too_large_is : (readings : Readings) (store : StoreState) (client : Client) (envelope : Envelope) (moment : Moment) (octets : List ℕ)
-    → 0 < recipient_count envelope → store.message_max < length octets → end_data readings store client envelope moment octets ≡ too_large (greeted client)
-too_large_is readings store client envelope moment octets some long =
+too_large_is : (meanings : Meanings) (store : StoreState) (client : Client) (envelope : Envelope) (moment : Moment) (octets : List ℕ)
+    → 0 < recipient_count envelope → store.message_max < length octets → end_data meanings store client envelope moment octets ≡ too_large (greeted client)
+too_large_is meanings store client envelope moment octets some long =
     let from = trace store client envelope moment in
     first_of (has_large_octets store.message_max (delivery_of store client envelope moment octets)) _ _
     (large_by (length envelope.local) (length envelope.remote) store.message_max _ _ some
@@ -135,11 +138,11 @@ said_long true message_max lines octets is said = said
 said_long false message_max lines octets is said = cc
 
 -- what was dropped is refused
-pub dropped_is : (readings : Readings) (dropped : Bool) (store : StoreState) (client : Client) (envelope : Envelope) (moment : Moment) (lines octets : List ℕ)
+pub dropped_is : (meanings : Meanings) (dropped : Bool) (store : StoreState) (client : Client) (envelope : Envelope) (moment : Moment) (lines octets : List ℕ)
     → KnowsState store (collecting client envelope) → dropped ≡ true → IsSaid dropped store.message_max lines octets
-    → end_data readings store client envelope moment octets ≡ too_large (greeted client)
-dropped_is readings dropped store client envelope moment lines octets knows is said =
-    too_large_is readings store client envelope moment octets knows.2 (said_long dropped store.message_max lines octets is said)
+    → end_data meanings store client envelope moment octets ≡ too_large (greeted client)
+dropped_is meanings dropped store client envelope moment lines octets knows is said =
+    too_large_is meanings store client envelope moment octets knows.2 (said_long dropped store.message_max lines octets is said)
 
 -- the refusal was given, or a prefix of it
 pub Does-refused : {T : Type 0} (a b : Telling) (store : StoreState) (had : Option (List ℕ)) (result : Result T Fault) (client : Client) (taken : Step) → taken ≡ too_large (greeted client)
@@ -154,10 +157,10 @@ said_is false message_max lines octets is said = said
 said_is true message_max lines octets is said = cc
 
 -- what is delivered is what is due at the end of the data
-pub end_is : (readings : Readings) (dropped : Bool) (store : StoreState) (client : Client) (envelope : Envelope) (moment : Moment) (lines octets content : List ℕ) (delivery : Delivery)
+pub end_is : (meanings : Meanings) (dropped : Bool) (store : StoreState) (client : Client) (envelope : Envelope) (moment : Moment) (lines octets content : List ℕ) (delivery : Delivery)
     → dropped ≡ false → IsSaid dropped store.message_max lines octets → content ≡ unstuffed lines → delivery ≡ delivery_of store client envelope moment (unstuffed lines)
-    → end_by (readings.has_tree content) store client delivery ≡ end_data readings store client envelope moment octets
-end_is readings dropped store client envelope moment lines octets content delivery is said same made = rw (said_is dropped store.message_max lines octets is said, same, made) refl
+    → end_by (meanings.has_tree content) store client delivery ≡ end_data meanings store client envelope moment octets
+end_is meanings dropped store client envelope moment lines octets content delivery is said same made = rw (said_is dropped store.message_max lines octets is said, same, made) refl
 
 -- and may be delivered
 pub end_deliverable : (store : StoreState) (client : Client) (envelope : Envelope) (moment : Moment) (octets : List ℕ) (delivery : Delivery) → KnowsState store (collecting client envelope)

@@ -34,101 +34,102 @@ use Rattle.smtp_session.specs.declared.states.Client.{Client}
 use Rattle.smtp_session.specs.declared.states.Envelope.{Envelope}
 use Rattle.smtp_session.specs.declared.states.SmtpState.{SmtpState}
 use Rattle.smtp_session.specs.declared.states.SmtpState.TheVariants as smtp
-use Rattle.smtp_session.specs.Machine.{Readings, State, fresh, greeted, mail, collecting, ended, Step, acts_in}
-use Rattle.smtp_session.specs.Session.{FeedsBy, HasRestIn, IsFit, IsTold, IsUnfinished, Machine, WithReadings, data_turn, line_octets, line_turn, next_turn, state_of, state_or_ended, turn_in, turns_of}
-use Rattle.smtp_session.specs.Trace.{Moment}
+use Rattle.smtp_session.specs.Machine.{State, fresh, greeted, mail, collecting, ended, Step, acts_in}
+use Rattle.session_core.specs.Meanings.{Meanings, WithMeanings}
+use Rattle.smtp_session.specs.Session.{FeedsBy, HasRestIn, IsFit, IsUnfinished, Machine, data_turn, line_octets, line_turn, next_turn, state_of, state_or_ended, turn_in, turns_of}
+use Rattle.session_core.specs.Moments.{IsTold, Moment}
 use Rattle.smtp_session.specs.private.Steps.{HasRestAfter, Steps}
 
 -- the machine by what reads paths and tells trees
-abbrev pub serving_of : Readings → Serving
-serving_of readings = record { S = Machine; P = List ℕ; next = next_turn readings; spelled = line_octets; Fits = IsFit }
+abbrev pub serving_of : Meanings → Serving
+serving_of meanings = record { S = Machine; P = List ℕ; next = next_turn meanings; spelled = line_octets; Fits = IsFit }
 
 -- ---- turns don't depend on what comes later
 
 -- a line takes an octet at least
-line_shorter : (readings : Readings) (machine : Machine) (octets : List ℕ) (framed : Framed) (turn : Turn Machine (Act (List ℕ))) → IsSteady octets framed
-    → line_turn readings machine framed ≡ Some turn → length turn.rest < length octets
-line_shorter readings machine octets waiting turn steady is = cc
-line_shorter readings machine octets (whole line rest) turn steady is = let same : rest ≡ turn.rest = cc in rw (← same) steady.0
-line_shorter readings machine octets (too_long rest) turn steady is = let same : rest ≡ turn.rest = cc in rw (← same) steady.0
+line_shorter : (meanings : Meanings) (machine : Machine) (octets : List ℕ) (framed : Framed) (turn : Turn Machine (Act (List ℕ))) → IsSteady octets framed
+    → line_turn meanings machine framed ≡ Some turn → length turn.rest < length octets
+line_shorter meanings machine octets waiting turn steady is = cc
+line_shorter meanings machine octets (whole line rest) turn steady is = let same : rest ≡ turn.rest = cc in rw (← same) steady.0
+line_shorter meanings machine octets (too_long rest) turn steady is = let same : rest ≡ turn.rest = cc in rw (← same) steady.0
 
 unsome : {a b : Turn Machine (Act (List ℕ))} → Some a ≡ Some b → a ≡ b
 unsome h = cc
 
 -- more octets stay behind a line
-line_stays : (readings : Readings) (machine : Machine) (octets more : List ℕ) (framed : Framed) (turn : Turn Machine (Act (List ℕ))) → IsSteady octets framed
-    → line_turn readings machine framed ≡ Some turn → line_turn readings machine (next_line (octets ++ more)) ≡ Some (followed_by more turn)
-line_stays readings machine octets more waiting turn steady is = cc
-line_stays readings machine octets more (whole line rest) turn steady is = ap (line_turn readings machine) (steady.1 more) ∙ ap (λ t. Some (followed_by more t)) (unsome is)
-line_stays readings machine octets more (too_long rest) turn steady is = ap (line_turn readings machine) (steady.1 more) ∙ ap (λ t. Some (followed_by more t)) (unsome is)
+line_stays : (meanings : Meanings) (machine : Machine) (octets more : List ℕ) (framed : Framed) (turn : Turn Machine (Act (List ℕ))) → IsSteady octets framed
+    → line_turn meanings machine framed ≡ Some turn → line_turn meanings machine (next_line (octets ++ more)) ≡ Some (followed_by more turn)
+line_stays meanings machine octets more waiting turn steady is = cc
+line_stays meanings machine octets more (whole line rest) turn steady is = ap (line_turn meanings machine) (steady.1 more) ∙ ap (λ t. Some (followed_by more t)) (unsome is)
+line_stays meanings machine octets more (too_long rest) turn steady is = ap (line_turn meanings machine) (steady.1 more) ∙ ap (λ t. Some (followed_by more t)) (unsome is)
 
 -- data take an octet at least
-data_shorter : (readings : Readings) (machine : Machine) (client : Client) (envelope : Envelope) (octets : List ℕ) (turn : Turn Machine (Act (List ℕ))) (found : Option Cut) → data_cut octets ≡ found
-    → option_map (data_turn readings machine client envelope) found ≡ Some turn → length turn.rest < length octets
-data_shorter readings machine client envelope octets turn None at is = cc
-data_shorter readings machine client envelope octets turn (Some cut) at is =
+data_shorter : (meanings : Meanings) (machine : Machine) (client : Client) (envelope : Envelope) (octets : List ℕ) (turn : Turn Machine (Act (List ℕ))) (found : Option Cut) → data_cut octets ≡ found
+    → option_map (data_turn meanings machine client envelope) found ≡ Some turn → length turn.rest < length octets
+data_shorter meanings machine client envelope octets turn None at is = cc
+data_shorter meanings machine client envelope octets turn (Some cut) at is =
     let same : cut.rest ≡ turn.rest = ap (λ (t : Turn Machine (Act (List ℕ))). t.rest) (unsome is) in
     rw (← same) (data_cut-shorter octets cut at)
 
 -- more octets stay behind data
-data_stays : (readings : Readings) (machine : Machine) (client : Client) (envelope : Envelope) (octets more : List ℕ) (turn : Turn Machine (Act (List ℕ))) (found : Option Cut) → data_cut octets ≡ found
-    → option_map (data_turn readings machine client envelope) found ≡ Some turn
-    → option_map (data_turn readings machine client envelope) (data_cut (octets ++ more)) ≡ Some (followed_by more turn)
-data_stays readings machine client envelope octets more turn None at is = cc
-data_stays readings machine client envelope octets more turn (Some cut) at is =
-    ap (option_map (data_turn readings machine client envelope)) (data_cut-stays octets more cut at) ∙ ap (λ t. Some (followed_by more t)) (unsome is)
+data_stays : (meanings : Meanings) (machine : Machine) (client : Client) (envelope : Envelope) (octets more : List ℕ) (turn : Turn Machine (Act (List ℕ))) (found : Option Cut) → data_cut octets ≡ found
+    → option_map (data_turn meanings machine client envelope) found ≡ Some turn
+    → option_map (data_turn meanings machine client envelope) (data_cut (octets ++ more)) ≡ Some (followed_by more turn)
+data_stays meanings machine client envelope octets more turn None at is = cc
+data_stays meanings machine client envelope octets more turn (Some cut) at is =
+    ap (option_map (data_turn meanings machine client envelope)) (data_cut-stays octets more cut at) ∙ ap (λ t. Some (followed_by more t)) (unsome is)
 
-shorter_in : (readings : Readings) (state : State) (machine : Machine) (octets : List ℕ) (turn : Turn Machine (Act (List ℕ))) → turn_in readings state machine octets ≡ Some turn
+shorter_in : (meanings : Meanings) (state : State) (machine : Machine) (octets : List ℕ) (turn : Turn Machine (Act (List ℕ))) → turn_in meanings state machine octets ≡ Some turn
     → length turn.rest < length octets
-shorter_in readings fresh machine octets turn is = line_shorter readings machine octets (next_line octets) turn (steady octets) is
-shorter_in readings (greeted client) machine octets turn is = line_shorter readings machine octets (next_line octets) turn (steady octets) is
-shorter_in readings (mail client envelope) machine octets turn is = line_shorter readings machine octets (next_line octets) turn (steady octets) is
-shorter_in readings (collecting client envelope) machine octets turn is = data_shorter readings machine client envelope octets turn (data_cut octets) refl is
-shorter_in readings ended machine octets turn is = cc
+shorter_in meanings fresh machine octets turn is = line_shorter meanings machine octets (next_line octets) turn (steady octets) is
+shorter_in meanings (greeted client) machine octets turn is = line_shorter meanings machine octets (next_line octets) turn (steady octets) is
+shorter_in meanings (mail client envelope) machine octets turn is = line_shorter meanings machine octets (next_line octets) turn (steady octets) is
+shorter_in meanings (collecting client envelope) machine octets turn is = data_shorter meanings machine client envelope octets turn (data_cut octets) refl is
+shorter_in meanings ended machine octets turn is = cc
 
-stays_in : (readings : Readings) (state : State) (machine : Machine) (octets more : List ℕ) (turn : Turn Machine (Act (List ℕ))) → turn_in readings state machine octets ≡ Some turn
-    → turn_in readings state machine (octets ++ more) ≡ Some (followed_by more turn)
-stays_in readings fresh machine octets more turn is = line_stays readings machine octets more (next_line octets) turn (steady octets) is
-stays_in readings (greeted client) machine octets more turn is = line_stays readings machine octets more (next_line octets) turn (steady octets) is
-stays_in readings (mail client envelope) machine octets more turn is = line_stays readings machine octets more (next_line octets) turn (steady octets) is
-stays_in readings (collecting client envelope) machine octets more turn is = data_stays readings machine client envelope octets more turn (data_cut octets) refl is
-stays_in readings ended machine octets more turn is = cc
+stays_in : (meanings : Meanings) (state : State) (machine : Machine) (octets more : List ℕ) (turn : Turn Machine (Act (List ℕ))) → turn_in meanings state machine octets ≡ Some turn
+    → turn_in meanings state machine (octets ++ more) ≡ Some (followed_by more turn)
+stays_in meanings fresh machine octets more turn is = line_stays meanings machine octets more (next_line octets) turn (steady octets) is
+stays_in meanings (greeted client) machine octets more turn is = line_stays meanings machine octets more (next_line octets) turn (steady octets) is
+stays_in meanings (mail client envelope) machine octets more turn is = line_stays meanings machine octets more (next_line octets) turn (steady octets) is
+stays_in meanings (collecting client envelope) machine octets more turn is = data_stays meanings machine client envelope octets more turn (data_cut octets) refl is
+stays_in meanings ended machine octets more turn is = cc
 
 -- a turn takes an octet at least, and doesn't depend on what comes later
-pub next_turn-framed : (readings : Readings) → IsFramed (next_turn readings)
+pub next_turn-framed : (meanings : Meanings) → IsFramed (next_turn meanings)
 unfolding next_turn
-next_turn-framed readings = record {
-  shorter = λ machine octets turn is. shorter_in readings machine.state machine octets turn is;
-  stays = λ machine octets more turn is. stays_in readings machine.state machine octets more turn is;
+next_turn-framed meanings = record {
+  shorter = λ machine octets turn is. shorter_in meanings machine.state machine octets turn is;
+  stays = λ machine octets more turn is. stays_in meanings machine.state machine octets more turn is;
 }
 
 -- ---- no turn
 
 -- after the end octets bring nothing
-pub turns_of-ended : (readings : Readings) (store : StoreState) (moments : List Moment) (octets : List ℕ)
-    → turns_of readings (record { state = ended; store = store; moments = moments }) octets ≡ stay (record { state = ended; store = store; moments = moments }) octets
+pub turns_of-ended : (meanings : Meanings) (store : StoreState) (moments : List Moment) (octets : List ℕ)
+    → turns_of meanings (record { state = ended; store = store; moments = moments }) octets ≡ stay (record { state = ended; store = store; moments = moments }) octets
 unfolding next_turn
-turns_of-ended readings store moments octets = all_turns-stop (next_turn readings) (record { state = ended; store = store; moments = moments }) octets refl
+turns_of-ended meanings store moments octets = all_turns-stop (next_turn meanings) (record { state = ended; store = store; moments = moments }) octets refl
 
 abbrev pub machine_at : SmtpState → StoreState → List Moment → Machine
 machine_at state store moments = record { state = state_of state; store = store; moments = moments }
 
 -- a rest behind octets that have no whole command brings no turn
-unfinished : (readings : Readings) (state : SmtpState) (store : StoreState) (moments : List Moment) (kept rest : List ℕ) → IsUnfinished state kept → HasRestIn state store.message_max kept rest
-    → next_turn readings (machine_at state store moments) rest ≡ None
+unfinished : (meanings : Meanings) (state : SmtpState) (store : StoreState) (moments : List Moment) (kept rest : List ℕ) → IsUnfinished state kept → HasRestIn state store.message_max kept rest
+    → next_turn meanings (machine_at state store moments) rest ≡ None
 unfolding next_turn
-unfinished readings (smtp.Fresh s) store moments kept rest waits has = rw has (ap (line_turn readings (machine_at (smtp.Fresh s) store moments)) waits)
-unfinished readings (smtp.Greeted s) store moments kept rest waits has = rw has (ap (line_turn readings (machine_at (smtp.Greeted s) store moments)) waits)
-unfinished readings (smtp.Mail s) store moments kept rest waits has = rw has (ap (line_turn readings (machine_at (smtp.Mail s) store moments)) waits)
-unfinished readings (smtp.Data s) store moments kept rest waits (inl has) =
-    ap (λ found. option_map (data_turn readings (machine_at (smtp.Data s) store moments) s.state.client s.state.envelope) (option_map behind_command found)) (ap end_cut (sym has.1) ∙ waits.0)
-unfinished readings (smtp.Data s) store moments kept rest waits (inr has) =
-    ap (λ found. option_map (data_turn readings (machine_at (smtp.Data s) store moments) s.state.client s.state.envelope) (option_map behind_command found)) has.1.none
+unfinished meanings (smtp.Fresh s) store moments kept rest waits has = rw has (ap (line_turn meanings (machine_at (smtp.Fresh s) store moments)) waits)
+unfinished meanings (smtp.Greeted s) store moments kept rest waits has = rw has (ap (line_turn meanings (machine_at (smtp.Greeted s) store moments)) waits)
+unfinished meanings (smtp.Mail s) store moments kept rest waits has = rw has (ap (line_turn meanings (machine_at (smtp.Mail s) store moments)) waits)
+unfinished meanings (smtp.Data s) store moments kept rest waits (inl has) =
+    ap (λ found. option_map (data_turn meanings (machine_at (smtp.Data s) store moments) s.state.client s.state.envelope) (option_map behind_command found)) (ap end_cut (sym has.1) ∙ waits.0)
+unfinished meanings (smtp.Data s) store moments kept rest waits (inr has) =
+    ap (λ found. option_map (data_turn meanings (machine_at (smtp.Data s) store moments) s.state.client s.state.envelope) (option_map behind_command found)) has.1.none
 
-turns_of-unfinished : (readings : Readings) (state : SmtpState) (store : StoreState) (moments : List Moment) (kept rest : List ℕ) → IsUnfinished state kept → HasRestIn state store.message_max kept rest
-    → turns_of readings (machine_at state store moments) rest ≡ stay (machine_at state store moments) rest
-turns_of-unfinished readings state store moments kept rest waits has =
-    all_turns-stop (next_turn readings) (machine_at state store moments) rest (unfinished readings state store moments kept rest waits has)
+turns_of-unfinished : (meanings : Meanings) (state : SmtpState) (store : StoreState) (moments : List Moment) (kept rest : List ℕ) → IsUnfinished state kept → HasRestIn state store.message_max kept rest
+    → turns_of meanings (machine_at state store moments) rest ≡ stay (machine_at state store moments) rest
+turns_of-unfinished meanings state store moments kept rest waits has =
+    all_turns-stop (next_turn meanings) (machine_at state store moments) rest (unfinished meanings state store moments kept rest waits has)
 
 -- ---- steps
 
@@ -147,9 +148,9 @@ pub Steps-stop : (reading : Option ℕ) (wire : Telling) (store : StoreState) (h
 Steps-stop reading wire store had state kept keeps piece met fine = record {
   moments = [];
   told = All-nil (IsTold reading);
-  steps = λ readings are rest has more. record {
+  steps = λ meanings are rest has more. record {
     acts = [];
-    turn = turns_of readings (machine_at state store more) (rest ++ piece);
+    turn = turns_of meanings (machine_at state store more) (rest ++ piece);
     turns_are = refl;
     does = Does-none line_octets wire store had met [] fine;
     fit = tt;
@@ -166,31 +167,31 @@ pub record Surroundings : Type 0 where
   pub journal : Option (List ℕ)
 
 -- So far it has done what the first turns of these octets are, with these moments, and is in this state, where a rest and the octets left bring the others.
-pub record SoFar (readings : Readings) (a b : Surroundings) (first : SmtpState) (moments : List Moment) (octets : List ℕ) (state : SmtpState) (more : List Moment) (kept left : List ℕ) : Type 0 where
+pub record SoFar (meanings : Meanings) (a b : Surroundings) (first : SmtpState) (moments : List Moment) (octets : List ℕ) (state : SmtpState) (more : List Moment) (kept left : List ℕ) : Type 0 where
   pub rest : List ℕ
   pub has : HasRestIn state b.store.message_max kept rest
-  pub served : ServedSoFar (serving_of readings) a.wire b.wire a.store b.store a.journal b.journal (machine_at first a.store moments) octets (machine_at state b.store more) (rest ++ left)
+  pub served : ServedSoFar (serving_of meanings) a.wire b.wire a.store b.store a.journal b.journal (machine_at first a.store moments) octets (machine_at state b.store more) (rest ++ left)
 
--- The same whatever the readings, the rest at the beginning and the moments to come are.
+-- The same whatever the meanings, the rest at the beginning and the moments to come are.
 pub record Going (reading : Option ℕ) (a b : Surroundings) (first : SmtpState) (had piece : List ℕ) (state : SmtpState) (kept left : List ℕ) : Type 0 where
   pub moments : List Moment
   pub told : All (IsTold reading) moments
-  pub served : WithReadings (λ readings. (octets : List ℕ) → HasRestIn first a.store.message_max had octets → (more : List Moment)
-      → SoFar readings a b first (moments ++ more) (octets ++ piece) state more kept left)
+  pub served : WithMeanings (λ meanings. (octets : List ℕ) → HasRestIn first a.store.message_max had octets → (more : List Moment)
+      → SoFar meanings a b first (moments ++ more) (octets ++ piece) state more kept left)
 
 -- what `feed` says of a call that answers so
 abbrev pub Serves : Option ℕ → Surroundings → Surroundings → SmtpState → List ℕ → List ℕ → Result SmtpSession Fault → Type 0
-Serves reading a b first had piece result = (moments : List Moment) × All (IsTold reading) moments × WithReadings (λ readings. (rest : List ℕ) → HasRestIn first a.store.message_max had rest
-    → (more : List Moment) → FeedsBy a.wire b.wire a.store b.store a.journal b.journal result more (turns_of readings (machine_at first a.store (moments ++ more)) (rest ++ piece)))
+Serves reading a b first had piece result = (moments : List Moment) × All (IsTold reading) moments × WithMeanings (λ meanings. (rest : List ℕ) → HasRestIn first a.store.message_max had rest
+    → (more : List Moment) → FeedsBy a.wire b.wire a.store b.store a.journal b.journal result more (turns_of meanings (machine_at first a.store (moments ++ more)) (rest ++ piece)))
 
 pub Going-start : (reading : Option ℕ) (a : Surroundings) (state : SmtpState) (kept piece : List ℕ) → Going reading a a state kept piece state kept piece
 Going-start reading a state kept piece = record {
   moments = [];
   told = All-nil (IsTold reading);
-  served = λ readings are octets has more. record {
+  served = λ meanings are octets has more. record {
     rest = octets;
     has = has;
-    served = ServedSoFar-start (serving_of readings) a.wire a.store a.journal (machine_at state a.store more) (octets ++ piece);
+    served = ServedSoFar-start (serving_of meanings) a.wire a.store a.journal (machine_at state a.store more) (octets ++ piece);
   };
 }
 
@@ -205,16 +206,16 @@ pub Going-more : (reading : Option ℕ) (a b c : Surroundings) (first : SmtpStat
 Going-more reading a b c first had piece state next kept keeps left came going steps on next_is = record {
   moments = going.moments ++ steps.moments;
   told = moments_on reading going.moments steps.moments going.told steps.told;
-  served = λ readings are octets has more.
-      let so = going.served readings are octets has (steps.moments ++ more) in
-      let by = steps.steps readings are so.rest so.has more in
+  served = λ meanings are octets has more.
+      let so = going.served meanings are octets has (steps.moments ++ more) in
+      let by = steps.steps meanings are so.rest so.has more in
       record {
         rest = by.stands.rest;
         has = subst (λ (n : Option SmtpState). HasRestAfter n c.store.message_max keeps by.stands.rest) next_is by.stands.has;
         served = rw (append_assoc going.moments steps.moments more)
-            (ServedSoFar-more (serving_of readings) a.wire b.wire c.wire a.store b.store c.store a.journal b.journal c.journal came (machine_at first a.store (going.moments ++ (steps.moments ++ more)))
+            (ServedSoFar-more (serving_of meanings) a.wire b.wire c.wire a.store b.store c.store a.journal b.journal c.journal came (machine_at first a.store (going.moments ++ (steps.moments ++ more)))
             (machine_at state b.store (steps.moments ++ more)) (machine_at next c.store more) (octets ++ piece) (so.rest ++ left) (by.stands.rest ++ drop came.used left) by.acts so.served
-            (by.turns_are ∙ ap (behind by.acts) (by.stands.turn_is ∙ ap (λ (n : Option SmtpState). turns_of readings (record { state = state_or_ended n; store = c.store; moments = more }) (by.stands.rest ++ drop came.used left)) next_is))
+            (by.turns_are ∙ ap (behind by.acts) (by.stands.turn_is ∙ ap (λ (n : Option SmtpState). turns_of meanings (record { state = state_or_ended n; store = c.store; moments = more }) (by.stands.rest ++ drop came.used left)) next_is))
             by.does by.fit on);
       };
 }
@@ -226,20 +227,20 @@ pub Going-ends : (reading : Option ℕ) (a b c : Surroundings) (first : SmtpStat
 Going-ends reading a b c first had piece state kept keeps left came going steps on next_is = (
   going.moments ++ steps.moments,
   moments_on reading going.moments steps.moments going.told steps.told,
-  λ readings are octets has more.
-      let so = going.served readings are octets has (steps.moments ++ more) in
-      let by = steps.steps readings are so.rest so.has more in
+  λ meanings are octets has more.
+      let so = going.served meanings are octets has (steps.moments ++ more) in
+      let by = steps.steps meanings are so.rest so.has more in
       let last : Machine = record { state = ended; store = c.store; moments = more } in
       let over = by.stands.rest ++ drop came.used left in
       let start = machine_at first a.store (going.moments ++ (steps.moments ++ more)) in
-      let all = ServedSoFar-ends (serving_of readings) a.wire b.wire c.wire a.store b.store c.store a.journal b.journal c.journal came start
+      let all = ServedSoFar-ends (serving_of meanings) a.wire b.wire c.wire a.store b.store c.store a.journal b.journal c.journal came start
       (machine_at state b.store (steps.moments ++ more)) last (octets ++ piece) (so.rest ++ left) over by.acts so.served
       (by.turns_are ∙ ap (behind by.acts) (by.stands.turn_is
-      ∙ ap (λ (n : Option SmtpState). turns_of readings (record { state = state_or_ended n; store = c.store; moments = more }) over) next_is ∙ turns_of-ended readings c.store more over))
+      ∙ ap (λ (n : Option SmtpState). turns_of meanings (record { state = state_or_ended n; store = c.store; moments = more }) over) next_is ∙ turns_of-ended meanings c.store more over))
       by.does by.fit on in
       rw (append_assoc going.moments steps.moments more)
       (record {
-        does = ServedAll-does (serving_of readings) a.wire c.wire a.store c.store a.journal c.journal session.Ended start last (octets ++ piece) over all;
+        does = ServedAll-does (serving_of meanings) a.wire c.wire a.store c.store a.journal c.journal session.Ended start last (octets ++ piece) over all;
         fit = all.fed.fit;
         stands = record { machine = all.fed.state_is; rest = tt };
       }),
@@ -252,14 +253,14 @@ pub Going-fails : (reading : Option ℕ) (a b c : Surroundings) (first : SmtpSta
 Going-fails reading a b c first had piece state kept keeps left met going steps = (
   going.moments ++ steps.moments,
   moments_on reading going.moments steps.moments going.told steps.told,
-  λ readings are octets has more.
-      let so = going.served readings are octets has (steps.moments ++ more) in
-      let by = steps.steps readings are so.rest so.has more in
+  λ meanings are octets has more.
+      let so = going.served meanings are octets has (steps.moments ++ more) in
+      let by = steps.steps meanings are so.rest so.has more in
       let start = machine_at first a.store (going.moments ++ (steps.moments ++ more)) in
       let machine = machine_at state b.store (steps.moments ++ more) in
       rw (append_assoc going.moments steps.moments more)
       (record {
-        does = ServedSoFar-fails Came SmtpSession (serving_of readings) a.wire b.wire c.wire a.store b.store c.store a.journal b.journal c.journal met start machine (octets ++ piece) (so.rest ++ left)
+        does = ServedSoFar-fails Came SmtpSession (serving_of meanings) a.wire b.wire c.wire a.store b.store c.store a.journal b.journal c.journal met start machine (octets ++ piece) (so.rest ++ left)
             by.acts by.turn so.served by.turns_are by.does;
         fit = tt;
         stands = tt;
@@ -273,14 +274,14 @@ pub Going-all : (reading : Option ℕ) (a b : Surroundings) (first : SmtpState) 
 Going-all reading a b first had piece open_at left going waits none = (
   going.moments,
   going.told,
-  λ readings are octets has more.
-      let so = going.served readings are octets has more in
+  λ meanings are octets has more.
+      let so = going.served meanings are octets has more in
       let machine = machine_at open_at.state b.store more in
       let start = machine_at first a.store (going.moments ++ more) in
-      let all = ServedSoFar-all (serving_of readings) a.wire b.wire a.store b.store a.journal b.journal start machine (octets ++ piece) so.rest
-      (rw (none, append-nil) at so.served) (turns_of-unfinished readings open_at.state b.store more open_at.kept so.rest waits so.has) in
+      let all = ServedSoFar-all (serving_of meanings) a.wire b.wire a.store b.store a.journal b.journal start machine (octets ++ piece) so.rest
+      (rw (none, append-nil) at so.served) (turns_of-unfinished meanings open_at.state b.store more open_at.kept so.rest waits so.has) in
       record {
-        does = ServedAll-does (serving_of readings) a.wire b.wire a.store b.store a.journal b.journal (session.Open open_at) start machine (octets ++ piece) so.rest all;
+        does = ServedAll-does (serving_of meanings) a.wire b.wire a.store b.store a.journal b.journal (session.Open open_at) start machine (octets ++ piece) so.rest all;
         fit = all.fed.fit;
         stands = record { machine = all.fed.state_is; rest = subst (λ (rest : List ℕ). HasRestIn open_at.state b.store.message_max open_at.kept rest) all.fed.rest_is so.has };
       },

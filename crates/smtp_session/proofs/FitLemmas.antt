@@ -14,8 +14,10 @@ use Rattle.mail_store.specs.StoreState.{StoreState}
 use Rattle.mail_store.specs.declared.delivery.Delivery.{Delivery}
 use Rattle.smtp_grammar.specs.declared.command.Verb.{Verb}
 use Rattle.smtp_session.specs.declared.states.Client.{Client}
-use Rattle.smtp_session.specs.Machine.{Readings, State, Step, step, end_by}
-use Rattle.smtp_session.specs.Session.{IsName, IsFit, AreFit}
+use Rattle.smtp_session.specs.Machine.{State, Step, step, end_by}
+use Rattle.session_core.specs.Meanings.{Meanings}
+use Rattle.smtp_session.specs.Session.{IsFit, AreFit}
+use Rattle.session_core.specs.Desks.{IsName}
 use Rattle.smtp_session.proofs.SaidLines.{SaidLines, step_said}
 
 both : (b c : Bool) → b ≡ true → c ≡ true → (b && c) ≡ true
@@ -94,9 +96,9 @@ ascii-lines store named = record {
 }
 
 -- of each command, in each state
-pub step_fit : (readings : Readings) (state : State) (store : StoreState) (verb : Verb) (argument : List ℕ) → IsName (name_of store.kept)
-    → AreFit (step readings state store verb argument).reply
-step_fit readings state store verb argument named = step_said IsFit readings state store verb argument (ascii-lines store named)
+pub step_fit : (meanings : Meanings) (state : State) (store : StoreState) (verb : Verb) (argument : List ℕ) → IsName (name_of store.kept)
+    → AreFit (step meanings state store verb argument).reply
+step_fit meanings state store verb argument named = step_said IsFit meanings state store verb argument (ascii-lines store named)
 
 -- one of four steps by three tests
 end_fit : (large is_message refused : Bool) (a b c d : Step) → AreFit a.reply → AreFit b.reply → AreFit c.reply → AreFit d.reply

@@ -22,8 +22,9 @@ use Rattle.mail_store.proofs.DeliveryLemmas.{after-copies}
 use Rattle.smtp_session.specs.declared.states.Client.{Client}
 use Rattle.smtp_session.specs.declared.states.Envelope.{Envelope}
 use Rattle.smtp_session.specs.Intake.{AreRecipients, HasOneMore, IsKeptOnce, acceptance, entries_for, kept_after, messages_in}
-use Rattle.smtp_session.specs.Machine.{Readings, Step, delivery_of, end_by, end_data, greeted, is_same_remote}
-use Rattle.smtp_session.specs.Trace.{Moment}
+use Rattle.smtp_session.specs.Machine.{Step, delivery_of, end_by, end_data, greeted, is_same_remote}
+use Rattle.session_core.specs.Meanings.{Meanings}
+use Rattle.session_core.specs.Moments.{Moment}
 use Rattle.smtp_session.proofs.RowLemmas.{not_zero}
 
 -- ---- each account has an INBOX of its own
@@ -304,18 +305,18 @@ delivered_once kept delivery envelope local remote have are =
 
 -- ---- the law
 
-pub accepted_kept_once : (readings : Readings) (store : StoreState) (client : Client) (envelope : Envelope) (moment : Moment) (octets : List ℕ)
-    → IsFold store.kept → AreRecipients store.kept envelope → (end_data readings store client envelope moment octets).reply ≡ acceptance
-    → IsKeptOnce store.kept (kept_after store (end_data readings store client envelope moment octets)) (delivery_of store client envelope moment octets)
-accepted_kept_once readings store client envelope moment octets fold are accepted =
+pub accepted_kept_once : (meanings : Meanings) (store : StoreState) (client : Client) (envelope : Envelope) (moment : Moment) (octets : List ℕ)
+    → IsFold store.kept → AreRecipients store.kept envelope → (end_data meanings store client envelope moment octets).reply ≡ acceptance
+    → IsKeptOnce store.kept (kept_after store (end_data meanings store client envelope moment octets)) (delivery_of store client envelope moment octets)
+accepted_kept_once meanings store client envelope moment octets fold are accepted =
     let delivery = delivery_of store client envelope moment octets in
-    let made = accepted_is (readings.has_tree octets) store client delivery accepted in
+    let made = accepted_is (meanings.has_tree octets) store client delivery accepted in
     rw made (rw (append-nil (delivered store.kept delivery)) (delivered_once store.kept delivery envelope refl refl (have_inboxes store.kept fold) are))
 
-pub refused_kept_none : (readings : Readings) (store : StoreState) (client : Client) (envelope : Envelope) (moment : Moment) (octets : List ℕ)
-    → (end_data readings store client envelope moment octets).reply ≢ acceptance → (end_data readings store client envelope moment octets).changes ≡ []
-refused_kept_none readings store client envelope moment octets = refused_is (readings.has_tree octets) store client (delivery_of store client envelope moment octets)
+pub refused_kept_none : (meanings : Meanings) (store : StoreState) (client : Client) (envelope : Envelope) (moment : Moment) (octets : List ℕ)
+    → (end_data meanings store client envelope moment octets).reply ≢ acceptance → (end_data meanings store client envelope moment octets).changes ≡ []
+refused_kept_none meanings store client envelope moment octets = refused_is (meanings.has_tree octets) store client (delivery_of store client envelope moment octets)
 
-pub data_forget : (readings : Readings) (store : StoreState) (client : Client) (envelope : Envelope) (moment : Moment) (octets : List ℕ)
-    → (end_data readings store client envelope moment octets).state ≡ greeted client
-data_forget readings store client envelope moment octets = left_is (readings.has_tree octets) store client (delivery_of store client envelope moment octets)
+pub data_forget : (meanings : Meanings) (store : StoreState) (client : Client) (envelope : Envelope) (moment : Moment) (octets : List ℕ)
+    → (end_data meanings store client envelope moment octets).state ≡ greeted client
+data_forget meanings store client envelope moment octets = left_is (meanings.has_tree octets) store client (delivery_of store client envelope moment octets)

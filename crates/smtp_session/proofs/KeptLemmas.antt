@@ -31,8 +31,10 @@ use Rattle.journal_records.specs.Stored.{IsStored}
 use Rattle.mail_store.specs.StoreState.{StoreState}
 use Rattle.smtp_grammar.specs.Commands.{is_client, is_client_octet}
 use Rattle.smtp_session.specs.Machine.{delivery_of, trace}
-use Rattle.smtp_session.specs.Session.{IsName, Knows}
-use Rattle.smtp_session.specs.Trace.{Moment, IsMoment, protocol, received, return_path}
+use Rattle.smtp_session.specs.Session.{Knows}
+use Rattle.session_core.specs.Desks.{IsName}
+use Rattle.smtp_session.specs.Trace.{protocol, received, return_path}
+use Rattle.session_core.specs.Moments.{Moment, IsMoment}
 use Rattle.smtp_session.specs.declared.states.Client.{Client}
 use Rattle.smtp_session.specs.declared.states.Envelope.{Envelope}
 

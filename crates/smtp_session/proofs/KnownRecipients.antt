@@ -15,7 +15,8 @@ use Rattle.smtp_grammar.specs.Commands.{announced, are_malformed, is_client, is_
 use Rattle.smtp_session.specs.declared.states.Client.{Client}
 use Rattle.smtp_session.specs.declared.states.Envelope.{Envelope}
 use Rattle.smtp_session.specs.Intake.{AreRecipients, KnowsRecipients}
-use Rattle.smtp_session.specs.Machine.{Readings, State, Step, alone, collecting, data_step, ended, envelope_of, fresh, greeted, is_same_remote, lacks_smtputf8, mail, mail_by, mail_step, mail_to, path_read, rcpt_local, rcpt_remote, rcpt_step, rcpt_to, recipient_count, reset, step, with_room, words_behind}
+use Rattle.smtp_session.specs.Machine.{State, Step, alone, collecting, data_step, ended, envelope_of, fresh, greeted, is_same_remote, lacks_smtputf8, mail, mail_by, mail_step, mail_to, path_read, rcpt_local, rcpt_remote, rcpt_step, rcpt_to, recipient_count, reset, step, with_room, words_behind}
+use Rattle.session_core.specs.Meanings.{Meanings}
 
 -- ---- one more recipient
 
@@ -75,22 +76,22 @@ remote-known kept client envelope address known =
       remote = distinct_push is_same_remote envelope.remote address known.remote new;
     })
 
-rcpt_to-known : (readings : Readings) (client : Client) (envelope : Envelope) (store : StoreState) (path : Option (Option Address)) → AreRecipients store.kept envelope
-    → KnowsRecipients store.kept (rcpt_to readings client envelope store path).state
-rcpt_to-known readings client envelope store None known = known
-rcpt_to-known readings client envelope store (Some None) known = known
-rcpt_to-known readings client envelope store (Some (Some address)) known =
+rcpt_to-known : (meanings : Meanings) (client : Client) (envelope : Envelope) (store : StoreState) (path : Option (Option Address)) → AreRecipients store.kept envelope
+    → KnowsRecipients store.kept (rcpt_to meanings client envelope store path).state
+rcpt_to-known meanings client envelope store None known = known
+rcpt_to-known meanings client envelope store (Some None) known = known
+rcpt_to-known meanings client envelope store (Some (Some address)) known =
     let P : Step → Type 0 = λ taken. KnowsRecipients store.kept taken.state in
     cond_both (lacks_smtputf8 envelope.smtputf8 (Some address)) _ _ P (λ lacks. known) (λ has. cond_both (is_local store.kept address.domain) _ _ P
-    (λ here. local-known store.kept client envelope (find_account readings.path_of store.kept address) known (found_there readings.path_of store.kept address))
+    (λ here. local-known store.kept client envelope (find_account meanings.path_of store.kept address) known (found_there meanings.path_of store.kept address))
     (λ elsewhere. remote-known store.kept client envelope address known))
 
-rcpt-known : (readings : Readings) (state : State) (store : StoreState) (argument : List ℕ) → KnowsRecipients store.kept state → KnowsRecipients store.kept (rcpt_step readings state store argument).state
-rcpt-known readings (mail client envelope) store argument known = rcpt_to-known readings client envelope store (path_read readings (alone (path_behind (codes "TO:") argument))) known
-rcpt-known readings fresh store argument known = tt
-rcpt-known readings (greeted client) store argument known = tt
-rcpt-known readings (collecting client envelope) store argument known = known
-rcpt-known readings ended store argument known = tt
+rcpt-known : (meanings : Meanings) (state : State) (store : StoreState) (argument : List ℕ) → KnowsRecipients store.kept state → KnowsRecipients store.kept (rcpt_step meanings state store argument).state
+rcpt-known meanings (mail client envelope) store argument known = rcpt_to-known meanings client envelope store (path_read meanings (alone (path_behind (codes "TO:") argument))) known
+rcpt-known meanings fresh store argument known = tt
+rcpt-known meanings (greeted client) store argument known = tt
+rcpt-known meanings (collecting client envelope) store argument known = known
+rcpt-known meanings ended store argument known = tt
 
 -- ---- MAIL
 
@@ -111,14 +112,14 @@ mail_by-known : (kept : Kept) (client : Client) (store : StoreState) (path : Opt
 mail_by-known kept client store None words = tt
 mail_by-known kept client store (Some path) words = mail_to-known kept client store (list_any (λ word. is_smtputf8 (parameter_of word)) words) path words
 
-mail-known : (readings : Readings) (state : State) (store : StoreState) (argument : List ℕ) → KnowsRecipients store.kept state → KnowsRecipients store.kept (mail_step readings state store argument).state
-mail-known readings (greeted client) store argument known =
+mail-known : (meanings : Meanings) (state : State) (store : StoreState) (argument : List ℕ) → KnowsRecipients store.kept state → KnowsRecipients store.kept (mail_step meanings state store argument).state
+mail-known meanings (greeted client) store argument known =
     let given = path_behind (codes "FROM:") argument in
-    mail_by-known store.kept client store (path_read readings given) (words_behind given)
-mail-known readings fresh store argument known = tt
-mail-known readings (mail client envelope) store argument known = known
-mail-known readings (collecting client envelope) store argument known = known
-mail-known readings ended store argument known = tt
+    mail_by-known store.kept client store (path_read meanings given) (words_behind given)
+mail-known meanings fresh store argument known = tt
+mail-known meanings (mail client envelope) store argument known = known
+mail-known meanings (collecting client envelope) store argument known = known
+mail-known meanings ended store argument known = tt
 
 -- ---- the other commands
 
@@ -143,16 +144,16 @@ greeting-known : (kept : Kept) (test : Bool) (a b : Step) → KnowsRecipients ke
 greeting-known kept test a b first second = cond_both test a b (λ taken. KnowsRecipients kept taken.state) (λ is. first) (λ other. second)
 
 -- each command leaves them so
-pub step-recipients : (readings : Readings) (state : State) (store : StoreState) (word : Verb) (argument : List ℕ) → KnowsRecipients store.kept state
-    → KnowsRecipients store.kept (step readings state store word argument).state
+pub step-recipients : (meanings : Meanings) (state : State) (store : StoreState) (word : Verb) (argument : List ℕ) → KnowsRecipients store.kept state
+    → KnowsRecipients store.kept (step meanings state store word argument).state
 unfolding step
-step-recipients readings state store verb.Ehlo argument known = greeting-known store.kept (is_client argument) _ _ tt known
-step-recipients readings state store verb.Helo argument known = greeting-known store.kept (is_client argument) _ _ tt known
-step-recipients readings state store verb.Mail argument known = mail-known readings state store argument known
-step-recipients readings state store verb.Rcpt argument known = rcpt-known readings state store argument known
-step-recipients readings state store verb.Data argument known = data-known store.kept state known
-step-recipients readings state store verb.Rset argument known = reset-known store.kept state known
-step-recipients readings state store verb.Noop argument known = known
-step-recipients readings state store verb.Vrfy argument known = known
-step-recipients readings state store verb.Quit argument known = tt
-step-recipients readings state store verb.Other argument known = known
+step-recipients meanings state store verb.Ehlo argument known = greeting-known store.kept (is_client argument) _ _ tt known
+step-recipients meanings state store verb.Helo argument known = greeting-known store.kept (is_client argument) _ _ tt known
+step-recipients meanings state store verb.Mail argument known = mail-known meanings state store argument known
+step-recipients meanings state store verb.Rcpt argument known = rcpt-known meanings state store argument known
+step-recipients meanings state store verb.Data argument known = data-known store.kept state known
+step-recipients meanings state store verb.Rset argument known = reset-known store.kept state known
+step-recipients meanings state store verb.Noop argument known = known
+step-recipients meanings state store verb.Vrfy argument known = known
+step-recipients meanings state store verb.Quit argument known = tt
+step-recipients meanings state store verb.Other argument known = known

@@ -31,9 +31,11 @@ use Rattle.smtp_session.specs.declared.states.Data.{Data}
 use Rattle.smtp_session.specs.declared.states.Smtp.{Smtp}
 use Rattle.smtp_session.specs.declared.states.SmtpState.{SmtpState}
 use Rattle.smtp_session.specs.declared.states.SmtpState.TheVariants as smtp
-use Rattle.smtp_session.specs.Machine.{Readings, State, ended, Step, acts_in, step}
-use Rattle.smtp_session.specs.Session.{HasRestIn, IsFit, IsName, IsTold, IsUnfinished, KnowsState, Machine, ReadsLines, WithReadings, after_step, line_octets, line_too_long, line_turn, next_turn, reply_octets, state_of, state_or_ended, turns_of}
-use Rattle.smtp_session.specs.Trace.{Moment}
+use Rattle.smtp_session.specs.Machine.{State, ended, Step, acts_in, step}
+use Rattle.session_core.specs.Meanings.{Meanings, WithMeanings}
+use Rattle.smtp_session.specs.Session.{HasRestIn, IsFit, IsUnfinished, KnowsState, Machine, ReadsLines, after_step, line_octets, line_too_long, line_turn, next_turn, reply_octets, state_of, state_or_ended, turns_of}
+use Rattle.session_core.specs.Desks.{IsName}
+use Rattle.session_core.specs.Moments.{IsTold, Moment}
 use Rattle.smtp_session.specs.private.Steps.{HasRestAfter, Steps}
 use Rattle.smtp_session.proofs.FeedLemmas.{err_is, machine_at, next_turn-framed, store_behind, waiting-nil}
 use Rattle.smtp_session.proofs.FitLemmas.{step_fit}
@@ -86,13 +88,13 @@ found_waiting found slice kept rest framed is same = rw (← same) (framed ∙ a
 -- ---- the turn of a line
 
 -- in a state that reads lines
-reads : (readings : Readings) (state : SmtpState) (store : StoreState) (moments : List Moment) (octets : List ℕ) → ReadsLines (state_of state)
-    → next_turn readings (machine_at state store moments) octets ≡ line_turn readings (machine_at state store moments) (next_line octets)
+reads : (meanings : Meanings) (state : SmtpState) (store : StoreState) (moments : List Moment) (octets : List ℕ) → ReadsLines (state_of state)
+    → next_turn meanings (machine_at state store moments) octets ≡ line_turn meanings (machine_at state store moments) (next_line octets)
 unfolding next_turn
-reads readings (smtp.Fresh s) store moments octets lines = refl
-reads readings (smtp.Greeted s) store moments octets lines = refl
-reads readings (smtp.Mail s) store moments octets lines = refl
-reads readings (smtp.Data s) store moments octets lines = absurd lines
+reads meanings (smtp.Fresh s) store moments octets lines = refl
+reads meanings (smtp.Greeted s) store moments octets lines = refl
+reads meanings (smtp.Mail s) store moments octets lines = refl
+reads meanings (smtp.Data s) store moments octets lines = absurd lines
 
 -- the rest of a state that reads lines is what is kept
 rest_is : (state : SmtpState) (message_max : ℕ) (kept rest : List ℕ) → ReadsLines (state_of state) → HasRestIn state message_max kept rest → rest ≡ kept
@@ -123,48 +125,48 @@ unfinished_in (smtp.Mail s) kept lines waits = waits
 unfinished_in (smtp.Data s) kept lines waits = absurd lines
 
 -- what a line brings
-abbrev pub stepped : Readings → SmtpState → StoreState → List ℕ → Step
-stepped readings state store line = step readings (state_of state) store (command_of line).verb (command_of line).argument
+abbrev pub stepped : Meanings → SmtpState → StoreState → List ℕ → Step
+stepped meanings state store line = step meanings (state_of state) store (command_of line).verb (command_of line).argument
 
-turns_of-line : (readings : Readings) (state : SmtpState) (store : StoreState) (moments : List Moment) (octets line rest : List ℕ) → ReadsLines (state_of state) → next_line octets ≡ whole line rest
-    → turns_of readings (machine_at state store moments) octets
-    ≡ behind (acts_in (stepped readings state store line)) (turns_of readings (after_step store moments (stepped readings state store line)) rest)
-turns_of-line readings state store moments octets line rest lines is =
-    all_turns-go (next_turn readings) (next_turn-framed readings) (machine_at state store moments) octets _
-    (reads readings state store moments octets lines ∙ ap (line_turn readings (machine_at state store moments)) is)
+turns_of-line : (meanings : Meanings) (state : SmtpState) (store : StoreState) (moments : List Moment) (octets line rest : List ℕ) → ReadsLines (state_of state) → next_line octets ≡ whole line rest
+    → turns_of meanings (machine_at state store moments) octets
+    ≡ behind (acts_in (stepped meanings state store line)) (turns_of meanings (after_step store moments (stepped meanings state store line)) rest)
+turns_of-line meanings state store moments octets line rest lines is =
+    all_turns-go (next_turn meanings) (next_turn-framed meanings) (machine_at state store moments) octets _
+    (reads meanings state store moments octets lines ∙ ap (line_turn meanings (machine_at state store moments)) is)
 
-turns_of-long : (readings : Readings) (state : SmtpState) (store : StoreState) (moments : List Moment) (octets rest : List ℕ) → ReadsLines (state_of state) → next_line octets ≡ too_long rest
-    → turns_of readings (machine_at state store moments) octets ≡ behind (acts_of [] line_too_long) (turns_of readings (record { state = ended; store = store; moments = moments }) rest)
-turns_of-long readings state store moments octets rest lines is =
-    all_turns-go (next_turn readings) (next_turn-framed readings) (machine_at state store moments) octets _
-    (reads readings state store moments octets lines ∙ ap (line_turn readings (machine_at state store moments)) is)
+turns_of-long : (meanings : Meanings) (state : SmtpState) (store : StoreState) (moments : List Moment) (octets rest : List ℕ) → ReadsLines (state_of state) → next_line octets ≡ too_long rest
+    → turns_of meanings (machine_at state store moments) octets ≡ behind (acts_of [] line_too_long) (turns_of meanings (record { state = ended; store = store; moments = moments }) rest)
+turns_of-long meanings state store moments octets rest lines is =
+    all_turns-go (next_turn meanings) (next_turn-framed meanings) (machine_at state store moments) octets _
+    (reads meanings state store moments octets lines ∙ ap (line_turn meanings (machine_at state store moments)) is)
 
 -- ---- steps
 
 -- a whole line whose step was carried out
 pub Steps-line : (reading : Option ℕ) (a b : Telling) (store : StoreState) (had : Option (List ℕ)) (state : SmtpState) (kept keeps piece line : List ℕ) (n : ℕ) (next : Option SmtpState)
     → ReadsLines (state_of state) → IsName (name_of store.kept) → next_line (kept ++ piece) ≡ whole line (drop n piece)
-    → WithReadings (λ readings. Does line_octets a b store store had had (Ok next) (acts_in (stepped readings state store line)))
-    → WithReadings (λ readings. state_or_ended next ≡ (stepped readings state store line).state) → HasRestAfter next store.message_max keeps []
+    → WithMeanings (λ meanings. Does line_octets a b store store had had (Ok next) (acts_in (stepped meanings state store line)))
+    → WithMeanings (λ meanings. state_or_ended next ≡ (stepped meanings state store line).state) → HasRestAfter next store.message_max keeps []
     → Steps reading a b store store had had state kept keeps piece (Ok (record { next = next; used = n }))
 Steps-line reading a b store had state kept keeps piece line n next lines named is does next_is has = record {
   moments = [];
   told = All-nil (IsTold reading);
-  steps = λ readings are rest at more.
-      let taken = stepped readings state store line in
+  steps = λ meanings are rest at more.
+      let taken = stepped meanings state store line in
       let command = command_of line in
-      let done = does readings are in
+      let done = does meanings are in
       record {
         acts = acts_in taken;
-        turn = turns_of readings (after_step store more taken) (drop n piece);
-        turns_are = rw (rest_is state store.message_max kept rest lines at) (turns_of-line readings state store more (kept ++ piece) line (drop n piece) lines is);
+        turn = turns_of meanings (after_step store more taken) (drop n piece);
+        turns_are = rw (rest_is state store.message_max kept rest lines at) (turns_of-line meanings state store more (kept ++ piece) line (drop n piece) lines is);
         does = Does-ok line_octets a b store store had had next _ (acts_in taken) done;
-        fit = fit_acts IsFit taken.changes taken.reply (step_fit readings (state_of state) store command.verb command.argument named);
+        fit = fit_acts IsFit taken.changes taken.reply (step_fit meanings (state_of state) store command.verb command.argument named);
         stands = record {
           rest = [];
           has = has;
-          turn_is = ap (λ (s : State). turns_of readings (record { state = s; store = (after_step store more taken).store; moments = more }) (drop n piece)) (sym (next_is readings are))
-              ∙ ap (λ (s : StoreState). turns_of readings (record { state = state_or_ended next; store = s; moments = more }) (drop n piece)) (store_behind a b store store had had next taken done);
+          turn_is = ap (λ (s : State). turns_of meanings (record { state = s; store = (after_step store more taken).store; moments = more }) (drop n piece)) (sym (next_is meanings are))
+              ∙ ap (λ (s : StoreState). turns_of meanings (record { state = state_or_ended next; store = s; moments = more }) (drop n piece)) (store_behind a b store store had had next taken done);
         };
       };
 }
@@ -172,18 +174,18 @@ Steps-line reading a b store had state kept keeps piece line n next lines named 
 -- a whole line in whose step a fault was met
 pub Steps-line_fails : (reading : Option ℕ) (a b : Telling) (store : StoreState) (had : Option (List ℕ)) (state : SmtpState) (kept keeps piece line : List ℕ) (n : ℕ) (met : Fault)
     → ReadsLines (state_of state) → next_line (kept ++ piece) ≡ whole line (drop n piece)
-    → WithReadings (λ readings. Does {T = Option SmtpState} line_octets a b store store had had (Err met) (acts_in (stepped readings state store line)))
+    → WithMeanings (λ meanings. Does {T = Option SmtpState} line_octets a b store store had had (Err met) (acts_in (stepped meanings state store line)))
     → Steps reading a b store store had had state kept keeps piece (Err met)
 Steps-line_fails reading a b store had state kept keeps piece line n met lines is does = record {
   moments = [];
   told = All-nil (IsTold reading);
-  steps = λ readings are rest at more.
-      let taken = stepped readings state store line in
+  steps = λ meanings are rest at more.
+      let taken = stepped meanings state store line in
       record {
         acts = acts_in taken;
-        turn = turns_of readings (after_step store more taken) (drop n piece);
-        turns_are = rw (rest_is state store.message_max kept rest lines at) (turns_of-line readings state store more (kept ++ piece) line (drop n piece) lines is);
-        does = Does-err (Option SmtpState) Came line_octets a b store store had had met (acts_in taken) (does readings are);
+        turn = turns_of meanings (after_step store more taken) (drop n piece);
+        turns_are = rw (rest_is state store.message_max kept rest lines at) (turns_of-line meanings state store more (kept ++ piece) line (drop n piece) lines is);
+        does = Does-err (Option SmtpState) Came line_octets a b store store had had met (acts_in taken) (does meanings are);
         fit = tt;
         stands = tt;
       };
@@ -196,15 +198,15 @@ pub Steps-long : (reading : Option ℕ) (a b : Telling) (store : StoreState) (ha
 Steps-long reading a b store had state kept keeps piece over lines is gives = record {
   moments = [];
   told = All-nil (IsTold reading);
-  steps = λ readings are rest at more.
+  steps = λ meanings are rest at more.
       let last : Machine = record { state = ended; store = store; moments = more } in
       record {
         acts = acts_of [] line_too_long;
-        turn = turns_of readings last over;
-        turns_are = rw (rest_is state store.message_max kept rest lines at) (turns_of-long readings state store more (kept ++ piece) over lines is);
+        turn = turns_of meanings last over;
+        turns_are = rw (rest_is state store.message_max kept rest lines at) (turns_of-long meanings state store more (kept ++ piece) over lines is);
         does = Does-reply line_octets a b store had (Ok _) [] line_too_long refl gives (λ bad. cc);
         fit = (refl, tt);
-        stands = record { rest = over; has = tt; turn_is = ap (turns_of readings last) (sym (append-nil over) ∙ ap (λ l. over ++ l) (sym (drop-length piece))) };
+        stands = record { rest = over; has = tt; turn_is = ap (turns_of meanings last) (sym (append-nil over) ∙ ap (λ l. over ++ l) (sym (drop-length piece))) };
       };
 }
 
@@ -215,12 +217,12 @@ pub Steps-long_fails : (reading : Option ℕ) (a b : Telling) (store : StoreStat
 Steps-long_fails reading a b store had state kept keeps piece over met lines is fine gives = record {
   moments = [];
   told = All-nil (IsTold reading);
-  steps = λ readings are rest at more.
+  steps = λ meanings are rest at more.
       let last : Machine = record { state = ended; store = store; moments = more } in
       record {
         acts = acts_of [] line_too_long;
-        turn = turns_of readings last over;
-        turns_are = rw (rest_is state store.message_max kept rest lines at) (turns_of-long readings state store more (kept ++ piece) over lines is);
+        turn = turns_of meanings last over;
+        turns_are = rw (rest_is state store.message_max kept rest lines at) (turns_of-long meanings state store more (kept ++ piece) over lines is);
         does = Does-reply {T = Came} line_octets a b store had (Err met) [] line_too_long refl gives (λ bad. fine (err_is bad));
         fit = tt;
         stands = tt;
@@ -233,9 +235,9 @@ pub Steps-wait : (reading : Option ℕ) (a : Telling) (store : StoreState) (had 
 Steps-wait reading a store had state kept piece lines = record {
   moments = [];
   told = All-nil (IsTold reading);
-  steps = λ readings are rest at more. record {
+  steps = λ meanings are rest at more. record {
     acts = [];
-    turn = turns_of readings (machine_at state store more) (rest ++ piece);
+    turn = turns_of meanings (machine_at state store more) (rest ++ piece);
     turns_are = refl;
     does = record { given = []; gives = Gives-nil a; done = (refl, Follows-nil store had) };
     fit = tt;
@@ -243,7 +245,7 @@ Steps-wait reading a store had state kept piece lines = record {
       rest = kept ++ piece;
       has = has_more state store.message_max (kept ++ piece) lines;
       turn_is = rw (rest_is state store.message_max kept rest lines at)
-          (ap (turns_of readings (machine_at state store more)) (sym (append-nil (kept ++ piece)) ∙ ap (λ l. (kept ++ piece) ++ l) (sym (drop-length piece))));
+          (ap (turns_of meanings (machine_at state store more)) (sym (append-nil (kept ++ piece)) ∙ ap (λ l. (kept ++ piece) ++ l) (sym (drop-length piece))));
     };
   };
 }
@@ -276,24 +278,24 @@ known_by store next state is known = subst (λ (o : Option SmtpState). KnowsStat
 
 -- what is done of a line's step is done of it where it is kept
 of_line : {T : Type 0} (a b : Telling) (store : StoreState) (had : Option (List ℕ)) (result : Result T Fault) (state : SmtpState) (line kept : List ℕ) → line ≡ kept
-    → WithReadings (λ readings. Does line_octets a b store store had had result (acts_in (stepped readings state store line)))
-    → WithReadings (λ readings. Does line_octets a b store store had had result (acts_in (stepped readings state store kept)))
+    → WithMeanings (λ meanings. Does line_octets a b store store had had result (acts_in (stepped meanings state store line)))
+    → WithMeanings (λ meanings. Does line_octets a b store store had had result (acts_in (stepped meanings state store kept)))
 of_line a b store had result state line kept same does =
-    subst (λ (l : List ℕ). WithReadings (λ readings. Does line_octets a b store store had had result (acts_in (stepped readings state store l)))) same does
+    subst (λ (l : List ℕ). WithMeanings (λ meanings. Does line_octets a b store store had had result (acts_in (stepped meanings state store l)))) same does
 
 -- its reply was given, or a prefix of it
 pub Does-answered : {T : Type 0} (a b : Telling) (store : StoreState) (had : Option (List ℕ)) (result : Result T Fault) (state : SmtpState) (line kept octets : List ℕ) → line ≡ kept
-    → WithReadings (λ readings. octets ≡ reply_octets (stepped readings state store line).reply) → GivesOrFails a b result octets → (result ≡ Err fault.Keeper → ⊥)
-    → WithReadings (λ readings. Does line_octets a b store store had had result (acts_in (stepped readings state store kept)))
-Does-answered a b store had result state line kept octets same reply gives fine = of_line a b store had result state line kept same (λ readings are.
-    let taken = stepped readings state store line in
+    → WithMeanings (λ meanings. octets ≡ reply_octets (stepped meanings state store line).reply) → GivesOrFails a b result octets → (result ≡ Err fault.Keeper → ⊥)
+    → WithMeanings (λ meanings. Does line_octets a b store store had had result (acts_in (stepped meanings state store kept)))
+Does-answered a b store had result state line kept octets same reply gives fine = of_line a b store had result state line kept same (λ meanings are.
+    let taken = stepped meanings state store line in
     let command = command_of line in
-    Does-reply line_octets a b store had result taken.changes taken.reply (step-changes readings (state_of state) store command.verb command.argument)
-    (subst (GivesOrFails a b result) (reply readings are) gives) fine)
+    Does-reply line_octets a b store had result taken.changes taken.reply (step-changes meanings (state_of state) store command.verb command.argument)
+    (subst (GivesOrFails a b result) (reply meanings are) gives) fine)
 
 -- its reply was given, and then memory was wanting
 pub Does-wanting : {T : Type 0} (a b : Telling) (store : StoreState) (had : Option (List ℕ)) (state : SmtpState) (line kept octets : List ℕ) → line ≡ kept
-    → WithReadings (λ readings. octets ≡ reply_octets (stepped readings state store line).reply) → Gives a b octets
-    → WithReadings (λ readings. Does {T = T} line_octets a b store store had had (Err fault.Memory) (acts_in (stepped readings state store kept)))
+    → WithMeanings (λ meanings. octets ≡ reply_octets (stepped meanings state store line).reply) → Gives a b octets
+    → WithMeanings (λ meanings. Does {T = T} line_octets a b store store had had (Err fault.Memory) (acts_in (stepped meanings state store kept)))
 Does-wanting {T = T} a b store had state line kept octets same reply gives =
     Does-answered {T = T} a b store had (Err fault.Memory) state line kept octets same reply (rw (append-nil octets) at (GivesPrefix-so_far a b octets [] gives)) (λ bad. cc)

@@ -17,7 +17,8 @@ use Rattle.smtp_session.specs.declared.rows.Reply.{Reply}
 use Rattle.smtp_session.specs.declared.states.Client.{Client}
 use Rattle.smtp_session.specs.declared.states.Envelope.{Envelope}
 use Rattle.smtp_session.specs.declared.states.SmtpState.{SmtpState}
-use Rattle.smtp_session.specs.Machine.{Readings, State, Step, alone, collecting, data_step, ended, fresh, greeted, is_same_remote, lacks_smtputf8, mail, mail_by, mail_step, mail_to, path_read, rcpt_local, rcpt_remote, rcpt_step, rcpt_to, recipient_count, step, with_room, words_behind}
+use Rattle.smtp_session.specs.Machine.{State, Step, alone, collecting, data_step, ended, fresh, greeted, is_same_remote, lacks_smtputf8, mail, mail_by, mail_step, mail_to, path_read, rcpt_local, rcpt_remote, rcpt_step, rcpt_to, recipient_count, step, with_room, words_behind}
+use Rattle.session_core.specs.Meanings.{Meanings}
 use Rattle.smtp_session.specs.Session.{KnowsState, reply_octets, state_of, state_or_ended}
 
 pub not_zero : (n : ℕ) → (suc n == 0) ≡ false
@@ -83,14 +84,14 @@ mail_by-changes : (client : Client) (store : StoreState) (path : Option (Option 
 mail_by-changes client store None words = refl
 mail_by-changes client store (Some path) words = mail_to-changes client store (list_any (λ word. is_smtputf8 (parameter_of word)) words) path words
 
-mail_step-changes : (readings : Readings) (state : State) (store : StoreState) (argument : List ℕ) → (mail_step readings state store argument).changes ≡ []
-mail_step-changes readings (greeted client) store argument =
+mail_step-changes : (meanings : Meanings) (state : State) (store : StoreState) (argument : List ℕ) → (mail_step meanings state store argument).changes ≡ []
+mail_step-changes meanings (greeted client) store argument =
     let given = path_behind (codes "FROM:") argument in
-    mail_by-changes client store (path_read readings given) (words_behind given)
-mail_step-changes readings fresh store argument = refl
-mail_step-changes readings (mail client envelope) store argument = refl
-mail_step-changes readings (collecting client envelope) store argument = refl
-mail_step-changes readings ended store argument = refl
+    mail_by-changes client store (path_read meanings given) (words_behind given)
+mail_step-changes meanings fresh store argument = refl
+mail_step-changes meanings (mail client envelope) store argument = refl
+mail_step-changes meanings (collecting client envelope) store argument = refl
+mail_step-changes meanings ended store argument = refl
 
 with_room-changes : (there : Bool) (client : Client) (envelope with_one : Envelope) → (with_room there client envelope with_one).changes ≡ []
 with_room-changes there client envelope with_one = either there _ _ refl (either (nat_lt (recipient_count envelope) RECIPIENTS_MAX) _ _ refl refl)
@@ -104,19 +105,19 @@ rcpt_remote-changes : (client : Client) (envelope : Envelope) (address : Address
 rcpt_remote-changes client envelope address =
     with_room-changes (list_any (λ other. is_same_remote other address) envelope.remote) client envelope (record envelope { remote = envelope.remote ++ address ∷ [] })
 
-rcpt_to-changes : (readings : Readings) (client : Client) (envelope : Envelope) (store : StoreState) (path : Option (Option Address)) → (rcpt_to readings client envelope store path).changes ≡ []
-rcpt_to-changes readings client envelope store None = refl
-rcpt_to-changes readings client envelope store (Some None) = refl
-rcpt_to-changes readings client envelope store (Some (Some address)) =
+rcpt_to-changes : (meanings : Meanings) (client : Client) (envelope : Envelope) (store : StoreState) (path : Option (Option Address)) → (rcpt_to meanings client envelope store path).changes ≡ []
+rcpt_to-changes meanings client envelope store None = refl
+rcpt_to-changes meanings client envelope store (Some None) = refl
+rcpt_to-changes meanings client envelope store (Some (Some address)) =
     either (lacks_smtputf8 envelope.smtputf8 (Some address)) _ _ refl (either (is_local store.kept address.domain) _ _
-    (rcpt_local-changes client envelope (find_account readings.path_of store.kept address)) (rcpt_remote-changes client envelope address))
+    (rcpt_local-changes client envelope (find_account meanings.path_of store.kept address)) (rcpt_remote-changes client envelope address))
 
-rcpt_step-changes : (readings : Readings) (state : State) (store : StoreState) (argument : List ℕ) → (rcpt_step readings state store argument).changes ≡ []
-rcpt_step-changes readings (mail client envelope) store argument = rcpt_to-changes readings client envelope store (path_read readings (alone (path_behind (codes "TO:") argument)))
-rcpt_step-changes readings fresh store argument = refl
-rcpt_step-changes readings (greeted client) store argument = refl
-rcpt_step-changes readings (collecting client envelope) store argument = refl
-rcpt_step-changes readings ended store argument = refl
+rcpt_step-changes : (meanings : Meanings) (state : State) (store : StoreState) (argument : List ℕ) → (rcpt_step meanings state store argument).changes ≡ []
+rcpt_step-changes meanings (mail client envelope) store argument = rcpt_to-changes meanings client envelope store (path_read meanings (alone (path_behind (codes "TO:") argument)))
+rcpt_step-changes meanings fresh store argument = refl
+rcpt_step-changes meanings (greeted client) store argument = refl
+rcpt_step-changes meanings (collecting client envelope) store argument = refl
+rcpt_step-changes meanings ended store argument = refl
 
 data_step-changes : (state : State) → (data_step state).changes ≡ []
 data_step-changes (mail client envelope) = either (recipient_count envelope == 0) _ _ refl refl
@@ -126,15 +127,15 @@ data_step-changes (collecting client envelope) = refl
 data_step-changes ended = refl
 
 -- a command changes nothing in the store
-pub step-changes : (readings : Readings) (state : State) (store : StoreState) (word : Verb) (argument : List ℕ) → (step readings state store word argument).changes ≡ []
+pub step-changes : (meanings : Meanings) (state : State) (store : StoreState) (word : Verb) (argument : List ℕ) → (step meanings state store word argument).changes ≡ []
 unfolding step
-step-changes readings state store verb.Ehlo argument = either (is_client argument) _ _ refl refl
-step-changes readings state store verb.Helo argument = either (is_client argument) _ _ refl refl
-step-changes readings state store verb.Mail argument = mail_step-changes readings state store argument
-step-changes readings state store verb.Rcpt argument = rcpt_step-changes readings state store argument
-step-changes readings state store verb.Data argument = data_step-changes state
-step-changes readings state store verb.Rset argument = refl
-step-changes readings state store verb.Noop argument = refl
-step-changes readings state store verb.Vrfy argument = refl
-step-changes readings state store verb.Quit argument = refl
-step-changes readings state store verb.Other argument = refl
+step-changes meanings state store verb.Ehlo argument = either (is_client argument) _ _ refl refl
+step-changes meanings state store verb.Helo argument = either (is_client argument) _ _ refl refl
+step-changes meanings state store verb.Mail argument = mail_step-changes meanings state store argument
+step-changes meanings state store verb.Rcpt argument = rcpt_step-changes meanings state store argument
+step-changes meanings state store verb.Data argument = data_step-changes state
+step-changes meanings state store verb.Rset argument = refl
+step-changes meanings state store verb.Noop argument = refl
+step-changes meanings state store verb.Vrfy argument = refl
+step-changes meanings state store verb.Quit argument = refl
+step-changes meanings state store verb.Other argument = refl

@@ -24,9 +24,11 @@ use Rattle.smtp_grammar.specs.Data.{data_cut}
 use Rattle.smtp_session.specs.declared.states.Client.{Client}
 use Rattle.smtp_session.specs.declared.states.Envelope.{Envelope}
 use Rattle.smtp_session.specs.Intake.{AreRecipients, IsKeptOnce, KeepsAccepted, KnowsRecipients, Keeps, NoMore, Says, acceptance, stored_line}
-use Rattle.smtp_session.specs.Machine.{Readings, State, fresh, greeted, mail, collecting, ended, Step, acts_in, delivery_of, end_by, end_data, step}
-use Rattle.smtp_session.specs.Session.{IsName, Machine, after_step, data_turn, later, line_too_long, line_turn, next_moment, next_turn, start_of, turn_in, turns_of}
-use Rattle.smtp_session.specs.Trace.{Moment}
+use Rattle.smtp_session.specs.Machine.{State, fresh, greeted, mail, collecting, ended, Step, acts_in, delivery_of, end_by, end_data, step}
+use Rattle.session_core.specs.Meanings.{Meanings}
+use Rattle.smtp_session.specs.Session.{Machine, after_step, data_turn, later, line_too_long, line_turn, next_moment, next_turn, start_of, turn_in, turns_of}
+use Rattle.session_core.specs.Desks.{IsName}
+use Rattle.session_core.specs.Moments.{Moment}
 use Rattle.smtp_session.proofs.FeedLemmas.{next_turn-framed}
 use Rattle.smtp_session.proofs.IntakeLemmas.{HaveInboxes, delivered_once, have_inboxes, inboxes_after_all}
 use Rattle.smtp_session.proofs.KnownRecipients.{step-recipients}
@@ -93,18 +95,18 @@ record IsTurn (store : StoreState) (turn : Turn Machine (Act (List ℕ))) : Type
   stays : Stays turn.after
 
 -- a command
-command_turn : (readings : Readings) (machine : Machine) (word : Verb) (argument rest : List ℕ) → Stays machine
-    → let taken = step readings machine.state machine.store word argument in
+command_turn : (meanings : Meanings) (machine : Machine) (word : Verb) (argument rest : List ℕ) → Stays machine
+    → let taken = step meanings machine.state machine.store word argument in
     IsTurn machine.store (record { parts = acts_in taken; after = after_step machine.store machine.moments taken; rest = rest })
-command_turn readings machine word argument rest stays =
-    let taken = step readings machine.state machine.store word argument in
-    let none = step-changes readings machine.state machine.store word argument in
+command_turn meanings machine word argument rest stays =
+    let taken = step meanings machine.state machine.store word argument in
+    let none = step-changes meanings machine.state machine.store word argument in
     rw none
     (record {
-      brings = Answers taken.reply (step_said IsOther readings machine.state machine.store word argument (other_lines machine.store stays.named)) refl refl;
+      brings = Answers taken.reply (step_said IsOther meanings machine.state machine.store word argument (other_lines machine.store stays.named)) refl refl;
       stays = record {
         inboxes = stays.inboxes;
-        recipients = step-recipients readings machine.state machine.store word argument stays.recipients;
+        recipients = step-recipients meanings machine.state machine.store word argument stays.recipients;
         named = stays.named;
       };
     })
@@ -116,12 +118,12 @@ no_turn : {turn : Turn Machine (Act (List ℕ))} → None ≡ Some turn → ⊥
 no_turn h = cc
 
 -- a line
-line_brings : (readings : Readings) (machine : Machine) (framed : Framed) (turn : Turn Machine (Act (List ℕ))) → Stays machine → line_turn readings machine framed ≡ Some turn
+line_brings : (meanings : Meanings) (machine : Machine) (framed : Framed) (turn : Turn Machine (Act (List ℕ))) → Stays machine → line_turn meanings machine framed ≡ Some turn
     → IsTurn machine.store turn
-line_brings readings machine waiting turn stays is = absurd (no_turn is)
-line_brings readings machine (whole text rest) turn stays is =
-    subst (IsTurn machine.store) (unsome is) (command_turn readings machine (command_of text).verb (command_of text).argument rest stays)
-line_brings readings machine (too_long rest) turn stays is =
+line_brings meanings machine waiting turn stays is = absurd (no_turn is)
+line_brings meanings machine (whole text rest) turn stays is =
+    subst (IsTurn machine.store) (unsome is) (command_turn meanings machine (command_of text).verb (command_of text).argument rest stays)
+line_brings meanings machine (too_long rest) turn stays is =
     subst (IsTurn machine.store) (unsome is)
     (record {
       brings = Answers line_too_long (differs_at 0 _ refl, tt) refl refl;
@@ -167,28 +169,28 @@ end_turn store client delivery envelope moments rest taken local remote have are
       stays = record { inboxes = have; recipients = tt; named = named };
     })
 
-data_brings : (readings : Readings) (machine : Machine) (client : Client) (envelope : Envelope) (found : Option Cut) (turn : Turn Machine (Act (List ℕ))) → Stays machine
-    → AreRecipients machine.store.kept envelope → option_map (data_turn readings machine client envelope) found ≡ Some turn → IsTurn machine.store turn
-data_brings readings machine client envelope None turn stays are is = absurd (no_turn is)
-data_brings readings machine client envelope (Some cut) turn stays are is =
+data_brings : (meanings : Meanings) (machine : Machine) (client : Client) (envelope : Envelope) (found : Option Cut) (turn : Turn Machine (Act (List ℕ))) → Stays machine
+    → AreRecipients machine.store.kept envelope → option_map (data_turn meanings machine client envelope) found ≡ Some turn → IsTurn machine.store turn
+data_brings meanings machine client envelope None turn stays are is = absurd (no_turn is)
+data_brings meanings machine client envelope (Some cut) turn stays are is =
     let moment = next_moment machine.moments in
     let delivery = delivery_of machine.store client envelope moment (unstuffed cut.line) in
     subst (IsTurn machine.store) (unsome is)
-    (end_turn machine.store client delivery envelope (later machine.moments) cut.rest (end_data readings machine.store client envelope moment (unstuffed cut.line)) refl refl
-    stays.inboxes are stays.named (ends_by (readings.has_tree (unstuffed cut.line)) machine.store client delivery))
+    (end_turn machine.store client delivery envelope (later machine.moments) cut.rest (end_data meanings machine.store client envelope moment (unstuffed cut.line)) refl refl
+    stays.inboxes are stays.named (ends_by (meanings.has_tree (unstuffed cut.line)) machine.store client delivery))
 
-turn_brings : (readings : Readings) (state : State) (machine : Machine) (octets : List ℕ) (turn : Turn Machine (Act (List ℕ))) → Stays machine
-    → KnowsRecipients machine.store.kept state → turn_in readings state machine octets ≡ Some turn → IsTurn machine.store turn
-turn_brings readings fresh machine octets turn stays known is = line_brings readings machine (next_line octets) turn stays is
-turn_brings readings (greeted client) machine octets turn stays known is = line_brings readings machine (next_line octets) turn stays is
-turn_brings readings (mail client envelope) machine octets turn stays known is = line_brings readings machine (next_line octets) turn stays is
-turn_brings readings (collecting client envelope) machine octets turn stays known is = data_brings readings machine client envelope (data_cut octets) turn stays known is
-turn_brings readings ended machine octets turn stays known is = absurd (no_turn is)
+turn_brings : (meanings : Meanings) (state : State) (machine : Machine) (octets : List ℕ) (turn : Turn Machine (Act (List ℕ))) → Stays machine
+    → KnowsRecipients machine.store.kept state → turn_in meanings state machine octets ≡ Some turn → IsTurn machine.store turn
+turn_brings meanings fresh machine octets turn stays known is = line_brings meanings machine (next_line octets) turn stays is
+turn_brings meanings (greeted client) machine octets turn stays known is = line_brings meanings machine (next_line octets) turn stays is
+turn_brings meanings (mail client envelope) machine octets turn stays known is = line_brings meanings machine (next_line octets) turn stays is
+turn_brings meanings (collecting client envelope) machine octets turn stays known is = data_brings meanings machine client envelope (data_cut octets) turn stays known is
+turn_brings meanings ended machine octets turn stays known is = absurd (no_turn is)
 
-next_brings : (readings : Readings) (machine : Machine) (octets : List ℕ) (turn : Turn Machine (Act (List ℕ))) → Stays machine → next_turn readings machine octets ≡ Some turn
+next_brings : (meanings : Meanings) (machine : Machine) (octets : List ℕ) (turn : Turn Machine (Act (List ℕ))) → Stays machine → next_turn meanings machine octets ≡ Some turn
     → IsTurn machine.store turn
 unfolding next_turn
-next_brings readings machine octets turn stays is = turn_brings readings machine.state machine octets turn stays stays.recipients is
+next_brings meanings machine octets turn stays is = turn_brings meanings machine.state machine octets turn stays stays.recipients is
 
 -- ---- all turns
 
@@ -206,20 +208,20 @@ behind_turn store turn more (Answers reply others parts same) keeps =
 behind_turn store turn more (Stores delivery records once parts same) keeps =
     rw parts (Keeps store delivery records more once (subst (λ (s : StoreState). KeepsAccepted s more) same keeps))
 
-turns_keep : (readings : Readings) (n : ℕ) (machine : Machine) (octets : List ℕ) → length octets ≤ n → Stays machine → (found : Option (Turn Machine (Act (List ℕ))))
-    → next_turn readings machine octets ≡ found → KeepsAccepted machine.store (all_turns (next_turn readings) machine octets).parts
-turns_keep readings n machine octets low stays None is = rw (all_turns-stop (next_turn readings) machine octets is) (NoMore machine.store)
-turns_keep readings zero machine octets low stays (Some turn) is =
-    let shorter = (next_turn-framed readings).shorter machine octets turn is in
+turns_keep : (meanings : Meanings) (n : ℕ) (machine : Machine) (octets : List ℕ) → length octets ≤ n → Stays machine → (found : Option (Turn Machine (Act (List ℕ))))
+    → next_turn meanings machine octets ≡ found → KeepsAccepted machine.store (all_turns (next_turn meanings) machine octets).parts
+turns_keep meanings n machine octets low stays None is = rw (all_turns-stop (next_turn meanings) machine octets is) (NoMore machine.store)
+turns_keep meanings zero machine octets low stays (Some turn) is =
+    let shorter = (next_turn-framed meanings).shorter machine octets turn is in
     absurd (omega (arith, shorter, low))
-turns_keep readings (suc n) machine octets low stays (Some turn) is =
-    let shorter = (next_turn-framed readings).shorter machine octets turn is in
-    let one = next_brings readings machine octets turn stays is in
-    let later = turns_keep readings n turn.after turn.rest (omega (arith, shorter, low)) one.stays (next_turn readings turn.after turn.rest) refl in
-    rw (all_turns-go (next_turn readings) (next_turn-framed readings) machine octets turn is) (behind_turn machine.store turn _ one.brings later)
+turns_keep meanings (suc n) machine octets low stays (Some turn) is =
+    let shorter = (next_turn-framed meanings).shorter machine octets turn is in
+    let one = next_brings meanings machine octets turn stays is in
+    let later = turns_keep meanings n turn.after turn.rest (omega (arith, shorter, low)) one.stays (next_turn meanings turn.after turn.rest) refl in
+    rw (all_turns-go (next_turn meanings) (next_turn-framed meanings) machine octets turn is) (behind_turn machine.store turn _ one.brings later)
 
-pub stream_kept : (readings : Readings) (store : StoreState) (moments : List Moment) (octets : List ℕ) → IsFold store.kept → IsName (name_of store.kept)
-    → KeepsAccepted store (turns_of readings (start_of store moments) octets).parts
-stream_kept readings store moments octets fold named =
+pub stream_kept : (meanings : Meanings) (store : StoreState) (moments : List Moment) (octets : List ℕ) → IsFold store.kept → IsName (name_of store.kept)
+    → KeepsAccepted store (turns_of meanings (start_of store moments) octets).parts
+stream_kept meanings store moments octets fold named =
     let start = start_of store moments in
-    turns_keep readings (length octets) start octets (omega arith) (record { inboxes = have_inboxes store.kept fold; recipients = tt; named = named }) (next_turn readings start octets) refl
+    turns_keep meanings (length octets) start octets (omega arith) (record { inboxes = have_inboxes store.kept fold; recipients = tt; named = named }) (next_turn meanings start octets) refl

@@ -23,10 +23,11 @@ use Rattle.smtp_grammar.proofs.SentLines.{sent_found, unstuffed_back}
 use Rattle.smtp_session.specs.declared.states.Client.{Client}
 use Rattle.smtp_session.specs.declared.states.Envelope.{Envelope}
 use Rattle.smtp_session.specs.Intake.{acceptance, stored_line}
-use Rattle.smtp_session.specs.Machine.{Readings, Step, TellsTrees, acts_in, collecting, delivery_of, end_by, end_data, greeted, mail, recipient_count, says, step}
+use Rattle.smtp_session.specs.Machine.{Step, acts_in, collecting, delivery_of, end_by, end_data, greeted, mail, recipient_count, says, step}
+use Rattle.session_core.specs.Meanings.{Meanings, TellsTrees}
 use Rattle.smtp_session.specs.Room.{IsWithinLimits}
 use Rattle.smtp_session.specs.Session.{Machine, after_step, data_turn, later, next_moment, next_turn, turns_of}
-use Rattle.smtp_session.specs.Trace.{Moment}
+use Rattle.session_core.specs.Moments.{Moment}
 use Rattle.smtp_session.proofs.EndLemmas.{last_of, tells_true}
 use Rattle.smtp_session.proofs.FeedLemmas.{next_turn-framed}
 
@@ -82,17 +83,17 @@ kept_by is_message store client delivery is within =
     last_of (has_large_octets store.message_max delivery) is_message (delivery_refusal store delivery) _ _ _ (keeping store client delivery) large is
     (not_refused (has_large_octets store.message_max delivery) (has_many_things store.kept delivery) large (not_many store delivery within))
 
-data_kept : (readings : Readings) (store : StoreState) (client : Client) (envelope : Envelope) (moment : Moment) (octets : List ℕ)
-    → TellsTrees readings.has_tree → IsStored octets → IsWithinLimits store (delivery_of store client envelope moment octets)
-    → end_data readings store client envelope moment octets ≡ keeping store client (delivery_of store client envelope moment octets)
-data_kept readings store client envelope moment octets tells tree within =
-    kept_by (readings.has_tree octets) store client (delivery_of store client envelope moment octets) (tells_true readings.has_tree octets tells tree) within
+data_kept : (meanings : Meanings) (store : StoreState) (client : Client) (envelope : Envelope) (moment : Moment) (octets : List ℕ)
+    → TellsTrees meanings.has_tree → IsStored octets → IsWithinLimits store (delivery_of store client envelope moment octets)
+    → end_data meanings store client envelope moment octets ≡ keeping store client (delivery_of store client envelope moment octets)
+data_kept meanings store client envelope moment octets tells tree within =
+    kept_by (meanings.has_tree octets) store client (delivery_of store client envelope moment octets) (tells_true meanings.has_tree octets tells tree) within
 
-pub data_accepted : (readings : Readings) (store : StoreState) (client : Client) (envelope : Envelope) (moment : Moment) (octets : List ℕ)
-    → TellsTrees readings.has_tree → IsStored octets → IsWithinLimits store (delivery_of store client envelope moment octets)
-    → (end_data readings store client envelope moment octets).reply ≡ acceptance
-data_accepted readings store client envelope moment octets tells tree within =
-    ap (λ (taken : Step). taken.reply) (data_kept readings store client envelope moment octets tells tree within)
+pub data_accepted : (meanings : Meanings) (store : StoreState) (client : Client) (envelope : Envelope) (moment : Moment) (octets : List ℕ)
+    → TellsTrees meanings.has_tree → IsStored octets → IsWithinLimits store (delivery_of store client envelope moment octets)
+    → (end_data meanings store client envelope moment octets).reply ≡ acceptance
+data_accepted meanings store client envelope moment octets tells tree within =
+    ap (λ (taken : Step). taken.reply) (data_kept meanings store client envelope moment octets tells tree within)
 
 -- ---- the stream
 
@@ -100,38 +101,38 @@ data_accepted readings store client envelope moment octets tells tree within =
 some_recipients : (count : ℕ) → 0 < count → (count == 0) ≡ false
 some_recipients count some = grind (arith, nat_tests)
 
-pub data_begin : (readings : Readings) (client : Client) (envelope : Envelope) (store : StoreState) (argument : List ℕ) → 0 < recipient_count envelope
-    → step readings (mail client envelope) store verb.Data argument ≡ says (codes "354 go ahead") (collecting client envelope)
+pub data_begin : (meanings : Meanings) (client : Client) (envelope : Envelope) (store : StoreState) (argument : List ℕ) → 0 < recipient_count envelope
+    → step meanings (mail client envelope) store verb.Data argument ≡ says (codes "354 go ahead") (collecting client envelope)
 unfolding step
-data_begin readings client envelope store argument some = rw (some_recipients (recipient_count envelope) some) refl
+data_begin meanings client envelope store argument some = rw (some_recipients (recipient_count envelope) some) refl
 
 -- the data are read up to their end
-first_turn : (readings : Readings) (store : StoreState) (client : Client) (envelope : Envelope) (moments : List Moment) (octets : List ℕ) (cut : Cut) → data_cut octets ≡ Some cut
-    → next_turn readings (record { state = collecting client envelope; store = store; moments = moments }) octets
-    ≡ Some (data_turn readings (record { state = collecting client envelope; store = store; moments = moments }) client envelope cut)
+first_turn : (meanings : Meanings) (store : StoreState) (client : Client) (envelope : Envelope) (moments : List Moment) (octets : List ℕ) (cut : Cut) → data_cut octets ≡ Some cut
+    → next_turn meanings (record { state = collecting client envelope; store = store; moments = moments }) octets
+    ≡ Some (data_turn meanings (record { state = collecting client envelope; store = store; moments = moments }) client envelope cut)
 unfolding next_turn
-first_turn readings store client envelope moments octets cut found =
-    ap (option_map (data_turn readings (record { state = collecting client envelope; store = store; moments = moments }) client envelope)) found
+first_turn meanings store client envelope moments octets cut found =
+    ap (option_map (data_turn meanings (record { state = collecting client envelope; store = store; moments = moments }) client envelope)) found
 
 -- what a step and the turns behind it bring
-abbrev brings : Readings → StoreState → List Moment → List ℕ → Step → Turn Machine (Act (List ℕ))
-brings readings store moments rest taken = behind (acts_in taken) (turns_of readings (after_step store (later moments) taken) rest)
+abbrev brings : Meanings → StoreState → List Moment → List ℕ → Step → Turn Machine (Act (List ℕ))
+brings meanings store moments rest taken = behind (acts_in taken) (turns_of meanings (after_step store (later moments) taken) rest)
 
-pub sent_kept : (readings : Readings) (store : StoreState) (client : Client) (envelope : Envelope) (moments : List Moment) (octets rest : List ℕ) → TellsTrees readings.has_tree
+pub sent_kept : (meanings : Meanings) (store : StoreState) (client : Client) (envelope : Envelope) (moments : List Moment) (octets rest : List ℕ) → TellsTrees meanings.has_tree
     → IsEnded octets → IsStored octets → let delivery = delivery_of store client envelope (next_moment moments) octets in IsWithinLimits store delivery
-    → turns_of readings (record { state = collecting client envelope; store = store; moments = moments }) (sent octets rest)
+    → turns_of meanings (record { state = collecting client envelope; store = store; moments = moments }) (sent octets rest)
     ≡ behind (changes (delivered store.kept delivery) ∷ gives stored_line ∷ [])
-    (turns_of readings (record { state = greeted client; store = with_records store (delivered store.kept delivery); moments = later moments }) rest)
-sent_kept readings store client envelope moments octets rest tells ended tree within =
+    (turns_of meanings (record { state = greeted client; store = with_records store (delivered store.kept delivery); moments = later moments }) rest)
+sent_kept meanings store client envelope moments octets rest tells ended tree within =
     let machine : Machine = record { state = collecting client envelope; store = store; moments = moments } in
     let moment = next_moment moments in
     let delivery = delivery_of store client envelope moment octets in
     let records = delivered store.kept delivery in
     let next : List Record → Turn Machine (Act (List ℕ)) = λ all.
-    behind (changes records ∷ gives stored_line ∷ []) (turns_of readings (record { state = greeted client; store = with_records store all; moments = later moments }) rest) in
+    behind (changes records ∷ gives stored_line ∷ []) (turns_of meanings (record { state = greeted client; store = with_records store all; moments = later moments }) rest) in
     let whole : Cut = record { line = stuffed octets; rest = rest } in
-    all_turns-go (next_turn readings) (next_turn-framed readings) machine (sent octets rest) (data_turn readings machine client envelope whole)
-    (first_turn readings store client envelope moments (sent octets rest) whole (sent_found octets ended rest))
-    ∙ ap (λ said. brings readings store moments rest (end_data readings store client envelope moment said)) (unstuffed_back octets)
-    ∙ ap (brings readings store moments rest) (data_kept readings store client envelope moment octets tells tree within)
+    all_turns-go (next_turn meanings) (next_turn-framed meanings) machine (sent octets rest) (data_turn meanings machine client envelope whole)
+    (first_turn meanings store client envelope moments (sent octets rest) whole (sent_found octets ended rest))
+    ∙ ap (λ said. brings meanings store moments rest (end_data meanings store client envelope moment said)) (unstuffed_back octets)
+    ∙ ap (brings meanings store moments rest) (data_kept meanings store client envelope moment octets tells tree within)
     ∙ ap next (append-nil records)

@@ -14,8 +14,10 @@ use Rattle.smtp_grammar.specs.Commands.{announced, are_malformed, is_client, is_
 use Rattle.smtp_session.specs.declared.states.Client.{Client}
 use Rattle.smtp_session.specs.declared.states.Envelope.{Envelope}
 use Rattle.smtp_session.specs.Intake.{AreRecipients, acceptance, kept_after}
-use Rattle.smtp_session.specs.Machine.{Readings, State, Step, alone, collecting, data_step, delivery_of, end_data, ended, envelope_of, fresh, greeted, is_same_remote, lacks_smtputf8, mail, mail_by, mail_step, mail_to, path_read, rcpt_local, rcpt_remote, rcpt_step, rcpt_to, recipient_count, step, with_room, words_behind}
-use Rattle.smtp_session.specs.Trace.{Moment, protocol, received}
+use Rattle.smtp_session.specs.Machine.{State, Step, alone, collecting, data_step, delivery_of, end_data, ended, envelope_of, fresh, greeted, is_same_remote, lacks_smtputf8, mail, mail_by, mail_step, mail_to, path_read, rcpt_local, rcpt_remote, rcpt_step, rcpt_to, recipient_count, step, with_room, words_behind}
+use Rattle.session_core.specs.Meanings.{Meanings}
+use Rattle.smtp_session.specs.Trace.{protocol, received}
+use Rattle.session_core.specs.Moments.{Moment}
 use Rattle.smtp_session.specs.Transaction.{GoesOn, GoesOnAs, IsTaken, IsTransactionKept, TakesAccount, TakesData, TakesRecipient, TakesRemote, TakesSender, go_ahead, recipient_ok, sender_ok}
 use Rattle.smtp_session.proofs.IntakeLemmas.{accepted_kept_once}
 
@@ -45,73 +47,73 @@ room-accepts there client envelope with_one P old new =
     (λ full ok. absurd (other_reply _ recipient_ok 52 50 refl refl (omega arith) ok)))
 
 -- what an accepted recipient leaves of an envelope
-record Takes (readings : Readings) (kept : Kept) (address : Address) (old new : Envelope) : Type 0 where
+record Takes (meanings : Meanings) (kept : Kept) (address : Address) (old new : Envelope) : Type 0 where
   path : new.path ≡ old.path
   smtputf8 : new.smtputf8 ≡ old.smtputf8
-  taken : TakesAccount readings.path_of kept address old new ⊎ TakesRemote kept address old new
+  taken : TakesAccount meanings.path_of kept address old new ⊎ TakesRemote kept address old new
 
-account_taken : (readings : Readings) (kept : Kept) (address : Address) (old new : Envelope) (account : ℕ) → is_local kept address.domain ≡ true
-    → find_account readings.path_of kept address ≡ Some account → IsTaken (λ a b. a == b) account old.local new.local → new.path ≡ old.path → new.smtputf8 ≡ old.smtputf8
-    → new.remote ≡ old.remote → Takes readings kept address old new
-account_taken readings kept address old new account here found local path smtputf8 remote = record {
+account_taken : (meanings : Meanings) (kept : Kept) (address : Address) (old new : Envelope) (account : ℕ) → is_local kept address.domain ≡ true
+    → find_account meanings.path_of kept address ≡ Some account → IsTaken (λ a b. a == b) account old.local new.local → new.path ≡ old.path → new.smtputf8 ≡ old.smtputf8
+    → new.remote ≡ old.remote → Takes meanings kept address old new
+account_taken meanings kept address old new account here found local path smtputf8 remote = record {
   path = path;
   smtputf8 = smtputf8;
   taken = inl (record { here = here; account = account; found = found; local = local; remote = remote });
 }
 
-local-accepts : (readings : Readings) (kept : Kept) (address : Address) (client : Client) (old : Envelope) (found : Option ℕ) → is_local kept address.domain ≡ true
-    → find_account readings.path_of kept address ≡ found → Accepts client (Takes readings kept address old) (rcpt_local client old found)
-local-accepts readings kept address client old None here is = λ ok. absurd (other_reply _ recipient_ok 53 50 refl refl (omega arith) ok)
-local-accepts readings kept address client old (Some account) here is =
-    room-accepts (list_any (λ other. other == account) old.local) client old (record old { local = old.local ++ account ∷ [] }) (Takes readings kept address old)
-    (λ there. account_taken readings kept address old old account here is (inl (there, refl)) refl refl refl)
-    (account_taken readings kept address old (record old { local = old.local ++ account ∷ [] }) account here is (inr refl) refl refl refl)
+local-accepts : (meanings : Meanings) (kept : Kept) (address : Address) (client : Client) (old : Envelope) (found : Option ℕ) → is_local kept address.domain ≡ true
+    → find_account meanings.path_of kept address ≡ found → Accepts client (Takes meanings kept address old) (rcpt_local client old found)
+local-accepts meanings kept address client old None here is = λ ok. absurd (other_reply _ recipient_ok 53 50 refl refl (omega arith) ok)
+local-accepts meanings kept address client old (Some account) here is =
+    room-accepts (list_any (λ other. other == account) old.local) client old (record old { local = old.local ++ account ∷ [] }) (Takes meanings kept address old)
+    (λ there. account_taken meanings kept address old old account here is (inl (there, refl)) refl refl refl)
+    (account_taken meanings kept address old (record old { local = old.local ++ account ∷ [] }) account here is (inr refl) refl refl refl)
 
-remote_taken : (readings : Readings) (kept : Kept) (address : Address) (old new : Envelope) → is_local kept address.domain ≡ false
-    → IsTaken is_same_remote address old.remote new.remote → new.path ≡ old.path → new.smtputf8 ≡ old.smtputf8 → new.local ≡ old.local → Takes readings kept address old new
-remote_taken readings kept address old new elsewhere remote path smtputf8 local = record {
+remote_taken : (meanings : Meanings) (kept : Kept) (address : Address) (old new : Envelope) → is_local kept address.domain ≡ false
+    → IsTaken is_same_remote address old.remote new.remote → new.path ≡ old.path → new.smtputf8 ≡ old.smtputf8 → new.local ≡ old.local → Takes meanings kept address old new
+remote_taken meanings kept address old new elsewhere remote path smtputf8 local = record {
   path = path;
   smtputf8 = smtputf8;
   taken = inr (record { elsewhere = elsewhere; local = local; remote = remote });
 }
 
-remote-accepts : (readings : Readings) (kept : Kept) (address : Address) (client : Client) (old : Envelope) → is_local kept address.domain ≡ false
-    → Accepts client (Takes readings kept address old) (rcpt_remote client old address)
-remote-accepts readings kept address client old elsewhere =
-    room-accepts (list_any (λ other. is_same_remote other address) old.remote) client old (record old { remote = old.remote ++ address ∷ [] }) (Takes readings kept address old)
-    (λ there. remote_taken readings kept address old old elsewhere (inl (there, refl)) refl refl refl)
-    (remote_taken readings kept address old (record old { remote = old.remote ++ address ∷ [] }) elsewhere (inr refl) refl refl refl)
+remote-accepts : (meanings : Meanings) (kept : Kept) (address : Address) (client : Client) (old : Envelope) → is_local kept address.domain ≡ false
+    → Accepts client (Takes meanings kept address old) (rcpt_remote client old address)
+remote-accepts meanings kept address client old elsewhere =
+    room-accepts (list_any (λ other. is_same_remote other address) old.remote) client old (record old { remote = old.remote ++ address ∷ [] }) (Takes meanings kept address old)
+    (λ there. remote_taken meanings kept address old old elsewhere (inl (there, refl)) refl refl refl)
+    (remote_taken meanings kept address old (record old { remote = old.remote ++ address ∷ [] }) elsewhere (inr refl) refl refl refl)
 
 -- what an accepted path leaves
-record TakesPath (readings : Readings) (kept : Kept) (client : Client) (old : Envelope) (path : Option (Option Address)) (after : State) : Type 0 where
+record TakesPath (meanings : Meanings) (kept : Kept) (client : Client) (old : Envelope) (path : Option (Option Address)) (after : State) : Type 0 where
   address : Address
   says : path ≡ Some (Some address)
   new : Envelope
   after_is : after ≡ mail client new
-  takes : Takes readings kept address old new
+  takes : Takes meanings kept address old new
 
-path_taken : (readings : Readings) (kept : Kept) (client : Client) (old : Envelope) (address : Address) (taken : Step) → taken.reply ≡ recipient_ok
-    → Accepts client (Takes readings kept address old) taken → TakesPath readings kept client old (Some (Some address)) taken.state
-path_taken readings kept client old address taken ok accepts =
+path_taken : (meanings : Meanings) (kept : Kept) (client : Client) (old : Envelope) (address : Address) (taken : Step) → taken.reply ≡ recipient_ok
+    → Accepts client (Takes meanings kept address old) taken → TakesPath meanings kept client old (Some (Some address)) taken.state
+path_taken meanings kept client old address taken ok accepts =
     let left = accepts ok in
     record { address = address; says = refl; new = left.0; after_is = left.1; takes = left.2 }
 
-rcpt_to-taken : (readings : Readings) (client : Client) (old : Envelope) (store : StoreState) (path : Option (Option Address)) → (rcpt_to readings client old store path).reply ≡ recipient_ok
-    → TakesPath readings store.kept client old path (rcpt_to readings client old store path).state
-rcpt_to-taken readings client old store None ok = absurd (other_reply _ recipient_ok 53 50 refl refl (omega arith) ok)
-rcpt_to-taken readings client old store (Some None) ok = absurd (other_reply _ recipient_ok 53 50 refl refl (omega arith) ok)
-rcpt_to-taken readings client old store (Some (Some address)) ok =
-    path_taken readings store.kept client old address (rcpt_to readings client old store (Some (Some address))) ok
-    (cond_both (lacks_smtputf8 old.smtputf8 (Some address)) _ _ (Accepts client (Takes readings store.kept address old))
+rcpt_to-taken : (meanings : Meanings) (client : Client) (old : Envelope) (store : StoreState) (path : Option (Option Address)) → (rcpt_to meanings client old store path).reply ≡ recipient_ok
+    → TakesPath meanings store.kept client old path (rcpt_to meanings client old store path).state
+rcpt_to-taken meanings client old store None ok = absurd (other_reply _ recipient_ok 53 50 refl refl (omega arith) ok)
+rcpt_to-taken meanings client old store (Some None) ok = absurd (other_reply _ recipient_ok 53 50 refl refl (omega arith) ok)
+rcpt_to-taken meanings client old store (Some (Some address)) ok =
+    path_taken meanings store.kept client old address (rcpt_to meanings client old store (Some (Some address))) ok
+    (cond_both (lacks_smtputf8 old.smtputf8 (Some address)) _ _ (Accepts client (Takes meanings store.kept address old))
     (λ lacks wrong. absurd (other_reply _ recipient_ok 53 50 refl refl (omega arith) wrong))
-    (λ has. cond_both (is_local store.kept address.domain) _ _ (Accepts client (Takes readings store.kept address old))
-    (λ here. local-accepts readings store.kept address client old (find_account readings.path_of store.kept address) here refl)
-    (λ elsewhere. remote-accepts readings store.kept address client old elsewhere)))
+    (λ has. cond_both (is_local store.kept address.domain) _ _ (Accepts client (Takes meanings store.kept address old))
+    (λ here. local-accepts meanings store.kept address client old (find_account meanings.path_of store.kept address) here refl)
+    (λ elsewhere. remote-accepts meanings store.kept address client old elsewhere)))
 
-rcpt-taken : (readings : Readings) (state : State) (store : StoreState) (argument : List ℕ) → (rcpt_step readings state store argument).reply ≡ recipient_ok
-    → TakesRecipient readings store.kept argument state (rcpt_step readings state store argument).state
-rcpt-taken readings (mail client envelope) store argument ok =
-    let takes = rcpt_to-taken readings client envelope store (path_read readings (alone (path_behind (codes "TO:") argument))) ok in
+rcpt-taken : (meanings : Meanings) (state : State) (store : StoreState) (argument : List ℕ) → (rcpt_step meanings state store argument).reply ≡ recipient_ok
+    → TakesRecipient meanings store.kept argument state (rcpt_step meanings state store argument).state
+rcpt-taken meanings (mail client envelope) store argument ok =
+    let takes = rcpt_to-taken meanings client envelope store (path_read meanings (alone (path_behind (codes "TO:") argument))) ok in
     record {
       client = client;
       old = envelope;
@@ -124,13 +126,13 @@ rcpt-taken readings (mail client envelope) store argument ok =
       smtputf8 = takes.takes.smtputf8;
       taken = takes.takes.taken;
     }
-rcpt-taken readings fresh store argument ok = absurd (other_reply _ recipient_ok 53 50 refl refl (omega arith) ok)
-rcpt-taken readings (greeted client) store argument ok = absurd (other_reply _ recipient_ok 53 50 refl refl (omega arith) ok)
-rcpt-taken readings (collecting client envelope) store argument ok = absurd (other_reply _ recipient_ok 53 50 refl refl (omega arith) ok)
-rcpt-taken readings ended store argument ok = absurd (other_reply _ recipient_ok 53 50 refl refl (omega arith) ok)
+rcpt-taken meanings fresh store argument ok = absurd (other_reply _ recipient_ok 53 50 refl refl (omega arith) ok)
+rcpt-taken meanings (greeted client) store argument ok = absurd (other_reply _ recipient_ok 53 50 refl refl (omega arith) ok)
+rcpt-taken meanings (collecting client envelope) store argument ok = absurd (other_reply _ recipient_ok 53 50 refl refl (omega arith) ok)
+rcpt-taken meanings ended store argument ok = absurd (other_reply _ recipient_ok 53 50 refl refl (omega arith) ok)
 
-pub recipient_taken : (readings : Readings) (state : State) (store : StoreState) (argument : List ℕ) → (step readings state store verb.Rcpt argument).reply ≡ recipient_ok
-    → TakesRecipient readings store.kept argument state (step readings state store verb.Rcpt argument).state
+pub recipient_taken : (meanings : Meanings) (state : State) (store : StoreState) (argument : List ℕ) → (step meanings state store verb.Rcpt argument).reply ≡ recipient_ok
+    → TakesRecipient meanings store.kept argument state (step meanings state store verb.Rcpt argument).state
 unfolding step
 recipient_taken = rcpt-taken
 
@@ -153,19 +155,19 @@ mail_by-begins : (client : Client) (store : StoreState) (path : Option (Option A
 mail_by-begins client store None words = λ ok. absurd (other_reply _ sender_ok 53 50 refl refl (omega arith) ok)
 mail_by-begins client store (Some path) words = mail_to-begins client store (list_any (λ word. is_smtputf8 (parameter_of word)) words) path words
 
-mail-taken : (readings : Readings) (state : State) (store : StoreState) (argument : List ℕ) → (mail_step readings state store argument).reply ≡ sender_ok
-    → TakesSender readings argument state (mail_step readings state store argument).state
-mail-taken readings (greeted client) store argument ok =
+mail-taken : (meanings : Meanings) (state : State) (store : StoreState) (argument : List ℕ) → (mail_step meanings state store argument).reply ≡ sender_ok
+    → TakesSender meanings argument state (mail_step meanings state store argument).state
+mail-taken meanings (greeted client) store argument ok =
     let given = path_behind (codes "FROM:") argument in
-    let left = mail_by-begins client store (path_read readings given) (words_behind given) ok in
+    let left = mail_by-begins client store (path_read meanings given) (words_behind given) ok in
     record { client = client; new = left.0; before_is = refl; after_is = left.1; says = left.2; local = left.3; remote = left.4 }
-mail-taken readings fresh store argument ok = absurd (other_reply _ sender_ok 53 50 refl refl (omega arith) ok)
-mail-taken readings (mail client envelope) store argument ok = absurd (other_reply _ sender_ok 53 50 refl refl (omega arith) ok)
-mail-taken readings (collecting client envelope) store argument ok = absurd (other_reply _ sender_ok 53 50 refl refl (omega arith) ok)
-mail-taken readings ended store argument ok = absurd (other_reply _ sender_ok 53 50 refl refl (omega arith) ok)
+mail-taken meanings fresh store argument ok = absurd (other_reply _ sender_ok 53 50 refl refl (omega arith) ok)
+mail-taken meanings (mail client envelope) store argument ok = absurd (other_reply _ sender_ok 53 50 refl refl (omega arith) ok)
+mail-taken meanings (collecting client envelope) store argument ok = absurd (other_reply _ sender_ok 53 50 refl refl (omega arith) ok)
+mail-taken meanings ended store argument ok = absurd (other_reply _ sender_ok 53 50 refl refl (omega arith) ok)
 
-pub sender_taken : (readings : Readings) (state : State) (store : StoreState) (argument : List ℕ) → (step readings state store verb.Mail argument).reply ≡ sender_ok
-    → TakesSender readings argument state (step readings state store verb.Mail argument).state
+pub sender_taken : (meanings : Meanings) (state : State) (store : StoreState) (argument : List ℕ) → (step meanings state store verb.Mail argument).reply ≡ sender_ok
+    → TakesSender meanings argument state (step meanings state store verb.Mail argument).state
 unfolding step
 sender_taken = mail-taken
 
@@ -181,10 +183,10 @@ data-taken (greeted client) = λ ok. absurd (other_reply _ go_ahead 53 51 refl r
 data-taken (collecting client envelope) = λ ok. absurd (other_reply _ go_ahead 53 51 refl refl (omega arith) ok)
 data-taken ended = λ ok. absurd (other_reply _ go_ahead 53 51 refl refl (omega arith) ok)
 
-pub data_taken : (readings : Readings) (state : State) (store : StoreState) (argument : List ℕ) → (step readings state store verb.Data argument).reply ≡ go_ahead
-    → TakesData state (step readings state store verb.Data argument).state
+pub data_taken : (meanings : Meanings) (state : State) (store : StoreState) (argument : List ℕ) → (step meanings state store verb.Data argument).reply ≡ go_ahead
+    → TakesData state (step meanings state store verb.Data argument).state
 unfolding step
-data_taken readings state store argument = data-taken state
+data_taken meanings state store argument = data-taken state
 
 -- ---- what goes on
 
@@ -233,36 +235,36 @@ remote-goes : (client : Client) (old : Envelope) (address : Address) → GoesOn 
 remote-goes client old address =
     room-goes (list_any (λ other. is_same_remote other address) old.remote) client old (record old { remote = old.remote ++ address ∷ [] }) (with_address old address)
 
-rcpt-goes : (readings : Readings) (client : Client) (old : Envelope) (store : StoreState) (path : Option (Option Address)) → GoesOn client old (rcpt_to readings client old store path).state
-rcpt-goes readings client old store None = (refl, same_envelope old)
-rcpt-goes readings client old store (Some None) = (refl, same_envelope old)
-rcpt-goes readings client old store (Some (Some address)) =
+rcpt-goes : (meanings : Meanings) (client : Client) (old : Envelope) (store : StoreState) (path : Option (Option Address)) → GoesOn client old (rcpt_to meanings client old store path).state
+rcpt-goes meanings client old store None = (refl, same_envelope old)
+rcpt-goes meanings client old store (Some None) = (refl, same_envelope old)
+rcpt-goes meanings client old store (Some (Some address)) =
     let P : Step → Type 0 = λ taken. GoesOn client old taken.state in
     cond_both (lacks_smtputf8 old.smtputf8 (Some address)) _ _ P (λ lacks. (refl, same_envelope old)) (λ has. cond_both (is_local store.kept address.domain) _ _ P
-    (λ here. local-goes client old (find_account readings.path_of store.kept address))
+    (λ here. local-goes client old (find_account meanings.path_of store.kept address))
     (λ elsewhere. remote-goes client old address))
 
-pub goes_on : (readings : Readings) (client : Client) (old : Envelope) (store : StoreState) (word : Verb) (argument : List ℕ)
-    → GoesOn client old (step readings (mail client old) store word argument).state
+pub goes_on : (meanings : Meanings) (client : Client) (old : Envelope) (store : StoreState) (word : Verb) (argument : List ℕ)
+    → GoesOn client old (step meanings (mail client old) store word argument).state
 unfolding step
-goes_on readings client old store verb.Ehlo argument = cond_both (is_client argument) _ _ (λ (taken : Step). GoesOn client old taken.state) (λ is. tt) (λ other. (refl, same_envelope old))
-goes_on readings client old store verb.Helo argument = cond_both (is_client argument) _ _ (λ (taken : Step). GoesOn client old taken.state) (λ is. tt) (λ other. (refl, same_envelope old))
-goes_on readings client old store verb.Mail argument = (refl, same_envelope old)
-goes_on readings client old store verb.Rcpt argument = rcpt-goes readings client old store (path_read readings (alone (path_behind (codes "TO:") argument)))
-goes_on readings client old store verb.Data argument =
+goes_on meanings client old store verb.Ehlo argument = cond_both (is_client argument) _ _ (λ (taken : Step). GoesOn client old taken.state) (λ is. tt) (λ other. (refl, same_envelope old))
+goes_on meanings client old store verb.Helo argument = cond_both (is_client argument) _ _ (λ (taken : Step). GoesOn client old taken.state) (λ is. tt) (λ other. (refl, same_envelope old))
+goes_on meanings client old store verb.Mail argument = (refl, same_envelope old)
+goes_on meanings client old store verb.Rcpt argument = rcpt-goes meanings client old store (path_read meanings (alone (path_behind (codes "TO:") argument)))
+goes_on meanings client old store verb.Data argument =
     cond_both (recipient_count old == 0) _ _ (λ (taken : Step). GoesOn client old taken.state) (λ none. (refl, same_envelope old)) (λ some. (refl, same_envelope old))
-goes_on readings client old store verb.Rset argument = tt
-goes_on readings client old store verb.Noop argument = (refl, same_envelope old)
-goes_on readings client old store verb.Vrfy argument = (refl, same_envelope old)
-goes_on readings client old store verb.Quit argument = tt
-goes_on readings client old store verb.Other argument = (refl, same_envelope old)
+goes_on meanings client old store verb.Rset argument = tt
+goes_on meanings client old store verb.Noop argument = (refl, same_envelope old)
+goes_on meanings client old store verb.Vrfy argument = (refl, same_envelope old)
+goes_on meanings client old store verb.Quit argument = tt
+goes_on meanings client old store verb.Other argument = (refl, same_envelope old)
 
 -- ---- what is kept
 
-pub transaction_kept : (readings : Readings) (store : StoreState) (client : Client) (envelope : Envelope) (moment : Moment) (octets : List ℕ)
-    → IsFold store.kept → AreRecipients store.kept envelope → (end_data readings store client envelope moment octets).reply ≡ acceptance
-    → IsTransactionKept store.kept (kept_after store (end_data readings store client envelope moment octets)) client envelope moment octets
-transaction_kept readings store client envelope moment octets fold are accepted = record {
+pub transaction_kept : (meanings : Meanings) (store : StoreState) (client : Client) (envelope : Envelope) (moment : Moment) (octets : List ℕ)
+    → IsFold store.kept → AreRecipients store.kept envelope → (end_data meanings store client envelope moment octets).reply ≡ acceptance
+    → IsTransactionKept store.kept (kept_after store (end_data meanings store client envelope moment octets)) client envelope moment octets
+transaction_kept meanings store client envelope moment octets fold are accepted = record {
   trace = received client.name (name_of store.kept) (protocol envelope.smtputf8 client.extended) moment.date;
   trace_is = refl;
   delivery = delivery_of store client envelope moment octets;
@@ -272,5 +274,5 @@ transaction_kept readings store client envelope moment octets fold are accepted 
   local_octets = refl;
   remote_octets = refl;
   date = refl;
-  once = accepted_kept_once readings store client envelope moment octets fold are accepted;
+  once = accepted_kept_once meanings store client envelope moment octets fold are accepted;
 }

@@ -5,7 +5,7 @@ use Rattle.mime_tree.specs.declared.entity.Entity.{Entity}
 use Rattle.mime_tree.specs.Tree.{HasTree}
 use Rattle.mime_tree.proofs.DecidingTrees.{decide_tree}
 use Rattle.journal_records.specs.Stored.{IsStored}
-use Rattle.smtp_session.specs.Machine.{TellsTrees}
+use Rattle.session_core.specs.Meanings.{TellsTrees}
 
 -- octets have a tree of entities, or none
 abbrev Decided : List ℕ → Type 0

@@ -4,7 +4,6 @@ use Rattle.std.specs.List.{list_any, list_all}
 use Rattle.std.specs.Str.{bytes_eq}
 use Rattle.mail_wire.specs.Octets.{is_ascii}
 use Rattle.address_grammar.specs.declared.Address.{Address}
-use Rattle.session_core.specs.Acts.{Act, acts_of}
 use Rattle.journal_records.specs.Addresses.{is_same_domain, path_text}
 use Rattle.mail_store.specs.Changing.{delivered, delivery_refusal, has_large_octets}
 use Rattle.mail_store.specs.Kept.{find_account, is_local, name_of}
@@ -19,18 +18,10 @@ use Rattle.smtp_grammar.specs.declared.command.Verb.TheVariants as verb
 use Rattle.smtp_grammar.specs.Commands.{PathAndRest, is_client, path_behind, words_of, parameter_of, are_malformed, is_unknown, is_smtputf8, announced}
 use Rattle.smtp_session.specs.declared.states.Client.{Client}
 use Rattle.smtp_session.specs.declared.states.Envelope.{Envelope}
-use Rattle.smtp_session.specs.Trace.{Moment, protocol, return_path, received}
-
--- ---- what is taken from other definitions
-
--- what a text says that may be a path, and whether octets have a tree of entities
-pub record Readings : Type 0 where
-  pub path_of : List ℕ → Option (Option Address)
-  pub has_tree : List ℕ → Bool
-
--- the function tells which octets have a tree of entities
-abbrev pub TellsTrees : (List ℕ → Bool) → Type 0
-TellsTrees has_tree = (octets : List ℕ) → IsTrue (has_tree octets) ↔ IsStored octets
+use Rattle.session_core.specs.Acts.{Act, acts_of}
+use Rattle.session_core.specs.Meanings.{Meanings}
+use Rattle.session_core.specs.Moments.{Moment}
+use Rattle.smtp_session.specs.Trace.{protocol, return_path, received}
 
 -- ---- states and steps
 
@@ -99,8 +90,8 @@ helo_step state store name =
 abbrev pub within_limit : Option Address → Option (Option Address)
 within_limit path = if nat_le (length (path_text path)) TEXT_MAX then Some path else None
 
-abbrev pub path_read : Readings → Option PathAndRest → Option (Option Address)
-path_read readings given = option_and_then (λ (g : PathAndRest). option_and_then within_limit (readings.path_of g.path)) given
+abbrev pub path_read : Meanings → Option PathAndRest → Option (Option Address)
+path_read meanings given = option_and_then (λ (g : PathAndRest). option_and_then within_limit (meanings.path_of g.path)) given
 
 -- an address that isn't ASCII is taken with SMTPUTF8 alone
 abbrev pub lacks_smtputf8 : Bool → Option Address → Bool
@@ -127,11 +118,11 @@ abbrev pub mail_by : Client → StoreState → Option (Option Address) → List 
 mail_by client store None words = bad_argument (greeted client)
 mail_by client store (Some path) words = mail_to client store (list_any (λ word. is_smtputf8 (parameter_of word)) words) path words
 
-abbrev pub mail_step : Readings → State → StoreState → List ℕ → Step
-mail_step readings (greeted client) store argument =
+abbrev pub mail_step : Meanings → State → StoreState → List ℕ → Step
+mail_step meanings (greeted client) store argument =
     let given = path_behind (codes "FROM:") argument in
-    mail_by client store (path_read readings given) (words_behind given)
-mail_step readings state store argument = out_of_order state
+    mail_by client store (path_read meanings given) (words_behind given)
+mail_step meanings state store argument = out_of_order state
 
 -- ---- RCPT
 
@@ -161,12 +152,12 @@ abbrev pub rcpt_remote : Client → Envelope → Address → Step
 rcpt_remote client envelope address =
     with_room (list_any (λ other. is_same_remote other address) envelope.remote) client envelope (record envelope { remote = envelope.remote ++ address ∷ [] })
 
-abbrev pub rcpt_to : Readings → Client → Envelope → StoreState → Option (Option Address) → Step
-rcpt_to readings client envelope store None = bad_argument (mail client envelope)
-rcpt_to readings client envelope store (Some None) = bad_argument (mail client envelope)
-rcpt_to readings client envelope store (Some (Some address)) =
+abbrev pub rcpt_to : Meanings → Client → Envelope → StoreState → Option (Option Address) → Step
+rcpt_to meanings client envelope store None = bad_argument (mail client envelope)
+rcpt_to meanings client envelope store (Some None) = bad_argument (mail client envelope)
+rcpt_to meanings client envelope store (Some (Some address)) =
     if lacks_smtputf8 envelope.smtputf8 (Some address) then needs_smtputf8 (mail client envelope)
-    else if is_local store.kept address.domain then rcpt_local client envelope (find_account readings.path_of store.kept address)
+    else if is_local store.kept address.domain then rcpt_local client envelope (find_account meanings.path_of store.kept address)
     else rcpt_remote client envelope address
 
 -- without parameters
@@ -174,10 +165,10 @@ abbrev pub alone : Option PathAndRest → Option PathAndRest
 alone None = None
 alone (Some given) = if length (words_of given.rest) == 0 then Some given else None
 
-abbrev pub rcpt_step : Readings → State → StoreState → List ℕ → Step
-rcpt_step readings (mail client envelope) store argument =
-    rcpt_to readings client envelope store (path_read readings (alone (path_behind (codes "TO:") argument)))
-rcpt_step readings state store argument = out_of_order state
+abbrev pub rcpt_step : Meanings → State → StoreState → List ℕ → Step
+rcpt_step meanings (mail client envelope) store argument =
+    rcpt_to meanings client envelope store (path_read meanings (alone (path_behind (codes "TO:") argument)))
+rcpt_step meanings state store argument = out_of_order state
 
 -- ---- the other commands
 
@@ -192,17 +183,17 @@ reset (mail client envelope) = greeted client
 reset state = state
 
 -- a command in a state that reads lines
-unfoldable pub step : Readings → State → StoreState → Verb → List ℕ → Step
-step readings state store verb.Ehlo argument = ehlo_step state store argument
-step readings state store verb.Helo argument = helo_step state store argument
-step readings state store verb.Mail argument = mail_step readings state store argument
-step readings state store verb.Rcpt argument = rcpt_step readings state store argument
-step readings state store verb.Data argument = data_step state
-step readings state store verb.Rset argument = ok (reset state)
-step readings state store verb.Noop argument = ok state
-step readings state store verb.Vrfy argument = says (codes "252 2.5.0 send and see") state
-step readings state store verb.Quit argument = says (codes "221 2.0.0 bye") ended
-step readings state store verb.Other argument = says (codes "500 5.5.2 unknown command") state
+unfoldable pub step : Meanings → State → StoreState → Verb → List ℕ → Step
+step meanings state store verb.Ehlo argument = ehlo_step state store argument
+step meanings state store verb.Helo argument = helo_step state store argument
+step meanings state store verb.Mail argument = mail_step meanings state store argument
+step meanings state store verb.Rcpt argument = rcpt_step meanings state store argument
+step meanings state store verb.Data argument = data_step state
+step meanings state store verb.Rset argument = ok (reset state)
+step meanings state store verb.Noop argument = ok state
+step meanings state store verb.Vrfy argument = says (codes "252 2.5.0 send and see") state
+step meanings state store verb.Quit argument = says (codes "221 2.0.0 bye") ended
+step meanings state store verb.Other argument = says (codes "500 5.5.2 unknown command") state
 
 -- ---- the end of the data
 
@@ -230,5 +221,5 @@ end_by is_message store client delivery =
     else if is_some (delivery_refusal store delivery) then too_large (greeted client)
     else record { changes = delivered store.kept delivery ∷ []; reply = codes "250 2.0.0 stored" ∷ []; state = greeted client }
 
-abbrev pub end_data : Readings → StoreState → Client → Envelope → Moment → List ℕ → Step
-end_data readings store client envelope moment octets = end_by (readings.has_tree octets) store client (delivery_of store client envelope moment octets)
+abbrev pub end_data : Meanings → StoreState → Client → Envelope → Moment → List ℕ → Step
+end_data meanings store client envelope moment octets = end_by (meanings.has_tree octets) store client (delivery_of store client envelope moment octets)

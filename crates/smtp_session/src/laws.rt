@@ -17,10 +17,12 @@ ghost use Rattle.smtp_grammar.specs.Data.{sent};
 ghost use Rattle.smtp_grammar.specs.declared.command.Verb.{Verb};
 ghost use Rattle.smtp_grammar.specs.declared.command.Verb.TheVariants as verb;
 ghost use Rattle.smtp_session.specs.Intake.{AreRecipients, IsKeptOnce, KeepsAccepted, KnowsRecipients, acceptance, kept_after, stored_line};
-ghost use Rattle.smtp_session.specs.Machine.{Readings, State, TellsTrees, collecting, fresh, greeted, mail, recipient_count, says, step, delivery_of, end_data};
+ghost use Rattle.smtp_session.specs.Machine.{State, collecting, fresh, greeted, mail, recipient_count, says, step, delivery_of, end_data};
+ghost use Rattle.session_core.specs.Meanings.{Meanings, TellsTrees};
 ghost use Rattle.smtp_session.specs.Room.{IsWithinLimits};
-ghost use Rattle.smtp_session.specs.Session.{IsName, later, next_moment, start_of, turns_of};
-ghost use Rattle.smtp_session.specs.Trace.{Moment};
+ghost use Rattle.smtp_session.specs.Session.{later, next_moment, start_of, turns_of};
+ghost use Rattle.session_core.specs.Desks.{IsName};
+ghost use Rattle.session_core.specs.Moments.{Moment};
 ghost use Rattle.smtp_session.specs.Transaction.{GoesOn, IsTransactionKept, TakesData, TakesRecipient, TakesSender, go_ahead, recipient_ok, sender_ok};
 ghost use Rattle.smtp_session.specs.declared.states.Client.{Client};
 ghost use Rattle.smtp_session.specs.declared.states.Envelope.{Envelope};
@@ -33,17 +35,17 @@ pub fn trees_are_told()
 /// With a recipient DATA is accepted. Data that a client sends of any lines that have a tree and are within the limits are
 /// accepted: over a stream they are kept and told to be stored, and what follows them is read on.
 pub fn whole_data_are_taken()
-    ensures begun { (readings : Readings) (client : Client) (envelope : Envelope) (store : StoreState) (argument : List ℕ) → 0 < recipient_count envelope
-        → step readings (mail client envelope) store verb.Data argument ≡ says (codes "354 go ahead") (collecting client envelope) }
-    ensures accepted { (readings : Readings) (store : StoreState) (client : Client) (envelope : Envelope) (moment : Moment) (octets : List ℕ)
-        → TellsTrees readings.has_tree → IsStored octets → IsWithinLimits store (delivery_of store client envelope moment octets)
-        → (end_data readings store client envelope moment octets).reply ≡ acceptance }
-    ensures stream { (readings : Readings) (store : StoreState) (client : Client) (envelope : Envelope) (moments : List Moment) (octets rest : List ℕ)
-        → TellsTrees readings.has_tree → IsEnded octets → IsStored octets
+    ensures begun { (meanings : Meanings) (client : Client) (envelope : Envelope) (store : StoreState) (argument : List ℕ) → 0 < recipient_count envelope
+        → step meanings (mail client envelope) store verb.Data argument ≡ says (codes "354 go ahead") (collecting client envelope) }
+    ensures accepted { (meanings : Meanings) (store : StoreState) (client : Client) (envelope : Envelope) (moment : Moment) (octets : List ℕ)
+        → TellsTrees meanings.has_tree → IsStored octets → IsWithinLimits store (delivery_of store client envelope moment octets)
+        → (end_data meanings store client envelope moment octets).reply ≡ acceptance }
+    ensures stream { (meanings : Meanings) (store : StoreState) (client : Client) (envelope : Envelope) (moments : List Moment) (octets rest : List ℕ)
+        → TellsTrees meanings.has_tree → IsEnded octets → IsStored octets
         → let delivery = delivery_of store client envelope (next_moment moments) octets in IsWithinLimits store delivery
-        → turns_of readings (record { state = collecting client envelope; store = store; moments = moments }) (sent octets rest)
+        → turns_of meanings (record { state = collecting client envelope; store = store; moments = moments }) (sent octets rest)
         ≡ behind (changes (delivered store.kept delivery) ∷ gives stored_line ∷ [])
-        (turns_of readings (record { state = greeted client; store = with_records store (delivered store.kept delivery); moments = later moments }) rest) }
+        (turns_of meanings (record { state = greeted client; store = with_records store (delivered store.kept delivery); moments = later moments }) rest) }
 {}
 
 /// The path that is written for an address is found whole behind any word, also where a space stands between, and so is the
@@ -59,14 +61,14 @@ pub fn written_paths_are_found()
 /// behind all that were there; after an accepted DATA the data are those of the transaction; and while it goes on no command takes
 /// its path or a recipient away.
 pub fn recipients_stay()
-    ensures sender { (readings : Readings) (state : State) (store : StoreState) (argument : List ℕ)
-        → let taken = step readings state store verb.Mail argument in taken.reply ≡ sender_ok → TakesSender readings argument state taken.state }
-    ensures recipient { (readings : Readings) (state : State) (store : StoreState) (argument : List ℕ)
-        → let taken = step readings state store verb.Rcpt argument in taken.reply ≡ recipient_ok → TakesRecipient readings store.kept argument state taken.state }
-    ensures data { (readings : Readings) (state : State) (store : StoreState) (argument : List ℕ)
-        → let taken = step readings state store verb.Data argument in taken.reply ≡ go_ahead → TakesData state taken.state }
-    ensures going { (readings : Readings) (client : Client) (envelope : Envelope) (store : StoreState) (word : Verb) (argument : List ℕ)
-        → GoesOn client envelope (step readings (mail client envelope) store word argument).state }
+    ensures sender { (meanings : Meanings) (state : State) (store : StoreState) (argument : List ℕ)
+        → let taken = step meanings state store verb.Mail argument in taken.reply ≡ sender_ok → TakesSender meanings argument state taken.state }
+    ensures recipient { (meanings : Meanings) (state : State) (store : StoreState) (argument : List ℕ)
+        → let taken = step meanings state store verb.Rcpt argument in taken.reply ≡ recipient_ok → TakesRecipient meanings store.kept argument state taken.state }
+    ensures data { (meanings : Meanings) (state : State) (store : StoreState) (argument : List ℕ)
+        → let taken = step meanings state store verb.Data argument in taken.reply ≡ go_ahead → TakesData state taken.state }
+    ensures going { (meanings : Meanings) (client : Client) (envelope : Envelope) (store : StoreState) (word : Verb) (argument : List ℕ)
+        → GoesOn client envelope (step meanings (mail client envelope) store word argument).state }
 {}
 
 /// Mail that is accepted is kept once for each of its recipients, and nothing else is kept: neither of mail that isn't accepted
@@ -74,23 +76,23 @@ pub fn recipients_stay()
 /// elsewhere: before the first command, after each one, and after data, where none are left. So over a whole stream each message
 /// that is kept is kept once for each of its recipients and then told to be stored, and nothing else is kept or told so.
 pub fn accepted_mail_is_kept_once()
-    ensures stored { (readings : Readings) (store : StoreState) (client : Client) (envelope : Envelope) (moment : Moment) (octets : List ℕ)
+    ensures stored { (meanings : Meanings) (store : StoreState) (client : Client) (envelope : Envelope) (moment : Moment) (octets : List ℕ)
         → IsFold store.kept → AreRecipients store.kept envelope
-        → let taken = end_data readings store client envelope moment octets in taken.reply ≡ acceptance
+        → let taken = end_data meanings store client envelope moment octets in taken.reply ≡ acceptance
         → IsKeptOnce store.kept (kept_after store taken) (delivery_of store client envelope moment octets) }
-    ensures transaction { (readings : Readings) (store : StoreState) (client : Client) (envelope : Envelope) (moment : Moment) (octets : List ℕ)
+    ensures transaction { (meanings : Meanings) (store : StoreState) (client : Client) (envelope : Envelope) (moment : Moment) (octets : List ℕ)
         → IsFold store.kept → AreRecipients store.kept envelope
-        → let taken = end_data readings store client envelope moment octets in taken.reply ≡ acceptance
+        → let taken = end_data meanings store client envelope moment octets in taken.reply ≡ acceptance
         → IsTransactionKept store.kept (kept_after store taken) client envelope moment octets }
-    ensures refused { (readings : Readings) (store : StoreState) (client : Client) (envelope : Envelope) (moment : Moment) (octets : List ℕ)
-        → let taken = end_data readings store client envelope moment octets in taken.reply ≢ acceptance → taken.changes ≡ [] }
-    ensures commands { (readings : Readings) (state : State) (store : StoreState) (verb : Verb) (argument : List ℕ)
-        → (step readings state store verb argument).changes ≡ [] }
+    ensures refused { (meanings : Meanings) (store : StoreState) (client : Client) (envelope : Envelope) (moment : Moment) (octets : List ℕ)
+        → let taken = end_data meanings store client envelope moment octets in taken.reply ≢ acceptance → taken.changes ≡ [] }
+    ensures commands { (meanings : Meanings) (state : State) (store : StoreState) (verb : Verb) (argument : List ℕ)
+        → (step meanings state store verb argument).changes ≡ [] }
     ensures fresh { (kept : Kept) → KnowsRecipients kept fresh }
-    ensures recipients { (readings : Readings) (state : State) (store : StoreState) (verb : Verb) (argument : List ℕ)
-        → KnowsRecipients store.kept state → KnowsRecipients store.kept (step readings state store verb argument).state }
-    ensures forgotten { (readings : Readings) (store : StoreState) (client : Client) (envelope : Envelope) (moment : Moment) (octets : List ℕ)
-        → (end_data readings store client envelope moment octets).state ≡ greeted client }
-    ensures stream { (readings : Readings) (store : StoreState) (moments : List Moment) (octets : List ℕ) → IsFold store.kept → IsName (name_of store.kept)
-        → KeepsAccepted store (turns_of readings (start_of store moments) octets).parts }
+    ensures recipients { (meanings : Meanings) (state : State) (store : StoreState) (verb : Verb) (argument : List ℕ)
+        → KnowsRecipients store.kept state → KnowsRecipients store.kept (step meanings state store verb argument).state }
+    ensures forgotten { (meanings : Meanings) (store : StoreState) (client : Client) (envelope : Envelope) (moment : Moment) (octets : List ℕ)
+        → (end_data meanings store client envelope moment octets).state ≡ greeted client }
+    ensures stream { (meanings : Meanings) (store : StoreState) (moments : List Moment) (octets : List ℕ) → IsFold store.kept → IsName (name_of store.kept)
+        → KeepsAccepted store (turns_of meanings (start_of store moments) octets).parts }
 {}

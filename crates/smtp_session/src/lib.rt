@@ -7,5 +7,5 @@ mod session;
 mod states;
 mod trace;
 
-pub use session::SmtpSession;
+pub use session::{SmtpMachine, SmtpSession, serve_smtp};
 pub use trace::{received_field, return_path_field};

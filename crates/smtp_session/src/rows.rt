@@ -8,7 +8,8 @@ ghost use Rattle.mail_store.specs.Kept.{name_of};
 ghost use Rattle.mail_store.specs.StoreState.{StoreState};
 ghost use Rattle.smtp_grammar.specs.Commands.{command_of, is_client as is_client_of, words_of, path_behind as path_behind_of};
 ghost use Rattle.smtp_session.specs.Machine.{greeted as greeted_of, mail as mail_of, step, offers as offers_of, client_of, ehlo_step, helo_step, within_limit, lacks_smtputf8 as lacks_smtputf8_of, mail_by, mail_step, is_same_remote as is_same_remote_of, recipient_count as recipient_count_of, rcpt_local, rcpt_remote, rcpt_to, alone, rcpt_step, data_step, reset as reset_of};
-ghost use Rattle.smtp_session.specs.Session.{Knows, KnowsState, WithReadings, reply_octets, state_of, state_or_ended};
+ghost use Rattle.smtp_session.specs.Session.{Knows, KnowsState, reply_octets, state_of, state_or_ended};
+ghost use Rattle.session_core.specs.Meanings.{WithMeanings};
 
 use crate::states::{Client, Envelope, Greeted, Mail, Smtp, SmtpState};
 use ace_domains::same;
@@ -227,10 +228,10 @@ fn mail(
     store: &Store,
 ) -> Result<Reply, Memory>
     requires { is_client_of session.state.client.name ≡ true }
-    ensures reply { IfOk result (λ reply. WithReadings (λ readings. reply.octets
-        ≡ reply_octets (mail_step readings (greeted_of session.state.client) store.now argument.now).reply)) }
-    ensures next { IfOk result (λ reply. WithReadings (λ readings. state_or_ended reply.next
-        ≡ (mail_step readings (greeted_of session.state.client) store.now argument.now).state)) }
+    ensures reply { IfOk result (λ reply. WithMeanings (λ meanings. reply.octets
+        ≡ reply_octets (mail_step meanings (greeted_of session.state.client) store.now argument.now).reply)) }
+    ensures next { IfOk result (λ reply. WithMeanings (λ meanings. state_or_ended reply.next
+        ≡ (mail_step meanings (greeted_of session.state.client) store.now argument.now).state)) }
     ensures known { IfOk result (λ reply. KnowsState store.now (state_or_ended reply.next)) }
 {
     let Some(given) = path_behind(b"FROM:", argument) else {
@@ -260,10 +261,10 @@ fn answer_mail(
     store: &Store,
 ) -> Result<Reply, Memory>
     requires { KnowsState store.now (state_of state) }
-    ensures reply { IfOk result (λ reply. WithReadings (λ readings. reply.octets
-        ≡ reply_octets (mail_step readings (state_of state) store.now argument.now).reply)) }
-    ensures next { IfOk result (λ reply. WithReadings (λ readings. state_or_ended reply.next
-        ≡ (mail_step readings (state_of state) store.now argument.now).state)) }
+    ensures reply { IfOk result (λ reply. WithMeanings (λ meanings. reply.octets
+        ≡ reply_octets (mail_step meanings (state_of state) store.now argument.now).reply)) }
+    ensures next { IfOk result (λ reply. WithMeanings (λ meanings. state_or_ended reply.next
+        ≡ (mail_step meanings (state_of state) store.now argument.now).state)) }
     ensures known { IfOk result (λ reply. KnowsState store.now (state_or_ended reply.next)) }
 {
     match state {
@@ -376,10 +377,10 @@ fn rcpt_path(
     requires client { is_client_of session.state.client.name ≡ true }
     requires known { Knows store.now session.state.envelope }
     requires address { IsSendable address }
-    ensures reply { IfOk result (λ reply. WithReadings (λ readings. reply.octets
-        ≡ reply_octets (rcpt_to readings session.state.client session.state.envelope store.now (Some (Some address))).reply)) }
-    ensures next { IfOk result (λ reply. WithReadings (λ readings. state_or_ended reply.next
-        ≡ (rcpt_to readings session.state.client session.state.envelope store.now (Some (Some address))).state)) }
+    ensures reply { IfOk result (λ reply. WithMeanings (λ meanings. reply.octets
+        ≡ reply_octets (rcpt_to meanings session.state.client session.state.envelope store.now (Some (Some address))).reply)) }
+    ensures next { IfOk result (λ reply. WithMeanings (λ meanings. state_or_ended reply.next
+        ≡ (rcpt_to meanings session.state.client session.state.envelope store.now (Some (Some address))).state)) }
     ensures known { IfOk result (λ reply. KnowsState store.now (state_or_ended reply.next)) }
 {
     if lacks_smtputf8(session.state.envelope.smtputf8, &address) {
@@ -415,10 +416,10 @@ fn lone_path<'a>(word: &[u8], argument: &'a [u8]) -> Option<PathAndRest<'a>>
 fn rcpt(alloc: Global, session: Smtp<Mail>, argument: &[u8], store: &Store) -> Result<Reply, Memory>
     requires client { is_client_of session.state.client.name ≡ true }
     requires known { Knows store.now session.state.envelope }
-    ensures reply { IfOk result (λ reply. WithReadings (λ readings. reply.octets
-        ≡ reply_octets (rcpt_step readings (mail_of session.state.client session.state.envelope) store.now argument.now).reply)) }
-    ensures next { IfOk result (λ reply. WithReadings (λ readings. state_or_ended reply.next
-        ≡ (rcpt_step readings (mail_of session.state.client session.state.envelope) store.now argument.now).state)) }
+    ensures reply { IfOk result (λ reply. WithMeanings (λ meanings. reply.octets
+        ≡ reply_octets (rcpt_step meanings (mail_of session.state.client session.state.envelope) store.now argument.now).reply)) }
+    ensures next { IfOk result (λ reply. WithMeanings (λ meanings. state_or_ended reply.next
+        ≡ (rcpt_step meanings (mail_of session.state.client session.state.envelope) store.now argument.now).state)) }
     ensures known { IfOk result (λ reply. KnowsState store.now (state_or_ended reply.next)) }
 {
     let Some(given) = lone_path(b"TO:", argument) else {
@@ -438,10 +439,10 @@ fn answer_rcpt(
     store: &Store,
 ) -> Result<Reply, Memory>
     requires { KnowsState store.now (state_of state) }
-    ensures reply { IfOk result (λ reply. WithReadings (λ readings. reply.octets
-        ≡ reply_octets (rcpt_step readings (state_of state) store.now argument.now).reply)) }
-    ensures next { IfOk result (λ reply. WithReadings (λ readings. state_or_ended reply.next
-        ≡ (rcpt_step readings (state_of state) store.now argument.now).state)) }
+    ensures reply { IfOk result (λ reply. WithMeanings (λ meanings. reply.octets
+        ≡ reply_octets (rcpt_step meanings (state_of state) store.now argument.now).reply)) }
+    ensures next { IfOk result (λ reply. WithMeanings (λ meanings. state_or_ended reply.next
+        ≡ (rcpt_step meanings (state_of state) store.now argument.now).state)) }
     ensures known { IfOk result (λ reply. KnowsState store.now (state_or_ended reply.next)) }
 {
     match state {
@@ -499,10 +500,10 @@ fn answer_command(
     store: &Store,
 ) -> Result<Reply, Memory>
     requires { KnowsState store.now (state_of state) }
-    ensures reply { IfOk result (λ reply. WithReadings (λ readings. reply.octets
-        ≡ reply_octets (step readings (state_of state) store.now verb argument.now).reply)) }
-    ensures next { IfOk result (λ reply. WithReadings (λ readings. state_or_ended reply.next
-        ≡ (step readings (state_of state) store.now verb argument.now).state)) }
+    ensures reply { IfOk result (λ reply. WithMeanings (λ meanings. reply.octets
+        ≡ reply_octets (step meanings (state_of state) store.now verb argument.now).reply)) }
+    ensures next { IfOk result (λ reply. WithMeanings (λ meanings. state_or_ended reply.next
+        ≡ (step meanings (state_of state) store.now verb argument.now).state)) }
     ensures known { IfOk result (λ reply. KnowsState store.now (state_or_ended reply.next)) }
 {
     match verb {
@@ -526,10 +527,10 @@ fn answer_command(
 pub fn answer(alloc: Global, state: SmtpState, line: &[u8], store: &Store) -> Result<Reply, Memory>
     requires line { 2 ≤ length line.now }
     requires known { KnowsState store.now (state_of state) }
-    ensures reply { IfOk result (λ reply. WithReadings (λ readings. reply.octets
-        ≡ reply_octets (step readings (state_of state) store.now (command_of line.now).verb (command_of line.now).argument).reply)) }
-    ensures next { IfOk result (λ reply. WithReadings (λ readings. state_or_ended reply.next
-        ≡ (step readings (state_of state) store.now (command_of line.now).verb (command_of line.now).argument).state)) }
+    ensures reply { IfOk result (λ reply. WithMeanings (λ meanings. reply.octets
+        ≡ reply_octets (step meanings (state_of state) store.now (command_of line.now).verb (command_of line.now).argument).reply)) }
+    ensures next { IfOk result (λ reply. WithMeanings (λ meanings. state_or_ended reply.next
+        ≡ (step meanings (state_of state) store.now (command_of line.now).verb (command_of line.now).argument).state)) }
     ensures known { IfOk result (λ reply. KnowsState store.now (state_or_ended reply.next)) }
 {
     let command = read_command(line);

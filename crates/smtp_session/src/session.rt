@@ -1,33 +1,37 @@
-//! A session over a wire.
-ghost use Rattle.std.specs.Prelude.{◌≡◌, ◌++◌, ◌<◌, ◌≤◌, ◌-◌, ℕ, List, IfOk, IfSome, OnOk, Err, Option, Some, None, Bool, ◌*◌, ◌+◌, string_bytes, IsTrue, ◌↔◌, true, false, [], drop, length};
-ghost use Rattle.std.specs.List.{All};
-ghost use Rattle.mail_wire.specs.Keeping.{HasKeeperCause};
-ghost use Rattle.mail_wire.specs.Moves.{GivesOrFails, HasWireCause};
+//! A session over its outside.
+ghost use Rattle.std.specs.Prelude.{◌≡◌, ◌++◌, ◌<◌, ◌≤◌, ℕ, List, Bool, IfOk, IfSome, string_bytes, IsTrue, ◌↔◌, [], drop, length};
 ghost use Rattle.mail_wire.specs.Dots.{unstuffed};
 ghost use Rattle.address_grammar.specs.Paths.{ComesInPath};
+ghost use Rattle.journal_records.specs.Stored.{IsStored};
+ghost use Rattle.mail_store.specs.Changing.{IsDeliverable};
 ghost use Rattle.mail_store.specs.Kept.{name_of};
 ghost use Rattle.mail_store.specs.StoreState.{StoreState};
-ghost use Rattle.mail_store.specs.Changing.{IsDeliverable};
-ghost use Rattle.session_core.specs.Done.{Does};
-ghost use Rattle.journal_records.specs.Stored.{IsStored};
+ghost use Rattle.session_core.specs.Desks.{IsOpen};
+ghost use Rattle.session_core.specs.Doing.{Does, Makes, Replies};
+ghost use Rattle.session_core.specs.Keeps.{Keeps, fault_of};
+ghost use Rattle.session_core.specs.Meanings.{TellsTrees, WithMeanings};
+ghost use Rattle.session_core.specs.Moments.{IsMoment, moment_of};
+ghost use Rattle.session_core.specs.Served.{met_of};
+ghost use Rattle.session_core.specs.Serving.{ServesBy};
+ghost use Rattle.session_core.specs.Steps.{IsReadyAfter, Steps};
+ghost use Rattle.session_core.specs.declared.desk.Desk.{Desk};
 ghost use Rattle.smtp_grammar.specs.Commands.{command_of};
-ghost use Rattle.smtp_grammar.specs.Data.{end_cut};
-ghost use Rattle.smtp_session.specs.Machine.{TellsTrees, acts_in, delivery_of, end_by, end_data as end_of, ended, step};
-ghost use Rattle.smtp_session.specs.Session.{FeedsBy, HasRest, HasRestIn, IsName, IsReady, IsTold, KnowsState, ReadsLines, WithReadings, greeting, line_octets, machine_of, reply_octets, session_state, start_of, state_of, state_or_ended, turns_of};
-ghost use Rattle.smtp_session.specs.Trace.{IsMoment, Moment, protocol as protocol_of, received, return_path};
-ghost use Rattle.smtp_session.specs.private.Steps.{HasRestAfter, IsReadyAfter, IsSaid, Makes, Steps, content_of, moment_of};
+ghost use Rattle.smtp_grammar.specs.Reading.{HasEnded};
+ghost use Rattle.smtp_session.specs.Machine.{acts_in, delivery_of, end_by, end_data as end_of, step};
+ghost use Rattle.smtp_session.specs.Session.{IsReady, KnowsState, SmtpStands, greeting, line_octets, next_turn, reply_octets, smtp_protocol, state_of, state_or_ended};
+ghost use Rattle.smtp_session.specs.SmtpLaws.{begins_fit_by, fits_by, framed_by, goes_on_by, quiet_by, waits_by};
+ghost use Rattle.smtp_session.specs.Trace.{protocol as protocol_of, received, return_path};
+ghost use Rattle.smtp_session.specs.private.Steps.{DoesBy, IsFirst, IsFirstNext, ReadsLines, content_of, state_behind};
 
 use crate::rows::{Reply, TOO_LARGE, answer};
 use crate::states::{Client, Data, Envelope, Fresh, Greeted, Smtp, SmtpState};
 use crate::trace::{received_field, return_path_field};
 use address_grammar::Address;
-use mail_store::{Delivery, Store, StoreFault, has_large_octets};
-use mail_wire::{
-    Clock, Fault, FoundLine, Keeper, Memory, Octets, PIECE, Wire, date_text, find_line, give_all,
-    internal_date,
-};
+use mail_store::{Delivery, has_large_octets};
+use mail_wire::{Clock, Fault, FoundLine, Keeper, Memory, Octets, Wire, find_line};
 use mime_tree::{TreeFault, read_tree};
-use smtp_grammar::{find_data_end, push_unstuffed};
+use session_core::{Came, Delivered, Machine, Outside, Served, Session, Stamp, serve};
+use smtp_grammar::DataReader;
 use std::alloc::Global;
 
 const TOO_LONG: &[u8] = b"500 5.5.2 line too long\r\n";
@@ -36,20 +40,11 @@ const NOT_A_MESSAGE: &[u8] = b"554 5.6.0 not a message\r\n";
 
 const STORED: &[u8] = b"250 2.0.0 stored\r\n";
 
-/// A session that has not ended: what came of its next command or of its data, and its state. Data stand behind the CRLF of
-/// their command; of those that are dropped the last octets are kept.
+/// A session that has not ended, with what was read of the data where it takes data.
 #[derive(Debug, Drop)]
-pub struct Reading {
-    alloc: Global,
-    pub kept: Octets,
+pub struct SmtpMachine {
     pub state: SmtpState,
-}
-
-/// A session.
-#[derive(Debug, Drop)]
-pub enum SmtpSession {
-    Open(Reading),
-    Ended,
+    pub reader: DataReader,
 }
 
 // The greeting of a server of this name.
@@ -68,25 +63,6 @@ fn protocol(smtputf8: bool, extended: bool) -> &'static [u8]
         (false, true) => b"ESMTP",
         (false, false) => b"SMTP",
     }
-}
-
-// The texts of the moment at which data ended.
-#[derive(Debug, Drop)]
-struct Stamp {
-    date: Octets,
-    internal: Octets,
-}
-
-// The texts of this moment.
-fn read_stamp<C: Clock>(alloc: Global, clock: &mut C) -> Result<Stamp, Memory>
-    ensures told { IfOk result (λ stamp. IsTold (C.tells clock.old) (moment_of stamp)) }
-    ensures clock { C.tells clock.new ≡ C.tells clock.old }
-{
-    let seconds = clock.now();
-    Ok(Stamp {
-        date: date_text(alloc, seconds)?,
-        internal: internal_date(alloc, seconds)?,
-    })
 }
 
 // The octets that are kept of data: those for accounts, and those for addresses elsewhere. The content of the latter stands
@@ -122,25 +98,25 @@ fn local_octets(alloc: Global, path: &Option<Address>, remote: &[u8]) -> Result<
     Ok(octets)
 }
 
-// The octets that are kept of data that came at this date.
+// The octets that are kept of this content, which came at this date.
 fn kept_octets(
     alloc: Global,
     client: &Client,
     envelope: &Envelope,
     name: &[u8],
-    lines: &[u8],
+    content: &[u8],
     date: &[u8],
 ) -> Result<KeptOctets, Memory>
     requires { IfSome envelope.now.path ComesInPath }
     ensures local { IfOk result (λ kept. kept.local ≡ return_path envelope.now.path ++ kept.remote) }
     ensures remote { IfOk result (λ kept. kept.remote
-        ≡ received client.now.name name.now (protocol_of envelope.now.smtputf8 client.now.extended) date.now ++ unstuffed lines.now) }
+        ≡ received client.now.name name.now (protocol_of envelope.now.smtputf8 client.now.extended) date.now ++ content.now) }
     ensures within { IfOk result (λ kept. kept.trace_len ≤ length kept.remote) }
-    ensures content { IfOk result (λ kept. drop kept.trace_len kept.remote ≡ unstuffed lines.now) }
+    ensures content { IfOk result (λ kept. drop kept.trace_len kept.remote ≡ content.now) }
 {
     let mut remote = trace_field(alloc, client, envelope, name, date)?;
     let trace_len = remote.len();
-    push_unstuffed(&mut remote, lines)?;
+    remote.push_slice(content)?;
     let local = local_octets(alloc, &envelope.path, remote.as_slice())?;
     Ok(KeptOctets {
         local,
@@ -156,23 +132,23 @@ struct Accepted {
     trace_len: usize,
 }
 
-// What is kept of data that came at this moment.
+// What is kept of this content, which came at this moment.
 fn accept_data(
     alloc: Global,
     client: &Client,
     envelope: Envelope,
     name: &[u8],
-    lines: &[u8],
+    content: &[u8],
     stamp: Stamp,
 ) -> Result<Accepted, Memory>
     requires { IfSome envelope.path ComesInPath }
     ensures delivery { IfOk result (λ accepted. (store : StoreState) → name.now ≡ name_of store.kept
-        → accepted.delivery ≡ delivery_of store client.now envelope (moment_of stamp) (unstuffed lines.now)) }
+        → accepted.delivery ≡ delivery_of store client.now envelope (moment_of stamp) content.now) }
     ensures within { IfOk result (λ accepted. accepted.trace_len ≤ length accepted.delivery.remote_octets) }
-    ensures content { IfOk result (λ accepted. content_of accepted ≡ unstuffed lines.now) }
+    ensures content { IfOk result (λ accepted. content_of accepted ≡ content.now) }
 {
     let date = stamp.date.as_slice();
-    let octets = kept_octets(alloc, client, &envelope, name, lines, date)?;
+    let octets = kept_octets(alloc, client, &envelope, name, content, date)?;
     let delivery = Delivery {
         path: envelope.path,
         local: envelope.local,
@@ -199,459 +175,277 @@ fn is_message(alloc: Global, octets: &[u8]) -> Result<bool, Memory>
 }
 
 // Keeps a message, or tells why not.
-fn deliver<J: Keeper>(
-    alloc: Global,
+fn deliver<W: Wire, J: Keeper, C: Clock>(
     accepted: &Accepted,
-    store: &mut Store,
-    keeper: &mut J,
+    outside: &mut Outside<W, J, C>,
 ) -> Result<&'static [u8], Fault>
-    requires works { store.old.failed ≡ false }
+    requires opens { IsOpen outside.old.desk }
     requires within { accepted.now.trace_len ≤ length accepted.now.delivery.remote_octets }
-    requires deliverable { IsStored (content_of accepted.now) → IsDeliverable store.old accepted.now.delivery }
+    requires deliverable { IsStored (content_of accepted.now) → IsDeliverable outside.old.desk.store accepted.now.delivery }
     ensures reply { IfOk result (λ reply. (has_tree : List ℕ → Bool) → TellsTrees has_tree → (client : Client)
-        → reply.now ≡ reply_octets (end_by (has_tree (content_of accepted.now)) store.old client accepted.now.delivery).reply) }
-    ensures makes { (has_tree : List ℕ → Bool) → TellsTrees has_tree → (client : Client) → Makes store.old store.new (J.tells keeper.old).octets (J.tells keeper.new).octets result
-        (end_by (has_tree (content_of accepted.now)) store.old client accepted.now.delivery).changes }
-    ensures works { ¬ (result ≡ Err Fault.Keeper) → store.new.failed ≡ false }
-    ensures limit { store.new.message_max ≡ store.old.message_max }
-    ensures name { name_of store.new.kept ≡ name_of store.old.kept }
-    ensures wire { ¬ (result ≡ Err Fault.Wire) }
-    ensures keeper { HasKeeperCause (J.tells keeper.old) (J.tells keeper.new) result Fault.Keeper }
+        → reply.now ≡ reply_octets (end_by (has_tree (content_of accepted.now)) outside.old.desk.store client accepted.now.delivery).reply) }
+    ensures makes { (has_tree : List ℕ → Bool) → TellsTrees has_tree → (client : Client) → Makes outside.old outside.new (fault_of result)
+        (end_by (has_tree (content_of accepted.now)) outside.old.desk.store client accepted.now.delivery).changes }
+    ensures keeps { Keeps outside.old outside.new (fault_of result) }
 {
     let delivery = &accepted.delivery;
-    if has_large_octets(delivery, store.message_max()) {
+    if has_large_octets(delivery, outside.store().message_max()) {
         return Ok(TOO_LARGE);
     }
     let (_, content) = delivery
         .remote_octets
         .as_slice()
         .split_at(accepted.trace_len);
-    if !is_message(alloc, content)? {
+    if !is_message(outside.alloc(), content)? {
         return Ok(NOT_A_MESSAGE);
     }
-    match store.deliver(keeper, delivery) {
-        Ok(()) => Ok(STORED),
-        Err(StoreFault::TooLarge) => Ok(TOO_LARGE),
-        Err(StoreFault::Keeper) => Err(Fault::Keeper),
-        Err(StoreFault::Memory) => Err(Fault::Memory),
-        Err(StoreFault::Exists | StoreFault::NoSuch) => unreachable!(),
+    match outside.deliver(delivery)? {
+        Delivered::Stored => Ok(STORED),
+        Delivered::TooLarge => Ok(TOO_LARGE),
     }
 }
 
 // The reply to data; the client may send other mail.
-fn reply_to_data<W: Wire>(
+fn reply_to_data<W: Wire, J: Keeper, C: Clock>(
     client: Client,
     reply: &'static [u8],
-    wire: &mut W,
+    outside: &mut Outside<W, J, C>,
 ) -> Result<Smtp<Greeted>, Fault>
-    ensures gives { GivesOrFails (W.tells wire.old) (W.tells wire.new) result reply.now }
+    ensures replies { Replies outside.old outside.new (fault_of result) reply.now }
     ensures client { IfOk result (λ next. next.state.client ≡ client) }
-    ensures cause { HasWireCause (W.tells wire.old) (W.tells wire.new) result Fault.Wire }
-    ensures keeper { ¬ (result ≡ Err Fault.Keeper) }
+    ensures keeps { Keeps outside.old outside.new (fault_of result) }
 {
-    give_all(wire, reply)?;
+    outside.give(reply)?;
     Ok(Smtp::greeted(client))
 }
 
 // Keeps a message, or tells why not, and then gives the reply.
-fn finish_data<W: Wire, J: Keeper>(
-    alloc: Global,
+fn finish_data<W: Wire, J: Keeper, C: Clock>(
     client: Client,
     accepted: Accepted,
-    store: &mut Store,
-    wire: &mut W,
-    keeper: &mut J,
+    outside: &mut Outside<W, J, C>,
 ) -> Result<Smtp<Greeted>, Fault>
-    requires works { store.old.failed ≡ false }
+    requires opens { IsOpen outside.old.desk }
     requires within { accepted.trace_len ≤ length accepted.delivery.remote_octets }
-    requires deliverable { IsStored (content_of accepted) → IsDeliverable store.old accepted.delivery }
-    ensures does { (has_tree : List ℕ → Bool) → TellsTrees has_tree
-        → Does line_octets (W.tells wire.old) (W.tells wire.new) store.old store.new (J.tells keeper.old).octets (J.tells keeper.new).octets result
-        (acts_in (end_by (has_tree (content_of accepted)) store.old client accepted.delivery)) }
+    requires deliverable { IsStored (content_of accepted) → IsDeliverable outside.old.desk.store accepted.delivery }
+    ensures does { DoesBy outside.old outside.new (fault_of result) (λ has_tree. end_by (has_tree (content_of accepted)) outside.old.desk.store client accepted.delivery) }
     ensures client { IfOk result (λ next. next.state.client ≡ client) }
-    ensures works { ¬ (result ≡ Err Fault.Keeper) → store.new.failed ≡ false }
-    ensures limit { store.new.message_max ≡ store.old.message_max }
-    ensures name { name_of store.new.kept ≡ name_of store.old.kept }
-    ensures cause { HasWireCause (W.tells wire.old) (W.tells wire.new) result Fault.Wire }
-    ensures keeper { HasKeeperCause (J.tells keeper.old) (J.tells keeper.new) result Fault.Keeper }
+    ensures keeps { Keeps outside.old outside.new (fault_of result) }
 {
-    let delivered = deliver(alloc, &accepted, store, keeper);
+    let delivered = deliver(&accepted, outside);
     drop(accepted);
     let reply = delivered?;
-    reply_to_data(client, reply, wire)
+    reply_to_data(client, reply, outside)
 }
 
 // Data that are whole, and the moment at which they ended.
 #[derive(Debug, Drop)]
 struct WholeData {
     session: Smtp<Data>,
+    reader: DataReader,
     stamp: Stamp,
 }
 
-// The end of data, which are these lines.
-fn end_data<W: Wire, J: Keeper>(
-    alloc: Global,
+// The end of data.
+fn end_data<W: Wire, J: Keeper, C: Clock>(
     whole: WholeData,
-    lines: &[u8],
-    store: &mut Store,
-    wire: &mut W,
-    keeper: &mut J,
+    outside: &mut Outside<W, J, C>,
 ) -> Result<Smtp<Greeted>, Fault>
     requires moment { (seconds : ℕ) × IsMoment seconds (moment_of whole.stamp) }
-    requires works { store.old.failed ≡ false }
-    requires named { IsName (name_of store.old.kept) }
-    requires known { KnowsState store.old (state_of (SmtpState.Data whole.session)) }
-    ensures does { WithReadings (λ readings. (octets : List ℕ) → IsSaid whole.session.state.dropped store.old.message_max lines.now octets
-        → Does line_octets (W.tells wire.old) (W.tells wire.new) store.old store.new (J.tells keeper.old).octets (J.tells keeper.new).octets result
-        (acts_in (end_of readings store.old whole.session.state.client whole.session.state.envelope (moment_of whole.stamp) octets))) }
+    requires opens { IsOpen outside.old.desk }
+    requires limit { whole.reader.limit ≡ outside.old.desk.store.message_max }
+    requires known { KnowsState outside.old.desk.store (state_of (SmtpState.Data whole.session)) }
+    ensures does { WithMeanings (λ meanings. (lines : List ℕ) → HasEnded whole.reader lines
+        → Does line_octets outside.old outside.new (fault_of result)
+        (acts_in (end_of meanings outside.old.desk.store whole.session.state.client whole.session.state.envelope (moment_of whole.stamp) (unstuffed lines)))) }
     ensures client { IfOk result (λ next. next.state.client ≡ whole.session.state.client) }
-    ensures works { ¬ (result ≡ Err Fault.Keeper) → store.new.failed ≡ false }
-    ensures limit { store.new.message_max ≡ store.old.message_max }
-    ensures name { name_of store.new.kept ≡ name_of store.old.kept }
-    ensures cause { HasWireCause (W.tells wire.old) (W.tells wire.new) result Fault.Wire }
-    ensures keeper { HasKeeperCause (J.tells keeper.old) (J.tells keeper.new) result Fault.Keeper }
+    ensures keeps { Keeps outside.old outside.new (fault_of result) }
 {
-    let WholeData { session, stamp } = whole;
-    let Data {
-        client,
-        envelope,
-        dropped,
-    } = session.state;
-    if dropped {
-        return reply_to_data(client, TOO_LARGE, wire);
+    let WholeData {
+        session,
+        reader,
+        stamp,
+    } = whole;
+    let Data { client, envelope } = session.state;
+    let Some(content) = reader.into_content() else {
+        return reply_to_data(client, TOO_LARGE, outside);
+    };
+    let name = outside.store().name().as_bytes();
+    let accepted = accept_data(outside.alloc(), &client, envelope, name, content.as_slice(), stamp)?;
+    drop(content);
+    finish_data(client, accepted, outside)
+}
+
+// A session in this state, with nothing read of data.
+fn begun(alloc: Global, max: u32, state: SmtpState) -> SmtpMachine
+    ensures state { result.state ≡ state }
+    ensures first { (desk : Desk) → desk.store.message_max ≡ max → KnowsState desk.store (state_of state) → IsFirst result desk }
+{
+    SmtpMachine {
+        state,
+        reader: DataReader::new(alloc, max),
     }
-    let name = store.name().as_bytes();
-    let accepted = accept_data(alloc, &client, envelope, name, lines, stamp)?;
-    finish_data(alloc, client, accepted, store, wire, keeper)
-}
-
-// The most octets of data of which it isn't known yet that they are too large: each line has two octets at least, and loses
-// one dot at most.
-fn most_kept(max: u32) -> usize
-    ensures { result ≡ 2 * max + 16 }
-{
-    2 * max as usize + 16
-}
-
-// Leaves the last four octets, which tell whether the data's end comes next.
-fn drop_front(alloc: Global, kept: &mut Octets) -> Result<(), Memory>
-    requires { 4 ≤ length kept.old }
-    ensures { OnOk result (kept.new ≡ drop (length kept.old - 4) kept.old) }
-{
-    let at = kept.len() - 4;
-    let (_, tail) = kept.as_slice().split_at(at);
-    let tail = Octets::from_slice(alloc, tail)?;
-    *kept = tail;
-    Ok(())
-}
-
-// Data without an end, which are dropped where they are too large already.
-fn keep_data(
-    alloc: Global,
-    mut session: Smtp<Data>,
-    kept: &mut Octets,
-    max: u32,
-) -> Result<Smtp<Data>, Memory>
-    requires none { end_cut kept.old ≡ None }
-    requires enough { session.state.dropped ≡ true → 4 ≤ length kept.old }
-    ensures client { IfOk result (λ next. next.state.client ≡ session.state.client) }
-    ensures envelope { IfOk result (λ next. next.state.envelope ≡ session.state.envelope) }
-    ensures none { IfOk result (λ next. end_cut kept.new ≡ None) }
-    ensures enough { IfOk result (λ next. next.state.dropped ≡ true → 4 ≤ length kept.new) }
-    ensures rest { IfOk result (λ next. (rest : List ℕ) → HasRestIn (SmtpState.Data session) max kept.old rest → HasRestIn (SmtpState.Data next) max kept.new rest) }
-{
-    if session.state.dropped || kept.len() > most_kept(max) {
-        session.state.dropped = true;
-        drop_front(alloc, kept)?;
-    }
-    Ok(session)
-}
-
-// What came of a piece: the state behind it, none where the session has ended, and how many octets were used.
-#[derive(Debug, Drop)]
-struct Came {
-    next: Option<SmtpState>,
-    used: usize,
 }
 
 // Data, as far as they are in the piece.
 fn take_data<W: Wire, J: Keeper, C: Clock>(
-    alloc: Global,
     session: Smtp<Data>,
+    mut reader: DataReader,
     kept: &mut Octets,
-    rest: &[u8],
-    store: &mut Store,
-    wire: &mut W,
-    keeper: &mut J,
-    clock: &mut C,
-) -> Result<Came, Fault>
-    requires some { 0 < length rest.now }
-    requires works { store.old.failed ≡ false }
-    requires named { IsName (name_of store.old.kept) }
-    requires ready { IsReadyAfter (Some (SmtpState.Data session)) kept.old store.old }
-    ensures steps { Steps (C.tells clock.old) (W.tells wire.old) (W.tells wire.new) store.old store.new (J.tells keeper.old).octets (J.tells keeper.new).octets
-        (SmtpState.Data session) kept.old kept.new rest.now result }
-    ensures used { IfOk result (λ came. (0 < came.used) × (came.used ≤ length rest.now)) }
-    ensures ready { IfOk result (λ came. IsReadyAfter came.next kept.new store.new) }
-    ensures works { ¬ (result ≡ Err Fault.Keeper) → store.new.failed ≡ false }
-    ensures limit { store.new.message_max ≡ store.old.message_max }
-    ensures name { name_of store.new.kept ≡ name_of store.old.kept }
-    ensures clock { C.tells clock.new ≡ C.tells clock.old }
-    ensures cause { HasWireCause (W.tells wire.old) (W.tells wire.new) result Fault.Wire }
-    ensures keeper { HasKeeperCause (J.tells keeper.old) (J.tells keeper.new) result Fault.Keeper }
+    piece: &[u8],
+    outside: &mut Outside<W, J, C>,
+) -> Result<Came<SmtpMachine>, Fault>
+    requires some { 0 < length piece.now }
+    requires opens { IsOpen outside.old.desk }
+    requires ready { IsReady (record { state = SmtpState.Data session; reader = reader }) kept.old outside.old.desk }
+    ensures steps { Steps smtp_protocol SmtpStands outside.old outside.new (record { state = SmtpState.Data session; reader = reader }) kept.old kept.new piece.now result }
+    ensures used { IfOk result (λ came. (0 < came.used) × (came.used ≤ length piece.now)) }
+    ensures ready { IfOk result (λ came. IsReadyAfter IsReady came kept.new outside.new.desk) }
+    ensures keeps { Keeps outside.old outside.new (fault_of result) }
 {
-    let old = kept.len();
-    let (front, _) = rest.split_at(rest.len().min(PIECE));
-    kept.push_slice(front)?;
-    match find_data_end(kept.as_slice(), old) {
-        Some(at) => {
-            let stamp = read_stamp(alloc, clock)?;
-            let (found, _) = kept.as_slice().split_at(at + 2);
-            let (_, lines) = found.split_at(2);
-            let whole = WholeData { session, stamp };
-            let next = end_data(alloc, whole, lines, store, wire, keeper)?;
-            kept.clear();
-            Ok(Came {
-                next: Some(SmtpState::Greeted(next)),
-                used: at + 5 - old,
-            })
-        }
-        None => {
-            let session = keep_data(alloc, session, kept, store.message_max())?;
-            Ok(Came {
-                next: Some(SmtpState::Data(session)),
-                used: front.len(),
-            })
-        }
-    }
-}
-
-// What is kept before anything comes. Data stand behind the CRLF of their command, and none of them are dropped yet.
-fn begin(kept: &mut Octets, next: Option<SmtpState>) -> Result<Option<SmtpState>, Memory>
-    ensures state { IfOk result (λ begun. state_or_ended begun ≡ state_or_ended next) }
-    ensures rest { IfOk result (λ begun. (message_max : ℕ) → HasRestAfter begun message_max kept.new []) }
-    ensures ready { IfOk result (λ begun. (store : StoreState) → KnowsState store (state_or_ended next) → IsReadyAfter begun kept.new store) }
-{
-    kept.clear();
-    let Some(state) = next else {
-        return Ok(None);
+    let Some(used) = reader.take(piece)? else {
+        return Ok(Came {
+            next: Some(SmtpMachine {
+                state: SmtpState::Data(session),
+                reader,
+            }),
+            used: piece.len(),
+        });
     };
-    match state {
-        SmtpState::Data(mut session) => {
-            kept.push_slice(b"\r\n")?;
-            session.state.dropped = false;
-            Ok(Some(SmtpState::Data(session)))
-        }
-        state => Ok(Some(state)),
-    }
+    let stamp = outside.now()?;
+    let whole = WholeData {
+        session,
+        reader,
+        stamp,
+    };
+    let greeted = end_data(whole, outside)?;
+    let (alloc, max) = (outside.alloc(), outside.store().message_max());
+    Ok(Came {
+        next: Some(begun(alloc, max, SmtpState::Greeted(greeted))),
+        used,
+    })
 }
 
-// A whole line, which is kept: its reply is given, and then nothing of it is kept.
-fn answer_line<W: Wire>(
-    alloc: Global,
+// A whole line: its reply is given.
+fn answer_line<W: Wire, J: Keeper, C: Clock>(
     state: SmtpState,
-    kept: &mut Octets,
-    store: &Store,
-    wire: &mut W,
-) -> Result<Option<SmtpState>, Fault>
-    requires line { 2 ≤ length kept.old }
-    requires known { KnowsState store.now (state_of state) }
-    ensures does { (had : Option (List ℕ)) → WithReadings (λ readings. Does line_octets (W.tells wire.old) (W.tells wire.new) store.now store.now had had result
-        (acts_in (step readings (state_of state) store.now (command_of kept.old).verb (command_of kept.old).argument))) }
-    ensures next { IfOk result (λ next. WithReadings (λ readings. state_or_ended next
-        ≡ (step readings (state_of state) store.now (command_of kept.old).verb (command_of kept.old).argument).state)) }
-    ensures rest { IfOk result (λ next. HasRestAfter next store.now.message_max kept.new []) }
-    ensures ready { IfOk result (λ next. IsReadyAfter next kept.new store.now) }
-    ensures cause { HasWireCause (W.tells wire.old) (W.tells wire.new) result Fault.Wire }
-    ensures keeper { ¬ (result ≡ Err Fault.Keeper) }
+    line: &[u8],
+    outside: &mut Outside<W, J, C>,
+) -> Result<Option<SmtpMachine>, Fault>
+    requires line { 2 ≤ length line.now }
+    requires opens { IsOpen outside.old.desk }
+    requires known { KnowsState outside.old.desk.store (state_of state) }
+    ensures does { WithMeanings (λ meanings. Does line_octets outside.old outside.new (fault_of result)
+        (acts_in (step meanings (state_of state) outside.old.desk.store (command_of line.now).verb (command_of line.now).argument))) }
+    ensures next { IfOk result (λ next. WithMeanings (λ meanings. state_or_ended (state_behind next)
+        ≡ (step meanings (state_of state) outside.old.desk.store (command_of line.now).verb (command_of line.now).argument).state)) }
+    ensures first { IfOk result (λ next. IsFirstNext next outside.new.desk) }
+    ensures keeps { Keeps outside.old outside.new (fault_of result) }
 {
-    let Reply { octets, next } = answer(alloc, state, kept.as_slice(), store)?;
-    give_all(wire, octets.as_slice())?;
-    Ok(begin(kept, next)?)
+    let alloc = outside.alloc();
+    let Reply { octets, next } = answer(alloc, state, line, outside.store())?;
+    outside.give(octets.as_slice())?;
+    let max = outside.store().message_max();
+    match next {
+        Some(state) => Ok(Some(begun(alloc, max, state))),
+        None => Ok(None),
+    }
 }
 
 // A line, as far as it is in the piece.
-fn take_line<W: Wire>(
-    alloc: Global,
-    state: SmtpState,
+fn take_line<W: Wire, J: Keeper, C: Clock>(
+    machine: SmtpMachine,
     kept: &mut Octets,
-    rest: &[u8],
-    store: &Store,
-    wire: &mut W,
-) -> Result<Came, Fault>
-    requires some { 0 < length rest.now }
-    requires lines { ReadsLines (state_of state) }
-    requires named { IsName (name_of store.now.kept) }
-    requires ready { IsReadyAfter (Some state) kept.old store.now }
-    ensures steps { (reading : Option ℕ) (had : Option (List ℕ)) → Steps reading (W.tells wire.old) (W.tells wire.new) store.now store.now had had state kept.old kept.new rest.now result }
-    ensures used { IfOk result (λ came. (0 < came.used) × (came.used ≤ length rest.now)) }
-    ensures ready { IfOk result (λ came. IsReadyAfter came.next kept.new store.now) }
-    ensures cause { HasWireCause (W.tells wire.old) (W.tells wire.new) result Fault.Wire }
-    ensures keeper { ¬ (result ≡ Err Fault.Keeper) }
+    piece: &[u8],
+    outside: &mut Outside<W, J, C>,
+) -> Result<Came<SmtpMachine>, Fault>
+    requires some { 0 < length piece.now }
+    requires lines { ReadsLines machine.state }
+    requires opens { IsOpen outside.old.desk }
+    requires ready { IsReady machine kept.old outside.old.desk }
+    ensures steps { Steps smtp_protocol SmtpStands outside.old outside.new machine kept.old kept.new piece.now result }
+    ensures used { IfOk result (λ came. (0 < came.used) × (came.used ≤ length piece.now)) }
+    ensures ready { IfOk result (λ came. IsReadyAfter IsReady came kept.new outside.new.desk) }
+    ensures keeps { Keeps outside.old outside.new (fault_of result) }
 {
-    match find_line(kept.as_slice(), rest) {
-        FoundLine::Whole(end) => {
-            let (front, _) = rest.split_at(end);
+    match find_line(kept.as_slice(), piece) {
+        FoundLine::Whole(used) => {
+            let (front, _) = piece.split_at(used);
             kept.push_slice(front)?;
-            let next = answer_line(alloc, state, kept, store, wire)?;
-            Ok(Came { next, used: end })
+            let next = answer_line(machine.state, kept.as_slice(), outside)?;
+            kept.clear();
+            Ok(Came { next, used })
         }
         FoundLine::TooLong => {
-            give_all(wire, TOO_LONG)?;
+            outside.give(TOO_LONG)?;
             Ok(Came {
                 next: None,
-                used: rest.len(),
+                used: piece.len(),
             })
         }
         FoundLine::Waiting => {
-            kept.push_slice(rest)?;
+            kept.push_slice(piece)?;
             Ok(Came {
-                next: Some(state),
-                used: rest.len(),
+                next: Some(machine),
+                used: piece.len(),
             })
         }
     }
 }
 
-// A line or data, as far as they are in the piece.
-fn take_next<W: Wire, J: Keeper, C: Clock>(
-    alloc: Global,
-    state: SmtpState,
-    kept: &mut Octets,
-    rest: &[u8],
-    store: &mut Store,
-    wire: &mut W,
-    keeper: &mut J,
-    clock: &mut C,
-) -> Result<Came, Fault>
-    requires some { 0 < length rest.now }
-    requires works { store.old.failed ≡ false }
-    requires named { IsName (name_of store.old.kept) }
-    requires ready { IsReadyAfter (Some state) kept.old store.old }
-    ensures steps { Steps (C.tells clock.old) (W.tells wire.old) (W.tells wire.new) store.old store.new (J.tells keeper.old).octets (J.tells keeper.new).octets
-        state kept.old kept.new rest.now result }
-    ensures used { IfOk result (λ came. (0 < came.used) × (came.used ≤ length rest.now)) }
-    ensures ready { IfOk result (λ came. IsReadyAfter came.next kept.new store.new) }
-    ensures works { ¬ (result ≡ Err Fault.Keeper) → store.new.failed ≡ false }
-    ensures limit { store.new.message_max ≡ store.old.message_max }
-    ensures name { name_of store.new.kept ≡ name_of store.old.kept }
-    ensures clock { C.tells clock.new ≡ C.tells clock.old }
-    ensures cause { HasWireCause (W.tells wire.old) (W.tells wire.new) result Fault.Wire }
-    ensures keeper { HasKeeperCause (J.tells keeper.old) (J.tells keeper.new) result Fault.Keeper }
-{
-    match state {
-        SmtpState::Data(session) => {
-            take_data(alloc, session, kept, rest, store, wire, keeper, clock)
-        }
-        state => take_line(alloc, state, kept, rest, store, wire),
-    }
-}
+impl Machine for SmtpMachine {
+    ghost protocol = { smtp_protocol };
 
-// The next piece of a session that has not ended.
-fn feed_open<W: Wire, J: Keeper, C: Clock>(
-    reading: Reading,
-    piece: &[u8],
-    store: &mut Store,
-    wire: &mut W,
-    keeper: &mut J,
-    clock: &mut C,
-) -> Result<SmtpSession, Fault>
-    requires works { store.old.failed ≡ false }
-    requires named { IsName (name_of store.old.kept) }
-    requires ready { IsReady (SmtpSession.Open reading) store.old }
-    ensures serves { (moments : List Moment) × All (IsTold (C.tells clock.old)) moments × WithReadings (λ readings. (rest : List ℕ)
-        → HasRest (SmtpSession.Open reading) store.old.message_max rest
-        → (more : List Moment) → FeedsBy (W.tells wire.old) (W.tells wire.new) store.old store.new (J.tells keeper.old).octets (J.tells keeper.new).octets result more
-        (turns_of readings (machine_of (SmtpSession.Open reading) store.old (moments ++ more)) (rest ++ piece.now))) }
-    ensures ready { IfOk result (λ session. IsReady session store.new) }
-    ensures works { ¬ (result ≡ Err Fault.Keeper) → store.new.failed ≡ false }
-    ensures limit { store.new.message_max ≡ store.old.message_max }
-    ensures name { name_of store.new.kept ≡ name_of store.old.kept }
-    ensures clock { C.tells clock.new ≡ C.tells clock.old }
-    ensures cause { HasWireCause (W.tells wire.old) (W.tells wire.new) result Fault.Wire }
-    ensures keeper { HasKeeperCause (J.tells keeper.old) (J.tells keeper.new) result Fault.Keeper }
-{
-    let Reading {
-        alloc,
-        mut kept,
-        mut state,
-    } = reading;
-    let mut rest = piece;
-    while !rest.is_empty() {
-        let came = take_next(alloc, state, &mut kept, rest, store, wire, keeper, clock)?;
-        let Came { next, used } = came;
-        let Some(next) = next else {
-            return Ok(SmtpSession::Ended);
-        };
-        let (_, others) = rest.split_at(used);
-        state = next;
-        rest = others;
-    }
-    Ok(SmtpSession::Open(Reading { alloc, kept, state }))
-}
+    ghost stands = { SmtpStands };
 
-impl SmtpSession {
-    /// Begins a session of a server of this name, and gives the greeting.
-    pub fn start<W: Wire>(alloc: Global, name: &str, wire: &mut W) -> Result<SmtpSession, Fault>
-        requires { IsName name.now }
-        ensures gives { GivesOrFails (W.tells wire.old) (W.tells wire.new) result (reply_octets (greeting name.now)) }
-        ensures stands { IfOk result (λ session. (store : StoreState) (moments : List Moment) → machine_of session store moments ≡ start_of store moments) }
-        ensures rest { IfOk result (λ session. (message_max : ℕ) → HasRest session message_max []) }
-        ensures ready { IfOk result (λ session. (store : StoreState) → IsReady session store) }
-        ensures cause { HasWireCause (W.tells wire.old) (W.tells wire.new) result Fault.Wire }
-        ensures keeper { ¬ (result ≡ Err Fault.Keeper) }
-    {
-        let text = greeting_text(alloc, name)?;
-        give_all(wire, text.as_bytes())?;
-        Ok(SmtpSession::Open(Reading {
-            alloc,
-            kept: Octets::new(alloc),
-            state: SmtpState::Fresh(Smtp { state: Fresh }),
-        }))
+    ghost is_ready = { IsReady };
+
+    fn begin<W: Wire, J: Keeper, C: Clock>(outside: &mut Outside<W, J, C>) -> Result<Self, Fault> {
+        let alloc = outside.alloc();
+        let text = greeting_text(alloc, outside.store().name())?;
+        outside.give(text.as_bytes())?;
+        let max = outside.store().message_max();
+        Ok(begun(alloc, max, SmtpState::Fresh(Smtp { state: Fresh })))
     }
 
-    /// Takes the next piece of the stream, gives the replies to the commands and to the data that are whole now, in their order,
-    /// and keeps each message before the reply that says so.
-    ///
-    /// Where a line or data end is sought in the piece alone and in the last octets of what came before. A line of more than
-    /// `LINE_MAX` octets ends the session with a reply; data that are too large are dropped as they come. After the end pieces
-    /// are taken and bring nothing. An `Err` takes the session away, and no reply says so.
-    pub fn feed<W: Wire, J: Keeper, C: Clock>(
+    fn take_next<W: Wire, J: Keeper, C: Clock>(
         self,
+        kept: &mut Octets,
         piece: &[u8],
-        store: &mut Store,
-        wire: &mut W,
-        keeper: &mut J,
-        clock: &mut C,
-    ) -> Result<SmtpSession, Fault>
-        requires works { store.old.failed ≡ false }
-        requires named { IsName (name_of store.old.kept) }
-        requires ready { IsReady self store.old }
-
-        // There are moments that the clock told, so that, whatever the rest is that the session stands for and whatever moments
-        // are still to come, the call does what the machine's turns over the rest and the piece are.
-        ensures serves { (moments : List Moment) × All (IsTold (C.tells clock.old)) moments × WithReadings (λ readings. (rest : List ℕ) → HasRest self store.old.message_max rest
-            → (more : List Moment) → FeedsBy (W.tells wire.old) (W.tells wire.new) store.old store.new (J.tells keeper.old).octets (J.tells keeper.new).octets result more
-            (turns_of readings (machine_of self store.old (moments ++ more)) (rest ++ piece.now))) }
-
-        ensures ready { IfOk result (λ session. IsReady session store.new) }
-        ensures works { ¬ (result ≡ Err Fault.Keeper) → store.new.failed ≡ false }
-        ensures limit { store.new.message_max ≡ store.old.message_max }
-        ensures name { name_of store.new.kept ≡ name_of store.old.kept }
-        ensures clock { C.tells clock.new ≡ C.tells clock.old }
-        ensures cause { HasWireCause (W.tells wire.old) (W.tells wire.new) result Fault.Wire }
-        ensures keeper { HasKeeperCause (J.tells keeper.old) (J.tells keeper.new) result Fault.Keeper }
-    {
-        match self {
-            SmtpSession::Open(reading) => feed_open(reading, piece, store, wire, keeper, clock),
-            SmtpSession::Ended => Ok(SmtpSession::Ended),
+        outside: &mut Outside<W, J, C>,
+    ) -> Result<Came<Self>, Fault> {
+        let SmtpMachine { state, reader } = self;
+        match state {
+            SmtpState::Data(session) => take_data(session, reader, kept, piece, outside),
+            state => take_line(SmtpMachine { state, reader }, kept, piece, outside),
         }
     }
 
-    /// Whether the session has ended.
-    pub fn ended(&self) -> bool
-        ensures { IsTrue result ↔ (session_state self.now ≡ ended) }
-    {
-        matches!(self, SmtpSession::Ended)
-    }
+    ghost framed = { λ meanings are. framed_by meanings };
+
+    ghost waits = { waits_by };
+
+    ghost goes_on = { goes_on_by };
+
+    ghost quiet = { quiet_by };
+
+    ghost begins_fit = { begins_fit_by };
+
+    ghost fits = { fits_by };
+}
+
+/// A session, to feed it a stream.
+pub type SmtpSession = Session<SmtpMachine>;
+
+/// Serves one session: gives the greeting, takes pieces of at most 4,096 octets, gives the replies to the commands and to the data that
+/// are whole, in their order, and keeps each message before the reply that says so.
+///
+/// A line of more than `LINE_MAX` octets ends the session with a reply; data that are too large are dropped as they come.
+/// `KeeperFault` comes where a message couldn't be put into the journal; then the store has failed.
+pub fn serve_smtp<W: Wire, J: Keeper, C: Clock>(outside: &mut Outside<W, J, C>) -> Served
+    requires { IsOpen outside.old.desk }
+    ensures serves { ServesBy smtp_protocol outside.old outside.new result }
+    ensures keeps { Keeps outside.old outside.new (met_of result) }
+{
+    serve::<SmtpMachine, W, J, C>(outside)
 }

@@ -41,12 +41,11 @@ pub struct Mail {
     pub envelope: Envelope,
 }
 
-/// DATA was accepted, and data come. Those that are too large already are dropped.
+/// DATA was accepted, and data come.
 #[derive(Debug, Drop)]
 pub struct Data {
     pub client: Client,
     pub envelope: Envelope,
-    pub dropped: bool,
 }
 
 // FRESH --EHLO, HELO--> GREETED --MAIL--> MAIL --DATA--> DATA --the line `.`--> GREETED
@@ -123,13 +122,11 @@ impl Smtp<Mail> {
     pub fn data(self) -> Smtp<Data>
         ensures client { result.state.client ≡ self.state.client }
         ensures envelope { result.state.envelope ≡ self.state.envelope }
-        ensures kept { result.state.dropped ≡ false }
     {
         Smtp {
             state: Data {
                 client: self.state.client,
                 envelope: self.state.envelope,
-                dropped: false,
             },
         }
     }
