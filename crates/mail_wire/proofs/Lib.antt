@@ -13,3 +13,4 @@ pub mod AllLemmas
 pub mod DateLemmas
 pub mod FramingLemmas
 pub mod NumberLemmas
+pub mod KeptLemmas

@@ -86,9 +86,12 @@ fn read_from<T: Read + Seek>(file: &mut T, at: u64, into: &mut [u8]) -> io::Resu
     file.read_exact(into)
 }
 
-fn write_last<T: Write + Seek>(file: &mut T, from: &[u8]) -> io::Result<()> {
+fn write_last<T: Write + Seek>(file: &mut T, parts: &[&[u8]]) -> io::Result<()> {
     file.seek(SeekFrom::End(0))?;
-    file.write_all(from)
+    for part in parts {
+        file.write_all(part)?;
+    }
+    Ok(())
 }
 
 impl<F: Files<File = File>> Keeper for FileKeeper<F> {
@@ -105,9 +108,9 @@ impl<F: Files<File = File>> Keeper for FileKeeper<F> {
         self.faults.counted(done)
     }
 
-    fn append(&mut self, from: &[u8]) -> Result<(), Failed> {
+    fn append_all(&mut self, parts: &[&[u8]]) -> Result<(), Failed> {
         let file = opened(&mut self.file, &self.files, self.path);
-        let done = file.and_then(|file| write_last(file, from));
+        let done = file.and_then(|file| write_last(file, parts));
         self.faults.counted(done)
     }
 

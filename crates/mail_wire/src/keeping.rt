@@ -1,5 +1,6 @@
 //! The keeper of a journal, and what its calls mean.
 ghost use Rattle.std.specs.Prelude.{◌≡◌, ◌+◌, ◌≤◌, length, IfSome};
+ghost use Rattle.std.specs.List.{flat_map};
 ghost use Rattle.mail_wire.specs.Causes.{HasCause, StaysSure};
 ghost use Rattle.mail_wire.specs.KeeperTelling.{KeeperTelling};
 ghost use Rattle.mail_wire.specs.Keeping.{TellsLen, FillsFrom, PutsLast, CutsTo};
@@ -30,6 +31,15 @@ pub trait Keeper {
     /// Puts octets last.
     fn append(&mut self, from: &[u8]) -> Result<(), Failed>
         ensures octets { PutsLast (tells self.old).octets (tells self.new).octets result from.now }
+        ensures cause { HasCause (tells self.old).faults (tells self.new).faults result }
+        ensures sure { StaysSure (tells self.old).never_fails (tells self.new).never_fails result }
+    {
+        self.append_all(&[from])
+    }
+
+    /// Puts the parts last, one after the other, by one call.
+    fn append_all(&mut self, parts: &[&[u8]]) -> Result<(), Failed>
+        ensures octets { PutsLast (tells self.old).octets (tells self.new).octets result (flat_map (λ part. part.now) parts.now) }
         ensures cause { HasCause (tells self.old).faults (tells self.new).faults result }
         ensures sure { StaysSure (tells self.old).never_fails (tells self.new).never_fails result };
 

@@ -1,10 +1,12 @@
 //! A keeper in memory, for tests: it tells its octets, and fails at the calls that a list names.
-ghost use Rattle.std.specs.Prelude.{◌≡◌, ◌==◌, Some, length, IsTrue, IsNone};
+ghost use Rattle.std.specs.Prelude.{◌≡◌, ◌==◌, ◌++◌, Some, length, IsTrue, IsNone, OnOk, OnErr};
+ghost use Rattle.std.specs.List.{flat_map};
 
 use crate::in_memory::Failure;
 use crate::keeping::Keeper;
 use crate::outside::Failed;
 use crate::values::Octets;
+use std::alloc::AllocError;
 use std::marker::Model;
 
 #[derive(Debug, Drop)]
@@ -64,6 +66,21 @@ impl MemKeeper {
     }
 }
 
+// Puts the parts last, or none of them for want of memory.
+fn put_all(octets: &mut Vec<u8>, parts: &[&[u8]]) -> Result<(), AllocError>
+    ensures ok { OnOk result (octets.new.items ≡ octets.old.items ++ flat_map (λ part. part.now) parts.now) }
+    ensures err { OnErr result (octets.new.items ≡ octets.old.items) }
+{
+    let before = octets.len();
+    for part in parts {
+        if let Err(error) = octets.extend_from_slice(part) {
+            octets.truncate(before);
+            return Err(error);
+        }
+    }
+    Ok(())
+}
+
 impl Keeper for MemKeeper {
     ghost tells = { λ keeper. record {
       octets = Some keeper.octets;
@@ -89,11 +106,12 @@ impl Keeper for MemKeeper {
         Ok(())
     }
 
-    fn append(&mut self, from: &[u8]) -> Result<(), Failed> {
+    fn append_all(&mut self, parts: &[&[u8]]) -> Result<(), Failed> {
         let failure = self.next_failure();
-        let count = failure.map_or(from.len(), |failure| failure.kept.min(from.len()));
-        self.octets.extend_from_slice(&from[..count])?;
-        if failure.is_some() {
+        let before = self.octets.len();
+        put_all(&mut self.octets, parts)?;
+        if let Some(failure) = failure {
+            self.octets.truncate(before.saturating_add(failure.kept));
             self.faults = self.faults.saturating_add(1);
             return Err(Failed::Outside);
         }

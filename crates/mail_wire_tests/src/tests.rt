@@ -84,6 +84,11 @@ fn use_keeper<J: Keeper>(keeper: &mut J) -> Result<(), Failed> {
     Ok(())
 }
 
+// Several parts by one call of a keeper, through its bound.
+fn use_parts<J: Keeper>(keeper: &mut J) -> Result<(), Failed> {
+    keeper.append_all(&[b"ab", b"", b"cde"])
+}
+
 #[test]
 fn a_keeper_in_memory_keeps_and_fails(rt: HostRuntime) -> Result<(), Fail> {
     let alloc = rt.alloc();
@@ -100,6 +105,24 @@ fn a_keeper_in_memory_keeps_and_fails(rt: HostRuntime) -> Result<(), Fail> {
     assert_eq!(rt; buffer, *b"cyz");
     assert_eq!(rt; keeper.cut(4), Ok(()));
     assert!(rt; keeper.octets() == b"abcy".as_slice());
+    Ok(())
+}
+
+#[test]
+fn a_keeper_puts_several_parts_by_one_call(rt: HostRuntime) -> Result<(), Fail> {
+    let alloc = rt.alloc();
+    let failure = Failure { call: 1, kept: 3 };
+    let mut keeper = MemKeeper::new(Octets::new(alloc), Vec::from_slice(alloc, &[failure])?);
+    assert_eq!(rt; use_parts(&mut keeper), Ok(()));
+    assert_eq!(rt; use_parts(&mut keeper), Err(Failed::Outside));
+    assert!(rt; keeper.octets() == b"abcdeabc".as_slice());
+    let mut keeper = FileKeeper::new(rt, "parts");
+    assert_eq!(rt; use_keeper(&mut keeper), Ok(()));
+    assert_eq!(rt; use_parts(&mut keeper), Ok(()));
+    let mut buffer = [0; 7];
+    assert_eq!(rt; keeper.read_at(0, &mut buffer), Ok(()));
+    assert_eq!(rt; buffer, *b"yzabcde");
+    assert_eq!(rt; keeper.len(), Ok(7));
     Ok(())
 }
 
