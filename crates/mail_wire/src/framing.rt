@@ -18,9 +18,8 @@ fn joins(kept: &[u8], piece: &[u8]) -> bool
 /// How many octets of the piece the first line has, where the octets that were kept have no whole line. Only the
 /// piece is looked at, and the last octet that was kept.
 pub fn line_end(kept: &[u8], piece: &[u8]) -> Option<usize>
-    requires { first_line kept.now ≡ None }
     ensures bound { IfSome result (λ n. (0 < n) × (n ≤ length piece.now)) }
-    ensures line { MatchOption result (first_line (kept.now ++ piece.now) ≡ None)
+    ensures line { first_line kept.now ≡ None → MatchOption result (first_line (kept.now ++ piece.now) ≡ None)
         (λ n. first_line (kept.now ++ piece.now) ≡ Some (record { line = kept.now ++ take n piece.now; rest = drop n piece.now })) }
 {
     if joins(kept, piece) {

@@ -24,7 +24,7 @@ pub use dates::{date_text, internal_date, texts_are_one};
 pub use edge::{StdWire, WireFailure};
 pub use faults::Faults;
 pub use file_keeper::FileKeeper;
-pub use framing::{FoundLine, LINE_MAX, find_line};
+pub use framing::{FoundLine, LINE_MAX, find_line, line_end};
 pub use in_memory::{Failure, MemWire};
 pub use items::Items;
 pub use keeping::Keeper;

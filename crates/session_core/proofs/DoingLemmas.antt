@@ -7,7 +7,7 @@ use Rattle.mail_wire.specs.declared.outside.Fault.TheVariants as fault
 use Rattle.mail_wire.specs.Moves.{GivesOrFails}
 use Rattle.mail_wire.specs.Telling.{Telling}
 use Rattle.mail_wire.proofs.Moving.{Gives-nil, Gives-trans, GivesPrefix-nil}
-use Rattle.session_core.specs.Acts.{Act, gives, acts_of, changes_in}
+use Rattle.session_core.specs.Acts.{Act, gives as gives_part, acts_of, changes_in}
 use Rattle.session_core.specs.Done.{given_by, StopsIn}
 use Rattle.mail_store.specs.Following.{records_of}
 use Rattle.journal_records.specs.declared.records.Record.{Record}
@@ -121,7 +121,7 @@ Does-unchanged spelled a b fault.Keeper made reply makes = record {
   done = record {
     done = [];
     failing = makes.changes.0;
-    left = map gives reply;
+    left = map gives_part reply;
     acts_are = ap (λ all. acts_of all reply) makes.changes.1;
     given_is = refl;
     breaks = makes.changes.2;

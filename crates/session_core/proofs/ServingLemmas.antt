@@ -1,5 +1,5 @@
 -- A session over a wire, between two takes and at its end, whatever its machine.
-use Rattle.std.proofs.Common.{◌≡◌, ℕ, ◌+◌, ◌<◌, ◌≤◌, List, [], ◌∷◌, ◌++◌, length, take, Option, None, Ok, Err, refl, sym, ap, ◌∙◌, append-nil, append_assoc, arith, inl, inr, subst, length-append}
+use Rattle.std.proofs.Common.{◌≡◌, ℕ, ◌+◌, ◌<◌, ◌≤◌, List, [], ◌∷◌, ◌++◌, length, take, Option, None, Some, Ok, Err, refl, sym, ap, ◌∙◌, append-nil, append_assoc, arith, inl, inr, subst, length-append}
 use Rattle.std.specs.Prelude.{map}
 use Rattle.std.specs.List.{All, AllByRecursion}
 use Rattle.std.proofs.lemmas.List.{length-take-le}
@@ -218,7 +218,7 @@ may_take protocol stands laws meanings moments more a b at taken n into so still
 }
 
 -- what a piece brought was done
-more_by : (protocol : Protocol) {M : Type 0} (stands : Standing protocol M) → AreLaws protocol stands → (meanings : Meanings) → AreMeanings meanings → (moments : List Moment) (sooner : List ℕ) (more : List Moment) (a b c d : Around) (at next : Session M)
+more_by : (protocol : Protocol) {M : Type 0} (stands : Standing protocol M) → AreLaws protocol stands → (meanings : Meanings) → AreMeanings meanings → (moments sooner more : List Moment) (a b c d : Around) (at next : Session M)
     (taken n : ℕ) (into : List ℕ) → (so : GoesBy protocol stands meanings moments sooner a b at taken) → (HasEnded at → ⊥) → LeavesDesk b c → TakesPiece b.wire c.wire n into → n ≤ length into → n ≤ PIECE
     → FeedsBy protocol stands meanings c d (Ok next) more (piece_turn (course_of protocol meanings moments) a.desk.store so.octets (take n into)) → GoesBy protocol stands meanings moments more a d next (taken + n)
 more_by protocol stands laws meanings are moments sooner more a b c d at next taken n into so still leaves took low most fed =
@@ -268,25 +268,25 @@ goes_on protocol stands laws a b c d at next taken n into piece clock ticks stil
 -- the opening was broken off
 pub start_fails : (protocol : Protocol) {M : Type 0} (stands : Standing protocol M) → AreLaws protocol stands → (a b : Around) (met : Fault) → BeginsSession protocol stands a b (Err met)
     → ServesBy protocol a b (served_of (Err met))
-start_fails protocol stands laws a b met begins = (
-  [],
-  All-nil (IsTold a.clock),
-  λ meanings are more.
+start_fails protocol stands laws a b met begins = record {
+  told = [];
+  are_told = All-nil (IsTold a.clock);
+  holds = λ meanings are more.
       let course = course_of protocol meanings more in
       let does = begins.does meanings are in
       let store = a.desk.store in
       let first = DoesFirst-between course.spelled a a b met [] (course.opening store) (turns_for course store []).parts (DoesAll-nil course.spelled a) does in
       broken_off course (laws.framed meanings are) store b.desk.store a.keeper.octets b.keeper.octets met a.desk.limits.session_max a.wire b.wire [] first.given (omega arith)
-      (Halfway-first (replies_to course store) (MayTake course store) a.wire b.wire first.given first.gives) first.done,
-)
+      (Halfway-first (replies_to course store) (MayTake course store) a.wire b.wire first.given first.gives) first.done;
+}
 
 -- a take failed
 pub take_fails : (protocol : Protocol) {M : Type 0} (stands : Standing protocol M) → AreLaws protocol stands → (a b c : Around) (at : Session M) (taken : ℕ) (met : Fault) → (met ≡ fault.Keeper → ⊥)
     → taken ≤ a.desk.limits.session_max → LeavesDesk b c → TakesNothing b.wire c.wire → Goes protocol stands a b at taken → ServesBy protocol a c (served_of (Err met))
-take_fails protocol stands laws a b c at taken met fine few leaves nothing goes = (
-  goes.told,
-  goes.are_told,
-  λ meanings are more.
+take_fails protocol stands laws a b c at taken met fine few leaves nothing goes = record {
+  told = goes.told;
+  are_told = goes.are_told;
+  holds = λ meanings are more.
       let course = course_of protocol meanings (goes.told ++ more) in
       let so = goes.goes meanings are more in
       let store = a.desk.store in
@@ -298,17 +298,17 @@ take_fails protocol stands laws a b c at taken met fine few leaves nothing goes 
       broken_off course (laws.framed meanings are) store c.desk.store a.keeper.octets c.keeper.octets met a.desk.limits.session_max a.wire c.wire so.octets (front ++ none.given) (rw so.count few)
       (Halfway-give (replies_to course store) (MayTake course store) a.wire c.wire c.wire so.octets front none.given
       (Halfway-of (replies_to course store) (MayTake course store) a.wire c.wire so.octets (Serving-nothing (replies_to course store) (MayTake course store) a.wire b.wire c.wire so.octets so.serving nothing)) none.gives)
-      (rw (append-nil acts) at done),
-)
+      (rw (append-nil acts) at done);
+}
 
 -- the acts of a piece were broken off
 pub feed_fails : (protocol : Protocol) {M : Type 0} (stands : Standing protocol M) → AreLaws protocol stands → (a b c d : Around) (at : Session M) (taken n : ℕ) (into piece : List ℕ) (met : Fault)
     → taken + n ≤ a.desk.limits.session_max → b.clock ≡ a.clock → c.clock ≡ b.clock → (HasEnded at → ⊥) → LeavesDesk b c → TakesPiece b.wire c.wire n into → n ≤ length into → n ≤ PIECE → piece ≡ take n into
     → Goes protocol stands a b at taken → Feeds protocol stands c d at (Err met) piece → ServesBy protocol a d (served_of (Err met))
-feed_fails protocol stands laws a b c d at taken n into piece met few clock ticks still leaves took low most same goes fed = (
-  goes.told ++ fed.told,
-  told_then a.clock c.clock goes.told fed.told (ticks ∙ clock) goes.are_told fed.are_told,
-  λ meanings are more.
+feed_fails protocol stands laws a b c d at taken n into piece met few clock ticks still leaves took low most same goes fed = record {
+  told = goes.told ++ fed.told;
+  are_told = told_then a.clock c.clock goes.told fed.told (ticks ∙ clock) goes.are_told fed.are_told;
+  holds = λ meanings are more.
       let moments = (goes.told ++ fed.told) ++ more in
       let course = course_of protocol meanings moments in
       let so = moments_as protocol stands meanings goes.told fed.told more a b at taken (goes.goes meanings are (fed.told ++ more)) in
@@ -325,8 +325,8 @@ feed_fails protocol stands laws a b c d at taken n into piece met few clock tick
       (rw (taken_more so.octets into taken n so.count low) few)
       (Halfway-give (replies_to course store) (MayTake course store) a.wire c.wire d.wire (so.octets ++ take n into) front by.does.given
       (Halfway-take (replies_to course store) (MayTake course store) a.wire b.wire c.wire so.octets into n so.serving took (may_take protocol stands laws meanings moments (fed.told ++ more) a b at taken n into so still low most)) by.does.gives)
-      (rw whole (IsDone-more course.spelled store c.desk.store d.desk.store a.keeper.octets c.keeper.octets d.keeper.octets met acts turn.parts [] by.does.given follows by.does.done)),
-)
+      (rw whole (IsDone-more course.spelled store c.desk.store d.desk.store a.keeper.octets c.keeper.octets d.keeper.octets met acts turn.parts [] by.does.given follows by.does.done));
+}
 
 -- what is given of a stream may be sent
 acts_fit : (protocol : Protocol) {M : Type 0} (stands : Standing protocol M) → AreLaws protocol stands → (meanings : Meanings) → AreMeanings meanings → (moments : List Moment) (desk : Desk) (octets : List ℕ) → IsOpen desk
@@ -344,7 +344,7 @@ sent protocol stands laws meanings are moments more a b at taken opens so = reco
 
 -- after the end more octets change nothing
 sent_more : (course : Course) → IsFramed course.next → ((state : course.S) (octets : List ℕ) → course.HasEnded state → all_turns course.next state octets ≡ stay state octets) → (store after : StoreState) (had has : Option (List ℕ))
-    (octets given : List ℕ) (more : List Moment) → EndsBy course store octets → IsSent course store after had has octets given → IsSent course store after had has (octets ++ more) given
+    (octets given more : List ℕ) → EndsBy course store octets → IsSent course store after had has octets given → IsSent course store after had has (octets ++ more) given
 sent_more course framed quiet store after had has octets given more ends is =
     let turn = turns_for course store octets in
     let none : piece_turn course store octets more ≡ stay turn.after (turn.rest ++ more) = quiet turn.after (turn.rest ++ more) ends in
@@ -397,11 +397,11 @@ session_by protocol stands laws meanings are moments more a b at taken max opens
 
 pub session_ends : (protocol : Protocol) {M : Type 0} (stands : Standing protocol M) → AreLaws protocol stands → (a b : Around) (at : Session M) (taken : ℕ) → IsOpen a.desk → taken ≤ a.desk.limits.session_max → HasEnded at
     → Goes protocol stands a b at taken → ServesBy protocol a b Ended
-session_ends protocol stands laws a b at taken opens few is goes = (
-  goes.told,
-  goes.are_told,
-  λ meanings are more. session_by protocol stands laws meanings are (goes.told ++ more) more a b at taken a.desk.limits.session_max opens few is (goes.goes meanings are more),
-)
+session_ends protocol stands laws a b at taken opens few is goes = record {
+  told = goes.told;
+  are_told = goes.are_told;
+  holds = λ meanings are more. session_by protocol stands laws meanings are (goes.told ++ more) more a b at taken a.desk.limits.session_max opens few is (goes.goes meanings are more);
+}
 
 -- nothing was left to take
 input_by : (protocol : Protocol) {M : Type 0} (stands : Standing protocol M) → AreLaws protocol stands → (meanings : Meanings) → AreMeanings meanings → (moments more : List Moment) (a b c : Around) (at : Session M) (taken max n : ℕ) (into : List ℕ)
@@ -435,12 +435,12 @@ input_by protocol stands laws meanings are moments more a b c at taken max n int
 
 pub input_ends : (protocol : Protocol) {M : Type 0} (stands : Standing protocol M) → AreLaws protocol stands → (a b c : Around) (at : Session M) (taken n : ℕ) (into : List ℕ) → IsOpen a.desk → (HasEnded at → ⊥)
     → LeavesDesk b c → TakesPiece b.wire c.wire n into → n ≡ 0 → taken < a.desk.limits.session_max → Goes protocol stands a b at taken → ServesBy protocol a c Ended
-input_ends protocol stands laws a b c at taken n into opens still leaves piece none low goes = (
-  goes.told,
-  goes.are_told,
-  λ meanings are more. rw (leaves.desk, leaves.keeper) (input_by protocol stands laws meanings are (goes.told ++ more) more a b c at taken a.desk.limits.session_max n into opens still piece none low
-      (goes.goes meanings are more)),
-)
+input_ends protocol stands laws a b c at taken n into opens still leaves piece none low goes = record {
+  told = goes.told;
+  are_told = goes.are_told;
+  holds = λ meanings are more. rw (leaves.desk, leaves.keeper) (input_by protocol stands laws meanings are (goes.told ++ more) more a b c at taken a.desk.limits.session_max n into opens still piece none low
+      (goes.goes meanings are more));
+}
 
 -- the limit was reached
 limit_by : (protocol : Protocol) {M : Type 0} (stands : Standing protocol M) → AreLaws protocol stands → (meanings : Meanings) → AreMeanings meanings → (moments more : List Moment) (a b : Around) (at : Session M) (taken max : ℕ)
@@ -466,8 +466,8 @@ limit_by protocol stands laws meanings are moments more a b at taken max opens s
 
 pub limit_reached : (protocol : Protocol) {M : Type 0} (stands : Standing protocol M) → AreLaws protocol stands → (a b : Around) (at : Session M) (taken : ℕ) → IsOpen a.desk → (HasEnded at → ⊥)
     → taken ≡ a.desk.limits.session_max → Goes protocol stands a b at taken → ServesBy protocol a b Limit
-limit_reached protocol stands laws a b at taken opens still full goes = (
-  goes.told,
-  goes.are_told,
-  λ meanings are more. limit_by protocol stands laws meanings are (goes.told ++ more) more a b at taken a.desk.limits.session_max opens still full (goes.goes meanings are more),
-)
+limit_reached protocol stands laws a b at taken opens still full goes = record {
+  told = goes.told;
+  are_told = goes.are_told;
+  holds = λ meanings are more. limit_by protocol stands laws meanings are (goes.told ++ more) more a b at taken a.desk.limits.session_max opens still full (goes.goes meanings are more);
+}

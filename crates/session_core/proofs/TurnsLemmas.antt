@@ -8,7 +8,7 @@ unfolding turns
 turns-stop next zero s octets none = refl
 turns-stop next (suc n) s octets none = rw (none, turns) refl
 
-turns-go : {S P : Type 0} (next : S → List ℕ → Option (Turn S P)) (n : ℕ) (s : S) (octets : List ℕ) (turn : Turn S P) → next s octets ≡ Some turn
+pub turns-go : {S P : Type 0} (next : S → List ℕ → Option (Turn S P)) (n : ℕ) (s : S) (octets : List ℕ) (turn : Turn S P) → next s octets ≡ Some turn
     → turns next (suc n) s octets ≡ behind turn.parts (turns next n turn.after turn.rest)
 unfolding turns
 turns-go next n s octets turn some = rw (some, turns) refl

@@ -50,8 +50,10 @@ course_of protocol meanings moments = record {
 
 -- What holds of a protocol, whatever functions give surrogates, read paths and tell trees, with moments that a clock told, which may
 -- tell a fixed reading, and whatever moments are still to come.
-abbrev pub OfCourse : Protocol → Option ℕ → (Course → Type 0) → Type 0
-OfCourse protocol reading P = (told : List Moment) × All (IsTold reading) told × WithMeanings (λ meanings. (more : List Moment) → P (course_of protocol meanings (told ++ more)))
+pub record OfCourse (protocol : Protocol) (reading : Option ℕ) (P : Course → Type 0) : Type 0 where
+  pub told : List Moment
+  pub are_told : All (IsTold reading) told
+  pub holds : WithMeanings (λ meanings. (more : List Moment) → P (course_of protocol meanings (told ++ more)))
 
 -- ---- what the machine makes of a stream
 
