@@ -6,6 +6,7 @@ use Rattle.std.proofs.lemmas.List.{append_assoc, append-nil}
 use Rattle.std.proofs.lemmas.List.Folds.{list_all-append}
 use Rattle.std.specs.List.{AllZip, list_all, list_any, join_with_byte}
 use Rattle.mail_wire.specs.Octets.{is_white, is_ascii}
+use Rattle.mail_wire.proofs.AllLemmas.{pass-weaker}
 use Rattle.encoded_words.specs.Words.{UnitValue}
 use Rattle.field_tokens.specs.declared.Style.TheVariants.{Mail}
 use Rattle.field_tokens.specs.declared.TokenKind.{TokenKind}
@@ -15,7 +16,6 @@ use Rattle.field_tokens.specs.Squeezed.{is_gap, octets_of, comments_of, space}
 use Rattle.field_tokens.specs.Comments.{CommentValue, CommentsSay, CommentsPieces}
 use Rattle.field_tokens.proofs.Parts.{AreTokens-begin, AreTokens-end, octets_of-tokens, comments_of-append}
 use Rattle.field_tokens.proofs.TokenLines.{joined_line}
-use Rattle.field_tokens.proofs.LinePieces.{list_weaker}
 use Rattle.address_grammar.specs.private.Lexemes.{HasTokenValues, is_blank_token, is_mark, are_blank}
 use Rattle.address_grammar.specs.AddressLists.{Divided, MailboxValue, IsMailbox, SayParts, AreDivided, ElementValue, One, Group, IsGroup, IsElement, SaysPlace}
 use Rattle.address_lists.specs.ListPieces.{MailboxPieces, Bare, Angled, Named, Emptied as EmptiedMailbox, GroupPieces, Kept, Emptied as EmptiedGroup, ElementPieces, PlaceOfListPieces, with_comma, followed_by, PlacesPieces, SaysAddresses, AddressesPieces}
@@ -287,7 +287,7 @@ white_ascii : (x : ℕ) → is_white x ≡ true → is_ascii x ≡ true
 white_ascii x h = grind (arith, nat_tests)
 
 gap_ascii : (kind : TokenKind) (octets rest : List ℕ) → is_gap kind ≡ true → IsToken Mail kind octets rest → list_all is_ascii octets ≡ true
-gap_ascii Gap octets rest h is = list_weaker is_white is_ascii white_ascii octets is.1.passes
+gap_ascii Gap octets rest h is = pass-weaker is_white is_ascii white_ascii octets is.1.passes
 gap_ascii Comment octets rest h is = cc h
 gap_ascii Atom octets rest h is = cc h
 gap_ascii Quoted octets rest h is = cc h

@@ -8,10 +8,10 @@ use Rattle.std.proofs.lemmas.List.Folds.{list_all-append}
 use Rattle.std.proofs.lemmas.List.Sums.{list_all-from_AllPass}
 use Rattle.std.specs.List.{AllByRecursion, flat_map, list_all}
 use Rattle.mail_wire.specs.Octets.{is_ascii}
+use Rattle.mail_wire.proofs.AllLemmas.{pass-weaker}
 use Rattle.field_tokens.specs.declared.Style.TheVariants.{Mail}
 use Rattle.field_tokens.specs.TokenOctets.{is_atom_octet, is_line_octet}
 use Rattle.field_tokens.specs.Tokens.{TokenValue}
-use Rattle.field_tokens.proofs.LinePieces.{list_weaker}
 use Rattle.ace_domains.specs.Domains.{is_atom_octet as is_name_atom_octet, IsAtom, is_name_octet, normal_form, SameDomain}
 use Rattle.ace_domains.proofs.FormLemmas.{form_own, form_name, form_domain}
 use Rattle.address_grammar.specs.declared.Address.{Address}
@@ -76,7 +76,7 @@ name_line x h = grind (arith, nat_tests)
 
 atom_some : (a : List ℕ) → IsAtom a → is_some_atom a ≡ true
 atom_some [] is = absurd (omega (arith, is.some))
-atom_some (x ∷ a) is = list_weaker is_name_atom_octet (is_atom_octet Mail) name_atom (x ∷ a) is.octets
+atom_some (x ∷ a) is = pass-weaker is_name_atom_octet (is_atom_octet Mail) name_atom (x ∷ a) is.octets
 
 dotted_domain : (ts : List TokenValue) → are_dotted (is_part false) (words_of ts) ≡ true → is_domain ts ≡ true
 dotted_domain ts h = rw h refl
@@ -94,8 +94,8 @@ form_written domain form e =
       is_domain = dotted_domain (dotted_tokens is.atoms) (rw (dotted_words is.atoms) dotted);
       says = says;
       words = dotted_words is.atoms;
-      ascii = list_weaker is_name_octet is_ascii name_ascii form name.octets;
-      line = list_weaker is_name_octet is_line_octet name_line form name.octets;
+      ascii = pass-weaker is_name_octet is_ascii name_ascii form name.octets;
+      line = pass-weaker is_name_octet is_line_octet name_line form name.octets;
     }
 
 own_written : (ts : List TokenValue) (domain : List ℕ) → AllByRecursion IsSound ts → is_domain ts ≡ true → domain ≡ contents ts → list_all is_ascii domain ≡ true → WritesDomain domain

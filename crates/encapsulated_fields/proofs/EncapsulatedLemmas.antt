@@ -1,16 +1,18 @@
 -- A `Downgraded-` field is ASCII, and says the value that it keeps.
 use Rattle.std.proofs.Common.{◌≡◌, ℕ, ◌<◌, Bool, true, false, not, List, [], ◌∷◌, ◌++◌, length, map, codes, refl, sym, ap, ◌∙◌, subst, arith, ◌⊎◌, inl, inr}
-use Rattle.std.proofs.lemmas.Bool.{and_parts, and_from}
+use Rattle.std.proofs.lemmas.Bool.{and_parts}
 use Rattle.std.proofs.lemmas.Bool.Decides.{nat_tests}
 use Rattle.std.proofs.lemmas.List.{append_assoc, append-nil}
 use Rattle.std.specs.List.{AllByRecursion, list_all, flat_map, concat, join_with_byte}
 use Rattle.std.specs.Str.{IsUtf8}
 use Rattle.std.specs.Char.{to_ascii_uppercase}
 use Rattle.mail_wire.specs.Octets.{is_ascii, is_black, is_white, is_line_end}
-use Rattle.mail_wire.specs.Lines.{crlf, is_crlf}
-use Rattle.mail_wire.specs.Folds.{begins_fold, unfolded}
+use Rattle.mail_wire.specs.Lines.{crlf}
+use Rattle.mail_wire.specs.Folds.{unfolded}
 use Rattle.mail_wire.specs.Spans.{Stops, StopsBehind, IsTrimmed}
 use Rattle.mail_wire.proofs.Unfolded.{unfolded-fold, unfolded-other, unfolded-nil}
+use Rattle.mail_wire.proofs.AllLemmas.{pass-weaker, pass-append}
+use Rattle.mail_wire.proofs.OctetLemmas.{no_fold}
 use Rattle.encoded_words.specs.Words.{UnitValue, Text, IsEncodedWord, is_name_octet as is_charset_octet, is_text_octet}
 use Rattle.encoded_words.specs.Units.{HasUnits, merged}
 use Rattle.encoded_words.specs.Pieces.{b_word, AreBWords, AreChunks, IsChunk}
@@ -19,7 +21,6 @@ use Rattle.encoded_words.specs.Written.{WriteAll}
 use Rattle.encoded_words.proofs.BWords.{b_word-says, chunk_utf8}
 use Rattle.encoded_words.proofs.Chunks.{AreBWords-once}
 use Rattle.encoded_words.proofs.EncodedOctets.{encoded_all, encoded_ascii, encoded_black, encoded_some}
-use Rattle.encoded_words.proofs.Octets.{all_append}
 use Rattle.encoded_words.proofs.WrittenUnits.{HasUnits-written}
 use Rattle.encapsulated_fields.specs.Encapsulated.{is_name_octet, IsFieldName, downgraded_name, field_of, Encapsulates, FieldSays}
 
@@ -73,14 +74,6 @@ behind_space w = record { white = 32; octets = w }
 
 abbrev spaced : List (List ℕ) → List ℕ
 spaced words = flat_map (λ w. 32 ∷ w) words
-
-no_crlf : (x y : ℕ) → is_line_end x ≡ false → is_crlf x y ≡ false
-no_crlf x y h = grind (arith, nat_tests)
-
-no_fold : (x : ℕ) (rest : List ℕ) → is_line_end x ≡ false → begins_fold (x ∷ rest) ≡ false
-no_fold x [] h = refl
-no_fold x (y ∷ []) h = refl
-no_fold x (y ∷ z ∷ rest) h = rw (no_crlf x y h) refl
 
 no_end : (b : Bool) → not b ≡ true → b ≡ false
 no_end true h = cc
@@ -190,25 +183,19 @@ FieldSays-encapsulated name value field u some is =
     }
 
 -- The field is ASCII.
-pub all_imp : (p q : ℕ → Bool) → ((x : ℕ) → q x ≡ true → p x ≡ true) → (xs : List ℕ) → list_all q xs ≡ true → list_all p xs ≡ true
-all_imp p q imp [] h = refl
-all_imp p q imp (x ∷ xs) h =
-    let parts = and_parts (q x) (list_all q xs) h in
-    and_from (p x) (list_all p xs) (imp x parts.0) (all_imp p q imp xs parts.1)
-
 ascii_name : (x : ℕ) → is_name_octet x ≡ true → is_ascii x ≡ true
 ascii_name x h = grind (arith, nat_tests)
 
 ascii_lines : (words : List (List ℕ)) → AllByRecursion IsWord words → list_all is_ascii (flat_map line_of (map behind_space words)) ≡ true
 ascii_lines [] are = refl
-ascii_lines (w ∷ ws) are = all_append is_ascii w (flat_map line_of (map behind_space ws)) are.0.ascii (ascii_lines ws are.1)
+ascii_lines (w ∷ ws) are = pass-append is_ascii w (flat_map line_of (map behind_space ws)) are.0.ascii (ascii_lines ws are.1)
 
 pub ascii-encapsulated : (name value field : List ℕ) → IsFieldName name → IsUtf8 value → Encapsulates name value field → list_all is_ascii field ≡ true
 ascii-encapsulated name value field is_name u is =
     let body : List ℕ = made_body (word_pieces 32 is.words) in
     let lines : list_all is_ascii body ≡ true = rw (body_is is.words) (ascii_lines is.words (b_words_are_words value is.words u is.are_words)) in
-    let head : list_all is_ascii (downgraded_name name) ≡ true = all_append is_ascii (codes "Downgraded-") name refl (all_imp is_ascii is_name_octet ascii_name name is_name.1) in
-    rw (is.spelled) (all_append is_ascii (downgraded_name name) (58 ∷ (body ++ crlf)) head (all_append is_ascii body crlf lines refl))
+    let head : list_all is_ascii (downgraded_name name) ≡ true = pass-append is_ascii (codes "Downgraded-") name refl (pass-weaker is_name_octet is_ascii ascii_name name is_name.1) in
+    rw (is.spelled) (pass-append is_ascii (downgraded_name name) (58 ∷ (body ++ crlf)) head (pass-append is_ascii body crlf lines refl))
 
 -- One field keeps a value under a name.
 pub Encapsulates-once : (name value field other : List ℕ) → Encapsulates name value field → Encapsulates name value other → field ≡ other

@@ -8,10 +8,9 @@ use Rattle.std.specs.List.{flat_map, list_all}
 use Rattle.std.specs.Str.{IsUtf8, chars, encode_utf8_all, all_scalars}
 use lib.Utf8.{scalar, scalar_cases}
 use Rattle.mail_wire.specs.Octets.{is_ascii}
-use Rattle.encoded_words.proofs.Octets.{all_append}
+use Rattle.mail_wire.proofs.AllLemmas.{pass-weaker, pass-append}
 use Rattle.encapsulated_fields.specs.AddressForms.{hexadecimal, escape_of, is_plain, xtext_char, xtext_form, unitext_form}
 use Rattle.encapsulated_fields.specs.Xtext.{is_hex_digit, hex_value, AreDigits, XtextItem, Plain, Escape, IsXtextItem, item_spelling, item_character, ReadsAs}
-use Rattle.encapsulated_fields.proofs.EncapsulatedLemmas.{all_imp}
 use Rattle.encapsulated_fields.proofs.HexLemmas.{hex_value-hexadecimal, hex-hexadecimal, length-hexadecimal}
 
 -- what a character gives where those that pass stand for themselves
@@ -73,7 +72,7 @@ ascii_digit : (x : ℕ) → is_hex_digit x ≡ true → is_ascii x ≡ true
 ascii_digit x h = grind (arith, nat_tests)
 
 ascii_escape : (c : ℕ) → list_all is_ascii (escape_of c) ≡ true
-ascii_escape c = all_append is_ascii (hexadecimal c) (125 ∷ []) (all_imp is_ascii is_hex_digit ascii_digit (hexadecimal c) (hex-hexadecimal c)) refl
+ascii_escape c = pass-append is_ascii (hexadecimal c) (125 ∷ []) (pass-weaker is_hex_digit is_ascii ascii_digit (hexadecimal c) (hex-hexadecimal c)) refl
 
 ascii_char : (c : ℕ) (b : Bool) → is_plain c ≡ b → list_all is_ascii (if b then encode_utf8 c else escape_of c) ≡ true
 ascii_char c true is =
@@ -83,7 +82,7 @@ ascii_char c false is = ascii_escape c
 
 ascii_chars : (cs : List ℕ) → list_all is_ascii (flat_map xtext_char cs) ≡ true
 ascii_chars [] = refl
-ascii_chars (c ∷ cs) = all_append is_ascii (xtext_char c) (flat_map xtext_char cs) (ascii_char c (is_plain c) refl) (ascii_chars cs)
+ascii_chars (c ∷ cs) = pass-append is_ascii (xtext_char c) (flat_map xtext_char cs) (ascii_char c (is_plain c) refl) (ascii_chars cs)
 
 pub ascii_xtext : (address : List ℕ) → list_all is_ascii (xtext_form address) ≡ true
 ascii_xtext address = ascii_chars (chars address)

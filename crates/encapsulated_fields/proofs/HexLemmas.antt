@@ -6,7 +6,7 @@ use Rattle.std.proofs.lemmas.Bool.Decides.{nat_tests}
 use Rattle.std.proofs.lemmas.List.{append_assoc, length-append}
 use Rattle.std.specs.Char.{digit_value}
 use Rattle.std.specs.List.{list_all}
-use Rattle.encoded_words.proofs.Octets.{all_append}
+use Rattle.mail_wire.proofs.AllLemmas.{pass-append}
 use Rattle.encapsulated_fields.specs.AddressForms.{upper_digit, digit_at, leading_digit, hexadecimal}
 use Rattle.encapsulated_fields.specs.Xtext.{is_hex_digit, hex_onward, hex_value}
 
@@ -95,10 +95,10 @@ unfolding hexadecimal
 hex-hexadecimal n =
     let p : ℕ → Bool = is_hex_digit in
     let last : list_all p (digit_at 0x10 n ∷ digit_at 1 n ∷ []) ≡ true = and_from (p (digit_at 0x10 n)) (list_all p (digit_at 1 n ∷ [])) (hex-at 0x10 n) (and_from (p (digit_at 1 n)) true (hex-at 1 n) refl) in
-    all_append p (leading_digit 0x10_0000 n ++ leading_digit 0x1_0000 n ++ leading_digit 0x1000 n ++ leading_digit 0x100 n) (digit_at 0x10 n ∷ digit_at 1 n ∷ [])
-    (all_append p (leading_digit 0x10_0000 n ++ leading_digit 0x1_0000 n ++ leading_digit 0x1000 n) (leading_digit 0x100 n)
-    (all_append p (leading_digit 0x10_0000 n ++ leading_digit 0x1_0000 n) (leading_digit 0x1000 n)
-    (all_append p (leading_digit 0x10_0000 n) (leading_digit 0x1_0000 n) (hex-leading 0x10_0000 n) (hex-leading 0x1_0000 n)) (hex-leading 0x1000 n)) (hex-leading 0x100 n)) last
+    pass-append p (leading_digit 0x10_0000 n ++ leading_digit 0x1_0000 n ++ leading_digit 0x1000 n ++ leading_digit 0x100 n) (digit_at 0x10 n ∷ digit_at 1 n ∷ [])
+    (pass-append p (leading_digit 0x10_0000 n ++ leading_digit 0x1_0000 n ++ leading_digit 0x1000 n) (leading_digit 0x100 n)
+    (pass-append p (leading_digit 0x10_0000 n ++ leading_digit 0x1_0000 n) (leading_digit 0x1000 n)
+    (pass-append p (leading_digit 0x10_0000 n) (leading_digit 0x1_0000 n) (hex-leading 0x10_0000 n) (hex-leading 0x1_0000 n)) (hex-leading 0x1000 n)) (hex-leading 0x100 n)) last
 
 pub length-hexadecimal : (n : ℕ) → (2 ≤ length (hexadecimal n)) × (length (hexadecimal n) ≤ 6)
 unfolding hexadecimal

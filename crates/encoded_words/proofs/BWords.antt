@@ -14,8 +14,9 @@ use Rattle.base64.proofs.EngineFacts.{IsAscii-encode_of}
 use Rattle.base64.proofs.RoundTrip.{length-encode_symbols}
 use Rattle.encoded_words.specs.Words.{WordParts, IsEncodedWord, Text, unit_of, word_of, is_text_octet}
 use Rattle.mail_wire.specs.Octets.{is_black}
+use Rattle.mail_wire.proofs.AllLemmas.{pass-append}
 use Rattle.encoded_words.specs.Pieces.{b_word, IsChunk, AreChunks, AreShort}
-use Rattle.encoded_words.proofs.Octets.{is_byte, bytes-IsUtf8, IsBytes-from_all, encoded_hold, encoded_passes, all_append}
+use Rattle.encoded_words.proofs.Octets.{is_byte, bytes-IsUtf8, IsBytes-from_all, encoded_hold, encoded_passes}
 
 abbrev b_parts : List ℕ → WordParts
 b_parts chunk = record { charset = codes "UTF-8"; language = None; letter = 66; text = encode_of standard chunk }
@@ -73,8 +74,8 @@ b_word-all p holds chunk u =
     let first = and_parts (p 61) (list_all p (codes "?UTF-8?B?")) holds.marks in
     let second = and_parts (p 63) (list_all p (codes "UTF-8?B?")) first.1 in
     let ending : list_all p (codes "?=") ≡ true = and_from (p 63) (list_all p (codes "=")) second.0 (and_from (p 61) true first.0 refl) in
-    all_append p (codes "=?UTF-8?B?") (encode_of standard chunk ++ codes "?=") holds.marks
-    (all_append p (encode_of standard chunk) (codes "?=") (encoded_hold p holds.symbols first.0 chunk (bytes-IsUtf8 chunk u)) ending)
+    pass-append p (codes "=?UTF-8?B?") (encode_of standard chunk ++ codes "?=") holds.marks
+    (pass-append p (encode_of standard chunk) (codes "?=") (encoded_hold p holds.symbols first.0 chunk (bytes-IsUtf8 chunk u)) ending)
 
 -- what is visible is not white
 pub visible_black : (b : ℕ) → is_text_octet b ≡ true → is_black b ≡ true
@@ -89,8 +90,8 @@ black_from_visible (x ∷ xs) h =
 pub b_word-black : (chunk : List ℕ) → list_all is_byte chunk ≡ true → list_all is_black (b_word chunk) ≡ true
 unfolding b_word
 b_word-black chunk bytes =
-    all_append is_black (codes "=?UTF-8?B?") (encode_of standard chunk ++ codes "?=") refl
-    (all_append is_black (encode_of standard chunk) (codes "?=") (black_from_visible (encode_of standard chunk) (encoded_passes chunk bytes)) refl)
+    pass-append is_black (codes "=?UTF-8?B?") (encode_of standard chunk ++ codes "?=") refl
+    (pass-append is_black (encode_of standard chunk) (codes "?=") (black_from_visible (encode_of standard chunk) (encoded_passes chunk bytes)) refl)
 
 pub b_word_some : (chunk : List ℕ) → 0 < length (b_word chunk)
 unfolding b_word

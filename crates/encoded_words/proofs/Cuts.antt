@@ -9,9 +9,9 @@ use Rattle.std.proofs.lemmas.List.Recursion.{and_from_places}
 use Rattle.std.proofs.lemmas.List.Sums.{fails_before_first}
 use Rattle.std.specs.Prelude.{IfSome}
 use Rattle.std.specs.List.{list_all, position_or_len}
+use Rattle.mail_wire.proofs.AllLemmas.{pass-append}
 use Rattle.encoded_words.specs.Words.{WordParts, HasParts, word_of, IsName, language_suffix, is_name_octet}
 use Rattle.encoded_words.specs.private.Parts.{lacks, wrapped, IsNamed}
-use Rattle.encoded_words.proofs.Octets.{all_append}
 
 -- no such octet at any place
 pub lacks_from_places : (c : ℕ) (xs : List ℕ) → ((k : ℕ) → k < length xs → eqb (get_or xs k 0) c ≡ false) → lacks c xs ≡ true
@@ -105,7 +105,7 @@ language_lacks None h = refl
 language_lacks (Some l) h = (name_lacks l h.1).1
 
 lacks_append : (c : ℕ) (xs ys : List ℕ) → lacks c xs ≡ true → lacks c ys ≡ true → lacks c (xs ++ ys) ≡ true
-lacks_append c xs ys a b = all_append (λ x. not (eqb x c)) xs ys a b
+lacks_append c xs ys a b = pass-append (λ x. not (eqb x c)) xs ys a b
 
 pub name_of-lacks : (word : List ℕ) (p : WordParts) → HasParts word p → lacks 63 (name_of p) ≡ true
 name_of-lacks word p has = lacks_append 63 p.charset (language_suffix p.language) (name_lacks p.charset has.charset.1).1 (language_lacks p.language has.language)

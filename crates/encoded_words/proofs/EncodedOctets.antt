@@ -5,8 +5,8 @@ use Rattle.std.proofs.lemmas.Bool.Decides.{nat_tests}
 use Rattle.std.specs.List.{list_all}
 use Rattle.std.specs.Char.{to_ascii_uppercase}
 use Rattle.mail_wire.specs.Octets.{is_ascii, is_black}
+use Rattle.mail_wire.proofs.AllLemmas.{pass-weaker, pass-append}
 use Rattle.encoded_words.specs.Words.{UnitValue, IsEncodedWord, IsTextOf, language_suffix, is_name_octet, is_text_octet, IsName}
-use Rattle.encoded_words.proofs.Octets.{all_append}
 
 -- what holds of each octet that an encoded word may have
 pub record HoldsInWords (p : ℕ → Bool) : Type 0 where
@@ -15,19 +15,13 @@ pub record HoldsInWords (p : ℕ → Bool) : Type 0 where
   pub letter : (x : ℕ) → (to_ascii_uppercase x ≡ 66) ⊎ (to_ascii_uppercase x ≡ 81) → p x ≡ true
   pub marks : list_all p (61 ∷ 63 ∷ 42 ∷ []) ≡ true
 
-list_imp : (p q : ℕ → Bool) → ((x : ℕ) → q x ≡ true → p x ≡ true) → (xs : List ℕ) → list_all q xs ≡ true → list_all p xs ≡ true
-list_imp p q imp [] h = refl
-list_imp p q imp (x ∷ xs) h =
-    let parts = and_parts (q x) (list_all q xs) h in
-    and_from (p x) (list_all p xs) (imp x parts.0) (list_imp p q imp xs parts.1)
-
 letter_holds : (p : ℕ → Bool) → HoldsInWords p → (letter : ℕ) (text octets : List ℕ) → IsTextOf letter text octets → p letter ≡ true
 letter_holds p holds letter text octets (inl b) = holds.letter letter (inl b.0)
 letter_holds p holds letter text octets (inr q) = holds.letter letter (inr q.0)
 
 language_holds : (p : ℕ → Bool) → HoldsInWords p → p 42 ≡ true → (language : Option (List ℕ)) → IfSome language IsName → list_all p (language_suffix language) ≡ true
 language_holds p holds star None is = refl
-language_holds p holds star (Some l) is = and_from (p 42) (list_all p l) star (list_imp p is_name_octet holds.name l is.1)
+language_holds p holds star (Some l) is = and_from (p 42) (list_all p l) star (pass-weaker is_name_octet p holds.name l is.1)
 
 pub encoded_all : (p : ℕ → Bool) → HoldsInWords p → (word : List ℕ) (u : UnitValue) → IsEncodedWord word u → list_all p word ≡ true
 encoded_all p holds word u is =
@@ -37,7 +31,7 @@ encoded_all p holds word u is =
     let second = and_parts (p 63) (list_all p (42 ∷ [])) first.1 in
     let third = and_parts (p 42) true second.1 in
     let ending : list_all p (63 ∷ 61 ∷ []) ≡ true = and_from (p 63) (list_all p (61 ∷ [])) second.0 (and_from (p 61) true first.0 refl) in
-    let text : list_all p (w.text ++ 63 ∷ 61 ∷ []) ≡ true = all_append p w.text (63 ∷ 61 ∷ []) (list_imp p is_text_octet holds.text w.text has.text.1) ending in
+    let text : list_all p (w.text ++ 63 ∷ 61 ∷ []) ≡ true = pass-append p w.text (63 ∷ 61 ∷ []) (pass-weaker is_text_octet p holds.text w.text has.text.1) ending in
     let coded : list_all p (63 ∷ w.letter ∷ 63 ∷ (w.text ++ 63 ∷ 61 ∷ [])) ≡ true
     = and_from (p 63) (list_all p (w.letter ∷ 63 ∷ (w.text ++ 63 ∷ 61 ∷ []))) second.0
     (and_from (p w.letter) (list_all p (63 ∷ (w.text ++ 63 ∷ 61 ∷ []))) (letter_holds p holds w.letter w.text is.octets is.spells)
@@ -45,8 +39,8 @@ encoded_all p holds word u is =
     let rest : List ℕ = w.charset ++ (language_suffix w.language ++ 63 ∷ w.letter ∷ 63 ∷ (w.text ++ 63 ∷ 61 ∷ [])) in
     rw (has.spelled)
     (and_from (p 61) (list_all p (63 ∷ rest)) first.0 (and_from (p 63) (list_all p rest) second.0
-    (all_append p w.charset (language_suffix w.language ++ 63 ∷ w.letter ∷ 63 ∷ (w.text ++ 63 ∷ 61 ∷ [])) (list_imp p is_name_octet holds.name w.charset has.charset.1)
-    (all_append p (language_suffix w.language) (63 ∷ w.letter ∷ 63 ∷ (w.text ++ 63 ∷ 61 ∷ [])) (language_holds p holds third.0 w.language has.language) coded))))
+    (pass-append p w.charset (language_suffix w.language ++ 63 ∷ w.letter ∷ 63 ∷ (w.text ++ 63 ∷ 61 ∷ [])) (pass-weaker is_name_octet p holds.name w.charset has.charset.1)
+    (pass-append p (language_suffix w.language) (63 ∷ w.letter ∷ 63 ∷ (w.text ++ 63 ∷ 61 ∷ [])) (language_holds p holds third.0 w.language has.language) coded))))
 
 ascii_letter : (x : ℕ) → (to_ascii_uppercase x ≡ 66) ⊎ (to_ascii_uppercase x ≡ 81) → is_ascii x ≡ true
 ascii_letter x (inl h) = grind (arith, nat_tests)

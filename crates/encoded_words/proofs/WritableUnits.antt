@@ -1,7 +1,6 @@
 -- The units of a UTF-8 text can be written.
 use Rattle.std.proofs.Common.{◌≡◌, ℕ, ◌<◌, Bool, true, false, ltb, ◌&&◌, ◌||◌, ◌⊎◌, inl, inr, cond, not, List, [], ◌∷◌, ◌++◌, length, map, is_some, Option, Some, None, refl, sym, subst, arith}
 use Rattle.std.proofs.lemmas.Bool.{and_parts, and_from, cases_Bool, lt-ltb}
-use Rattle.std.proofs.lemmas.Bool.Decides.{nat_tests}
 use Rattle.std.proofs.lemmas.List.{append_assoc, append-nil, map-append, take_at, drop_at, length-append}
 use Rattle.std.proofs.lemmas.Str.{IsUtf8-take, IsUtf8-drop, IsUtf8-append, IsUtf8-from_ascii, IsUtf8-from_is_utf8, IsCharBoundary-before_ascii, IsCharBoundary-after_ascii}
 use Rattle.std.proofs.Math.Seq.{get_or-append_seam}
@@ -9,6 +8,7 @@ use Rattle.std.specs.List.{AllByRecursion, list_all, list_any, flat_map}
 use Rattle.std.specs.Str.{IsUtf8, IsCharBoundary, is_utf8, str_to_ascii_lowercase}
 use Rattle.mail_wire.specs.Octets.{is_white, is_black}
 use Rattle.mail_wire.specs.Spans.{Stops}
+use Rattle.mail_wire.proofs.OctetLemmas.{white_below}
 use Rattle.encoded_words.specs.Words.{UnitValue, Text, Opaque, IsEncodedWord, Says, SaysWhere, gives_text, unit_of}
 use Rattle.encoded_words.specs.Units.{Place, ArePlaces, HasUnits, place_octets, word_unit, begins_encoded, raw_units, with_text, merged}
 use Rattle.encoded_words.specs.CommentUnits.{TextItem, Plain, Pair, item_spelling, item_octet, has_backslash, is_white_item, CommentWord, word_items, ItemsDivide, AreCommentWords, comment_places, HasCommentUnits}
@@ -89,9 +89,6 @@ before_ascii a (x ∷ b) ascii u =
 behind_ascii : (x : ℕ) (b : List ℕ) → x < 128 → IsUtf8 (x ∷ b) → IsUtf8 b
 behind_ascii x b ascii u = (cut_utf8 (x ∷ []) b u (IsCharBoundary-after_ascii (x ∷ b) 0 u (omega arith) ascii)).1
 
-white_ascii : (x : ℕ) → is_white x ≡ true → x < 128
-white_ascii x h = grind (arith, nat_tests)
-
 white_utf8 : (run rest : List ℕ) → list_all is_white run ≡ true → IsUtf8 (run ++ rest) → IsUtf8 run × IsUtf8 rest
 white_utf8 run rest white u = (IsUtf8-from_ascii run (ascii_literal run (all_ascii run white)), behind run white u)
   where
@@ -99,18 +96,18 @@ white_utf8 run rest white u = (IsUtf8-from_ascii run (ascii_literal run (all_asc
     all_ascii [] h = refl
     all_ascii (x ∷ xs) h =
         let parts = and_parts (is_white x) (list_all is_white xs) h in
-        and_from (ltb x 128) (list_all (λ b. ltb b 128) xs) (lt-ltb x 128 (white_ascii x parts.0)) (all_ascii xs parts.1)
+        and_from (ltb x 128) (list_all (λ b. ltb b 128) xs) (lt-ltb x 128 (white_below x parts.0)) (all_ascii xs parts.1)
 
     behind : (xs : List ℕ) → list_all is_white xs ≡ true → IsUtf8 (xs ++ rest) → IsUtf8 rest
     behind [] h u = u
     behind (x ∷ xs) h u =
         let parts = and_parts (is_white x) (list_all is_white xs) h in
-        behind xs parts.1 (behind_ascii x (xs ++ rest) (white_ascii x parts.0) u)
+        behind xs parts.1 (behind_ascii x (xs ++ rest) (white_below x parts.0) u)
 
 -- Unstructured texts.
 begins_white : (xs : List ℕ) → Stops is_black xs → BeginsAscii xs
 begins_white [] stops = tt
-begins_white (x ∷ xs) stops = white_ascii x (not_not (is_white x) stops)
+begins_white (x ∷ xs) stops = white_below x (not_not (is_white x) stops)
   where
     not_not : (b : Bool) → not b ≡ false → b ≡ true
     not_not true h = refl
@@ -153,7 +150,7 @@ white_octets (Pair x ∷ run) h = cc h
 begins_run : (run : List TextItem) (ws : List CommentWord) → list_all is_white_item run ≡ true → ItemsDivide run ws → BeginsAscii (octets_of run ++ octets_of (flat_map word_items ws))
 begins_run [] [] white divides = tt
 begins_run [] (w ∷ ws) white divides = absurd (omega arith)
-begins_run (Plain x ∷ run) ws white divides = white_ascii x (and_parts (is_white x) (list_all is_white_item run) white).0
+begins_run (Plain x ∷ run) ws white divides = white_below x (and_parts (is_white x) (list_all is_white_item run) white).0
 begins_run (Pair x ∷ run) ws white divides = cc white
 
 words_utf8 : (ws : List CommentWord) → AreCommentWords ws → IsUtf8 (octets_of (flat_map word_items ws)) → AllByRecursion IsUtf8Place (comment_places ws)

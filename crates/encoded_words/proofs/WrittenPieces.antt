@@ -9,13 +9,13 @@ use Rattle.std.specs.Str.{IsUtf8, str_to_ascii_lowercase}
 use Rattle.std.specs.Char.{to_ascii_uppercase}
 use Rattle.base64.specs.Engines.{standard}
 use Rattle.base64.specs.GeneralPurpose.{encode_of}
-use Rattle.mail_wire.proofs.AllLemmas.{all-append}
+use Rattle.mail_wire.proofs.AllLemmas.{all-append, pass-append}
 use Rattle.encoded_words.specs.Words.{UnitValue, Text, Opaque, IsEncodedWord, IsTextOf, q_spelling, q_octet, QItem, SaysWhere, is_visible, gives_text, unit_of}
 use Rattle.encoded_words.specs.Units.{word_unit, raw_units, with_text, merged}
 use Rattle.encoded_words.specs.CommentUnits.{TextItem, Plain, Pair, AreTextItems, item_spelling, item_octet, has_backslash, is_white_item, CommentWord, word_items, AreCommentWords, comment_places, HasCommentUnits}
 use Rattle.encoded_words.specs.Pieces.{b_word, IsChunk, AreChunks, AreBWords}
 use Rattle.encoded_words.specs.Written.{WriteAll, AreUnits, AreWritable}
-use Rattle.encoded_words.proofs.Octets.{is_byte, bytes-IsUtf8, encoded_hold, all_append}
+use Rattle.encoded_words.proofs.Octets.{is_byte, bytes-IsUtf8, encoded_hold}
 use Rattle.encoded_words.proofs.BWords.{length-encode_of, chunk_utf8}
 use Rattle.encoded_words.proofs.EncodedOctets.{encoded_all, encoded_some}
 use Rattle.encoded_words.proofs.CommentLemmas.{items_once}
@@ -106,7 +106,7 @@ pub b_word-plain : (chunk : List ℕ) → list_all is_byte chunk ≡ true → Is
 unfolding b_word
 b_word-plain chunk bytes = record {
   some = omega arith;
-  plain = all_append is_plain (codes "=?UTF-8?B?") (encode_of standard chunk ++ codes "?=") refl (all_append is_plain (encode_of standard chunk) (codes "?=") (encoded_hold is_plain refl refl chunk bytes) refl);
+  plain = pass-append is_plain (codes "=?UTF-8?B?") (encode_of standard chunk ++ codes "?=") refl (pass-append is_plain (encode_of standard chunk) (codes "?=") (encoded_hold is_plain refl refl chunk bytes) refl);
 }
 
 visible_letter : (x : ℕ) → (to_ascii_uppercase x ≡ 66) ⊎ (to_ascii_uppercase x ≡ 81) → is_visible x ≡ true
@@ -242,4 +242,4 @@ pub joined_all : (p : ℕ → Bool) → p 32 ≡ true → (pieces : List (List �
 joined_all p space [] all = refl
 joined_all p space (w ∷ []) all = all.0
 joined_all p space (w ∷ v ∷ ws) all =
-    all_append p w (32 ∷ join_with_byte 32 (v ∷ ws)) all.0 (and_from (p 32) (list_all p (join_with_byte 32 (v ∷ ws))) space (joined_all p space (v ∷ ws) all.1))
+    pass-append p w (32 ∷ join_with_byte 32 (v ∷ ws)) all.0 (and_from (p 32) (list_all p (join_with_byte 32 (v ∷ ws))) space (joined_all p space (v ∷ ws) all.1))

@@ -13,8 +13,8 @@ use Rattle.mail_wire.specs.Folds.{unfolded, IsFolded}
 use Rattle.mail_wire.specs.Spans.{Stops}
 use Rattle.mail_wire.proofs.Folded.{without_ends, without_ends-append, unfolded-folded, IsFolded-append, IsFolded-plain}
 use Rattle.mail_wire.proofs.SpanLemmas.{span_once}
+use Rattle.mail_wire.proofs.AllLemmas.{pass-append}
 use Rattle.encoded_words.proofs.BWords.{ascii_literal}
-use Rattle.encoded_words.proofs.Octets.{all_append}
 use Rattle.field_tokens.proofs.TokenLines.{before_ascii, all_ascii, BeginsAscii}
 use Rattle.utf8_fields.specs.Parts.{FieldParts, field_octets, HasParts, HasValue}
 use Rattle.utf8_fields.proofs.OneValue.{IsTrimmed-once}
@@ -137,7 +137,7 @@ pub ChangesGlobal-all : (p : ℕ → Bool) → list_all p (codes "rfc822") ≡ t
 ChangesGlobal-all p type body changed c all =
     let front = and_parts (list_all p c.before) (list_all p (c.word ++ c.after)) (sym (list_all-append p c.before (c.word ++ c.after)) ∙ sym (ap (list_all p) c.whole) ∙ all) in
     let rest = and_parts (list_all p c.word) (list_all p c.after) (sym (list_all-append p c.word c.after) ∙ front.1) in
-    ap (list_all p) c.changed_is ∙ all_append p c.before (codes "rfc822" ++ c.after) front.0 (all_append p (codes "rfc822") c.after type rest.1)
+    ap (list_all p) c.changed_is ∙ pass-append p c.before (codes "rfc822" ++ c.after) front.0 (pass-append p (codes "rfc822") c.after type rest.1)
 
 ascii_below : (x : ℕ) → is_ascii x ≡ true → x < 128
 ascii_below x h = grind (arith, nat_tests)

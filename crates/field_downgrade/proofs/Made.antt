@@ -13,11 +13,11 @@ use Rattle.mail_wire.proofs.Folded.{without_ends, without_ends-append, unfolded-
 use Rattle.mail_wire.specs.Spans.{Stops}
 use Rattle.encoded_words.specs.Pieces.{b_word, IsChunk, AreChunks, AreBWords}
 use Rattle.encoded_words.proofs.BWords.{b_word-ascii, ascii_literal}
-use Rattle.encoded_words.proofs.Octets.{all_append}
 use Rattle.encoded_words.proofs.Once.{begins_black}
 use Rattle.mail_wire.proofs.SpanLemmas.{all_from_places}
 use Rattle.utf8_fields.specs.Parts.{FieldParts, HasParts, HasValue, field_octets}
 use Rattle.mail_wire.specs.Spans.{StopsBehind}
+use Rattle.mail_wire.proofs.AllLemmas.{pass-append}
 use Rattle.utf8_fields.specs.Lines.{is_name_octet}
 use Rattle.field_downgrade.specs.Words.{AreUtf8, Word, AreWords, HasWords, run_of, last_run, plain_text, copied_octets, is_word_octet, is_gap_octet, is_high, word_octets}
 use Rattle.encoded_words.specs.Words.{UnitValue}
@@ -79,8 +79,8 @@ copied_ascii [] are low = refl
 copied_ascii (w ∷ []) are low = not_not (list_all is_ascii w.octets) (and_parts (not (is_high w)) true low).0
 copied_ascii (w ∷ v ∷ ws) are low =
     let parts = and_parts (not (is_high w)) (list_all (λ (w : Word). not (is_high w)) (v ∷ ws)) low in
-    all_append is_ascii w.octets (w.gap ++ copied_octets (v ∷ ws)) (not_not (list_all is_ascii w.octets) parts.0)
-    (all_append is_ascii w.gap (copied_octets (v ∷ ws)) (gap_ascii w.gap are.0.gap.octets) (copied_ascii (v ∷ ws) are.2 parts.1))
+    pass-append is_ascii w.octets (w.gap ++ copied_octets (v ∷ ws)) (not_not (list_all is_ascii w.octets) parts.0)
+    (pass-append is_ascii w.gap (copied_octets (v ∷ ws)) (gap_ascii w.gap are.0.gap.octets) (copied_ascii (v ∷ ws) are.2 parts.1))
 
 copied_are : (white : ℕ) (ws : List Word) → is_white white ≡ true → AreWords ws → IsCopied ws → ArePieces (copied_pieces white ws)
 copied_are white [] h are low = tt
@@ -169,7 +169,7 @@ white_ascii x h = grind (arith, nat_tests)
 pub made-ascii : (pieces : List Piece) → ArePieces pieces → list_all is_ascii (made_body pieces) ≡ true
 made-ascii [] are = refl
 made-ascii (p ∷ ps) are =
-    all_append is_ascii (crlf ++ p.white ∷ p.octets) (made_body ps)
+    pass-append is_ascii (crlf ++ p.white ∷ p.octets) (made_body ps)
     (and_from (is_ascii p.white) (list_all is_ascii p.octets) (white_ascii p.white are.0.white) are.0.ascii) (made-ascii ps are.1)
 
 -- The value of the original and that of the made field.
@@ -271,7 +271,7 @@ pub pieces-ascii : (octets : List ℕ) (f g : FieldParts) (pieces : List Piece) 
 pieces-ascii octets f g pieces is are name white body end =
     let ending : list_all is_ascii f.ending ≡ true = elim is.ending [ inl e ↦ rw e refl | inr e ↦ rw e refl ] in
     rw (white, body, end)
-    (all_append is_ascii g.name (58 ∷ (made_body pieces ++ f.ending)) (name_ascii g.name name) (all_append is_ascii (made_body pieces) f.ending (made-ascii pieces are) ending))
+    (pass-append is_ascii g.name (58 ∷ (made_body pieces ++ f.ending)) (name_ascii g.name name) (pass-append is_ascii (made_body pieces) f.ending (made-ascii pieces are) ending))
 
 pub field_ascii : (octets : List ℕ) (f : FieldParts) (words : List Word) (pieces : List Piece) → HasParts octets f → HasWords f.body words → AreUtf8 words → HavePieces words pieces
     → list_all is_ascii (field_octets (made_of f pieces)) ≡ true

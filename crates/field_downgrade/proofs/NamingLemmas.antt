@@ -4,9 +4,10 @@ use Rattle.std.specs.List.{list_all}
 use Rattle.std.proofs.lemmas.Bool.{and_parts, both_ways}
 use Rattle.std.proofs.lemmas.List.{append_cancel_left, append_cancel_right}
 use Rattle.std.proofs.lemmas.List.Folds.{list_all-append}
-use Rattle.encoded_words.proofs.Octets.{all_append, all_cons}
+use Rattle.encoded_words.proofs.Octets.{all_cons}
 use Rattle.mail_wire.specs.Octets.{is_ascii, is_white}
 use Rattle.mail_wire.specs.Folds.{unfolded, IsFolded}
+use Rattle.mail_wire.proofs.AllLemmas.{pass-append}
 use Rattle.param_grammar.specs.Joining.{SaysParams}
 use Rattle.utf8_fields.specs.Parts.{FieldParts, HasParts, HasValue, IsField, field_octets}
 use Rattle.utf8_fields.proofs.OneField.{HasParts-once}
@@ -70,8 +71,8 @@ frame_all p colon f changed all imp =
     let white = and_parts (list_all p f.white) (list_all p (58 ∷ (f.body ++ f.ending))) (sym (list_all-append p f.white (58 ∷ (f.body ++ f.ending))) ∙ name.1) in
     let behind = and_parts (p 58) (list_all p (f.body ++ f.ending)) white.1 in
     let body = and_parts (list_all p f.body) (list_all p f.ending) (sym (list_all-append p f.body f.ending) ∙ behind.1) in
-    all_append p f.name (f.white ++ 58 ∷ (changed ++ f.ending)) name.0
-    (all_append p f.white (58 ∷ (changed ++ f.ending)) white.0 (all_cons p 58 (changed ++ f.ending) colon (all_append p changed f.ending (imp body.0) body.1)))
+    pass-append p f.name (f.white ++ 58 ∷ (changed ++ f.ending)) name.0
+    (pass-append p f.white (58 ∷ (changed ++ f.ending)) white.0 (all_cons p 58 (changed ++ f.ending) colon (pass-append p changed f.ending (imp body.0) body.1)))
 
 same_body : (f : FieldParts) (changed : List ℕ) → field_octets (with_body f changed) ≡ field_octets f → changed ≡ f.body
 same_body f changed e =

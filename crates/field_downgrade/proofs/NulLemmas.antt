@@ -9,11 +9,10 @@ use Rattle.std.specs.Str.{IsUtf8}
 use Rattle.mail_wire.specs.Octets.{is_white}
 use Rattle.mail_wire.specs.Lines.{crlf}
 use Rattle.mail_wire.specs.Message.{IsNul}
+use Rattle.mail_wire.proofs.AllLemmas.{pass-append, pass-weaker}
 use Rattle.encoded_words.specs.Folding.{Piece, made_body, word_pieces}
 use Rattle.encoded_words.specs.Pieces.{AreBWords, AreChunks, b_word}
 use Rattle.encoded_words.proofs.BWords.{b_word-all}
-use Rattle.encoded_words.proofs.Octets.{all_append}
-use Rattle.encapsulated_fields.proofs.EncapsulatedLemmas.{all_imp}
 use Rattle.field_tokens.specs.Comments.{IsLinePiece}
 use Rattle.field_tokens.specs.TokenOctets.{is_line_octet}
 use Rattle.utf8_fields.specs.Lines.{is_name_octet}
@@ -85,7 +84,7 @@ LackNul-append (x ∷ xs) ys a b = (a.0, LackNul-append xs ys a.1 b)
 -- those of a structured field
 pub LackNul-spaced : (pieces : List (List ℕ)) → AllByRecursion IsLinePiece pieces → LackNul (spaced pieces)
 LackNul-spaced [] lines = tt
-LackNul-spaced (p ∷ ps) lines = (all_imp not_nul is_line_octet line_not_nul p lines.0.line, LackNul-spaced ps lines.1)
+LackNul-spaced (p ∷ ps) lines = (pass-weaker is_line_octet not_nul line_not_nul p lines.0.line, LackNul-spaced ps lines.1)
 
 -- those of B words
 b_word_lacks : (chunk : List ℕ) → IsUtf8 chunk → list_all not_nul (b_word chunk) ≡ true
@@ -121,8 +120,8 @@ copied_lack [] h = refl
 copied_lack (w ∷ []) h = all_front not_nul w.octets w.gap (and_parts (word_lacks w) true h).0
 copied_lack (w ∷ v ∷ ws) h =
     let parts = and_parts (word_lacks w) (list_all word_lacks (v ∷ ws)) h in
-    all_append not_nul w.octets (w.gap ++ copied_octets (v ∷ ws)) (all_front not_nul w.octets w.gap parts.0)
-    (all_append not_nul w.gap (copied_octets (v ∷ ws)) (all_back not_nul w.octets w.gap parts.0) (copied_lack (v ∷ ws) parts.1))
+    pass-append not_nul w.octets (w.gap ++ copied_octets (v ∷ ws)) (all_front not_nul w.octets w.gap parts.0)
+    (pass-append not_nul w.gap (copied_octets (v ∷ ws)) (all_back not_nul w.octets w.gap parts.0) (copied_lack (v ∷ ws) parts.1))
 
 copied_pieces_lack : (white : ℕ) (ws : List Word) → list_all word_lacks ws ≡ true → LackNul (copied_pieces white ws)
 copied_pieces_lack white [] h = tt
@@ -165,7 +164,7 @@ pieces_lack words pieces are u have h =
 body_lacks : (pieces : List Piece) → ArePieces pieces → LackNul pieces → list_all not_nul (made_body pieces) ≡ true
 body_lacks [] are lack = refl
 body_lacks (p ∷ ps) are lack =
-    all_append not_nul (crlf ++ p.white ∷ p.octets) (made_body ps)
+    pass-append not_nul (crlf ++ p.white ∷ p.octets) (made_body ps)
     (and_from (not_nul p.white) (list_all not_nul p.octets) (white_not_nul p.white are.0.white) lack.0) (body_lacks ps are.1 lack.1)
 
 -- a field of such pieces
@@ -174,8 +173,8 @@ pub field_lacks : (octets : List ℕ) (f g : FieldParts) (pieces : List Piece) �
 field_lacks octets f g pieces is are lack name white body end =
     let ending : list_all not_nul f.ending ≡ true = elim is.ending [ inl e ↦ rw e refl | inr e ↦ rw e refl ] in
     rw (white, body, end)
-    (all_append not_nul g.name (58 ∷ (made_body pieces ++ f.ending)) (all_imp not_nul is_name_octet name_not_nul g.name name)
-    (all_append not_nul (made_body pieces) f.ending (body_lacks pieces are lack) ending))
+    (pass-append not_nul g.name (58 ∷ (made_body pieces ++ f.ending)) (pass-weaker is_name_octet not_nul name_not_nul g.name name)
+    (pass-append not_nul (made_body pieces) f.ending (body_lacks pieces are lack) ending))
 
 -- such a field gains no NUL, ...
 pub KeepsNoNul-pieces : (octets made : List ℕ) (f g : FieldParts) (pieces : List Piece) → HasParts octets f → ArePieces pieces → LackNul pieces → list_all is_name_octet g.name ≡ true → g.white ≡ []

@@ -6,8 +6,7 @@ use Rattle.std.proofs.lemmas.List.{append_assoc, length-append}
 use Rattle.std.specs.List.{AllByRecursion, list_all, flat_map, join_with_byte}
 use Rattle.mail_wire.specs.Octets.{is_white, is_ascii}
 use Rattle.mail_wire.specs.Spans.{Stops, StopsBehind}
-use Rattle.mail_wire.proofs.AllLemmas.{all-append}
-use Rattle.encoded_words.proofs.Octets.{all_append}
+use Rattle.mail_wire.proofs.AllLemmas.{all-append, pass-append, pass-weaker}
 use Rattle.field_tokens.specs.declared.Style.{Style}
 use Rattle.field_tokens.specs.declared.TokenKind.{TokenKind}
 use Rattle.field_tokens.specs.declared.TokenKind.TheVariants.{Atom, Quoted, Literal, Special, Gap, Comment}
@@ -19,7 +18,7 @@ use Rattle.field_tokens.specs.Comments.{CommentValue, CommentsSay, CommentsPiece
 use Rattle.field_tokens.proofs.TokenLists.{token_octets_some, AreTokens-once}
 use Rattle.field_tokens.proofs.SqueezedValues.{IsPart-runs, words_of-runs, runs_and, squeezed_and, IsSqueezedAgain, squeezed_again}
 use Rattle.field_tokens.proofs.TokenLines.{ascii_line, joined_line, squeezed_line, comments_are_writable, comments_are_plain}
-use Rattle.field_tokens.proofs.LinePieces.{list_weaker, CommentsPieces-line, CommentsPieces-there}
+use Rattle.field_tokens.proofs.LinePieces.{CommentsPieces-line, CommentsPieces-there}
 use Rattle.field_tokens.proofs.CommentValues.{CommentsSay-once, CommentsSay-some, CommentsPieces-once}
 use Rattle.field_tokens.proofs.WrittenComments.{CommentsPieces-written}
 use Rattle.field_tokens.proofs.DecideTokens.{decide_tokens}
@@ -101,7 +100,7 @@ decide_plain is_encoding text = elim (decide_tokens (style_where is_encoding) te
 -- Where an octet is above 127 there is a piece.
 
 gap_ascii : (style : Style) (kind : TokenKind) (octets rest : List ℕ) → is_blank kind ≡ true → is_comment kind ≡ false → IsToken style kind octets rest → list_all is_ascii octets ≡ true
-gap_ascii style Gap octets rest b c is = list_weaker is_white is_ascii white octets is.1.passes
+gap_ascii style Gap octets rest b c is = pass-weaker is_white is_ascii white octets is.1.passes
   where
     white : (x : ℕ) → is_white x ≡ true → is_ascii x ≡ true
     white x h = grind (arith, nat_tests)
@@ -120,7 +119,7 @@ gaps_ascii style (t ∷ ts) text are w c = elim (cases_Bool (is_blank t.kind)) [
     | inl comment ↦ let some = rw (comment) at c in cc some
     | inr other ↦
         let more : list_all is_ascii are.0 ≡ true = gaps_ascii style ts are.0 are.3 (rw (blank) at w) (rw (other) at c) in
-        rw (are.1) (all_append is_ascii t.octets are.0 (gap_ascii style t.kind t.octets are.0 blank other are.2) more)
+        rw (are.1) (pass-append is_ascii t.octets are.0 (gap_ascii style t.kind t.octets are.0 blank other are.2) more)
   ]
 ]
 

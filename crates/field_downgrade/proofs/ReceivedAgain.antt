@@ -11,8 +11,7 @@ use Rattle.std.specs.List.{AllByRecursion, list_all, flat_map, join_with_byte}
 use Rattle.std.specs.Str.{str_to_ascii_lowercase}
 use Rattle.mail_wire.specs.Octets.{is_white, is_ascii, same_name}
 use Rattle.mail_wire.specs.Spans.{Stops, StopsBehind}
-use Rattle.mail_wire.proofs.AllLemmas.{all-append}
-use Rattle.encoded_words.proofs.Octets.{all_append}
+use Rattle.mail_wire.proofs.AllLemmas.{all-append, pass-append}
 use Rattle.field_tokens.specs.declared.Style.TheVariants.{Mail}
 use Rattle.field_tokens.specs.declared.TokenKind.{TokenKind}
 use Rattle.field_tokens.specs.declared.TokenKind.TheVariants.{Atom, Quoted, Literal, Special, Gap, Comment}
@@ -267,8 +266,8 @@ word_piece : (word text : List ℕ) → 0 < length word → list_all is_ascii wo
     → IsLinePiece (word ++ behind_space text)
 word_piece word text some ascii line text_ascii text_line = record {
   some = omega (arith, some, length-append word (behind_space text));
-  ascii = all_append is_ascii word (behind_space text) ascii (space_ascii is_ascii refl text text_ascii);
-  line = all_append is_line_octet word (behind_space text) line (space_ascii is_line_octet refl text text_line);
+  ascii = pass-append is_ascii word (behind_space text) ascii (space_ascii is_ascii refl text text_ascii);
+  line = pass-append is_line_octet word (behind_space text) line (space_ascii is_line_octet refl text text_line);
 }
 
 -- the octets of a word, its text and what follows

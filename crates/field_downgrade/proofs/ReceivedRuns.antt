@@ -12,7 +12,7 @@ use Rattle.std.specs.List.{AllByRecursion, list_all, list_any, flat_map, join_wi
 use Rattle.std.specs.Str.{bytes_eq, str_to_ascii_lowercase}
 use Rattle.mail_wire.specs.Octets.{is_ascii, same_name}
 use Rattle.mail_wire.specs.Spans.{Stops}
-use Rattle.encoded_words.proofs.Octets.{all_append}
+use Rattle.mail_wire.proofs.AllLemmas.{pass-append, pass-weaker}
 use Rattle.ace_domains.specs.Domains.{normal_form, IsDomain, IsAtom, is_atom_octet as is_atext}
 use Rattle.ace_domains.proofs.FormLemmas.{form_domain}
 use Rattle.field_tokens.specs.declared.Style.TheVariants.{Mail}
@@ -20,7 +20,6 @@ use Rattle.field_tokens.specs.declared.TokenKind.TheVariants.{Atom, Special}
 use Rattle.field_tokens.specs.TokenOctets.{is_atom_octet, is_line_octet}
 use Rattle.field_tokens.specs.Tokens.{IsToken, TokenValue, AreTokens}
 use Rattle.field_tokens.specs.Squeezed.{is_blank, is_there, runs_of, octets_of, squeezed_values, comments_of, space, IsPart}
-use Rattle.field_tokens.proofs.LinePieces.{list_weaker}
 use Rattle.field_tokens.proofs.TokenLists.{token_octets_some}
 use Rattle.field_tokens.proofs.Parts.{BeginsNoGap, EndsNoGap, part_of}
 use Rattle.field_tokens.proofs.SqueezedValues.{AreKept, kept_no_comment, IsRunOfTokens, runs_of-run, IsPart-runs}
@@ -188,7 +187,7 @@ atext_line : (x : ℕ) → is_atext x ≡ true → is_line_octet x ≡ true
 atext_line x h = grind (arith, nat_tests)
 
 atom_token : (label rest : List ℕ) → IsAtom label → Stops (is_atom_octet Mail) rest → IsToken Mail Atom label rest
-atom_token label rest is stops = (is.some, record { whole = refl; passes = list_weaker is_atext (is_atom_octet Mail) atext_atom label is.octets; stops = stops })
+atom_token label rest is stops = (is.some, record { whole = refl; passes = pass-weaker is_atext (is_atom_octet Mail) atext_atom label is.octets; stops = stops })
 
 dotted_tokens : (labels : List (List ℕ)) → All IsAtom labels → AreTokens Mail (dotted labels) (join_with_byte 46 labels)
 dotted_tokens [] all = refl
@@ -243,9 +242,9 @@ split_labels a (b ∷ labels) all =
 
 joined_hold : (q : ℕ → Bool) → ((x : ℕ) → is_atext x ≡ true → q x ≡ true) → q 46 ≡ true → (labels : List (List ℕ)) → All IsAtom labels → list_all q (join_with_byte 46 labels) ≡ true
 joined_hold q imp at [] all = refl
-joined_hold q imp at (a ∷ []) all = list_weaker is_atext q imp a (All-head IsAtom a [] all).octets
+joined_hold q imp at (a ∷ []) all = pass-weaker is_atext q imp a (All-head IsAtom a [] all).octets
 joined_hold q imp at (a ∷ b ∷ labels) all =
-    all_append q a (46 ∷ join_with_byte 46 (b ∷ labels)) (list_weaker is_atext q imp a (All-head IsAtom a (b ∷ labels) all).octets)
+    pass-append q a (46 ∷ join_with_byte 46 (b ∷ labels)) (pass-weaker is_atext q imp a (All-head IsAtom a (b ∷ labels) all).octets)
     (and_from (q 46) (list_all q (join_with_byte 46 (b ∷ labels))) at (joined_hold q imp at (b ∷ labels) (All-tail IsAtom a (b ∷ labels) all)))
 
 served_domain : (form : List ℕ) → IsDomain form → holds_clause_word form ≡ false → IsServed form

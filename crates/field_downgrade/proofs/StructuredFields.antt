@@ -12,10 +12,10 @@ use Rattle.mail_wire.specs.Folds.{IsFolded}
 use Rattle.mail_wire.specs.Spans.{Stops, StopsBehind}
 use Rattle.mail_wire.proofs.Unfolded.{unfolded-nil}
 use Rattle.mail_wire.proofs.Folded.{without_ends, unfolded-folded, IsFolded-plain}
+use Rattle.mail_wire.proofs.AllLemmas.{pass-append, pass-weaker}
 use Rattle.encoded_words.specs.Folding.{made_body, word_pieces}
 use Rattle.encoded_words.specs.Pieces.{AreBWords, b_word}
-use Rattle.encapsulated_fields.proofs.EncapsulatedLemmas.{words_say, all_imp}
-use Rattle.encoded_words.proofs.Octets.{all_append}
+use Rattle.encapsulated_fields.proofs.EncapsulatedLemmas.{words_say}
 use Rattle.field_tokens.proofs.TokenLines.{BeginsAscii, before_ascii, behind_ascii, all_ascii}
 use Rattle.field_tokens.specs.TokenOctets.{is_line_octet}
 use Rattle.field_tokens.specs.Comments.{CommentValue, IsLinePiece}
@@ -109,7 +109,7 @@ KeepsValue-words f g value words has u some are body =
 
 -- The value of a field with an octet above 127.
 white_ascii : (xs : List ℕ) → list_all is_white xs ≡ true → list_all is_ascii xs ≡ true
-white_ascii xs h = all_imp is_ascii is_white one xs h
+white_ascii xs h = pass-weaker is_white is_ascii one xs h
   where
     one : (x : ℕ) → is_white x ≡ true → is_ascii x ≡ true
     one x h = grind (arith, nat_tests)
@@ -129,14 +129,14 @@ body_ascii : (body value : List ℕ) → IsFolded body → HasValue body value �
 body_ascii body value folded has h =
     let whole : without_ends body ≡ has.lead ++ (value ++ has.trail) = sym (unfolded-folded body folded) ∙ has.whole in
     ends_ascii body
-    (rw whole (all_append is_ascii has.lead (value ++ has.trail) (white_ascii has.lead has.lead_passes) (all_append is_ascii value has.trail h (white_ascii has.trail has.trail_passes))))
+    (rw whole (pass-append is_ascii has.lead (value ++ has.trail) (white_ascii has.lead has.lead_passes) (pass-append is_ascii value has.trail h (white_ascii has.trail has.trail_passes))))
 
 field_is_ascii : (octets : List ℕ) (f : FieldParts) → HasParts octets f → list_all is_ascii f.body ≡ true → list_all is_ascii octets ≡ true
 field_is_ascii octets f is h =
     let ending : list_all is_ascii f.ending ≡ true = elim is.ending [ inl e ↦ rw e refl | inr e ↦ rw e refl ] in
     rw is.spelled
-    (all_append is_ascii f.name (f.white ++ 58 ∷ (f.body ++ f.ending)) (name_ascii f.name is.name)
-    (all_append is_ascii f.white (58 ∷ (f.body ++ f.ending)) (white_ascii f.white is.white) (all_append is_ascii f.body f.ending h ending)))
+    (pass-append is_ascii f.name (f.white ++ 58 ∷ (f.body ++ f.ending)) (name_ascii f.name is.name)
+    (pass-append is_ascii f.white (58 ∷ (f.body ++ f.ending)) (white_ascii f.white is.white) (pass-append is_ascii f.body f.ending h ending)))
 
 -- the value of a body with an octet above 127
 pub body_high : (body value : List ℕ) → IsFolded body → list_all is_ascii body ≡ false → HasValue body value → list_all is_ascii value ≡ false

@@ -10,10 +10,9 @@ use Rattle.std.specs.List.{AllByRecursion, flat_map, list_all}
 use Rattle.std.specs.Str.{bytes_eq, chars, encode_utf8_all, IsUtf8}
 use Rattle.mail_wire.specs.Octets.{is_ascii, is_white}
 use Rattle.mail_wire.specs.Spans.{Stops, StopsBehind, IsTrimmed}
-use Rattle.encoded_words.proofs.Octets.{all_append}
+use Rattle.mail_wire.proofs.AllLemmas.{pass-append, pass-weaker}
 use Rattle.field_tokens.specs.declared.Style.TheVariants.{Mime}
 use Rattle.field_tokens.specs.TokenOctets.{is_atom_octet, is_line_octet}
-use Rattle.field_tokens.proofs.LinePieces.{list_weaker}
 use Rattle.encapsulated_fields.specs.AddressForms.{escape_of, hexadecimal, is_plain, xtext_char, xtext_form}
 use Rattle.encapsulated_fields.specs.Xtext.{is_hex_digit, XtextItem, Plain, Escape, IsXtextItem, item_spelling, item_character, ReadsAs}
 use Rattle.encapsulated_fields.proofs.HexLemmas.{hex-hexadecimal}
@@ -38,13 +37,13 @@ digit_ascii x h = grind (arith, nat_tests)
 
 item_ascii : (item : XtextItem) → IsXtextItem item → list_all is_ascii (encode_utf8 (item_character item)) ≡ true → list_all is_ascii (item_spelling item) ≡ true
 item_ascii (Plain c) is h = h
-item_ascii (Escape ds) is h = all_append is_ascii ds (125 ∷ []) (list_weaker is_hex_digit is_ascii digit_ascii ds is.hex) refl
+item_ascii (Escape ds) is h = pass-append is_ascii ds (125 ∷ []) (pass-weaker is_hex_digit is_ascii digit_ascii ds is.hex) refl
 
 items_ascii : (items : List XtextItem) → AllByRecursion IsXtextItem items → list_all is_ascii (encode_utf8_all (map item_character items)) ≡ true → list_all is_ascii (flat_map item_spelling items) ≡ true
 items_ascii [] are h = refl
 items_ascii (i ∷ items) are h =
     let parts = parts_pass is_ascii (encode_utf8 (item_character i)) (encode_utf8_all (map item_character items)) h in
-    all_append is_ascii (item_spelling i) (flat_map item_spelling items) (item_ascii i are.0 parts.0) (items_ascii items are.1 parts.1)
+    pass-append is_ascii (item_spelling i) (flat_map item_spelling items) (item_ascii i are.0 parts.0) (items_ascii items are.1 parts.1)
 
 ReadsAs-ascii : (written text : List ℕ) → ReadsAs written text → list_all is_ascii text ≡ true → list_all is_ascii written ≡ true
 ReadsAs-ascii written text is h = rw (is.spelled) (items_ascii is.items is.are_items (subst (λ t. list_all is_ascii t ≡ true) is.address_is h))
@@ -58,8 +57,8 @@ white_ascii x h = grind (arith, nat_tests)
 
 trimmed_ascii : (octets trimmed : List ℕ) → IsTrimmed is_white octets trimmed → list_all is_ascii trimmed ≡ true → list_all is_ascii octets ≡ true
 trimmed_ascii octets trimmed is h =
-    rw (is.whole) (all_append is_ascii is.lead (trimmed ++ is.trail) (list_weaker is_white is_ascii white_ascii is.lead is.lead_passes)
-    (all_append is_ascii trimmed is.trail h (list_weaker is_white is_ascii white_ascii is.trail is.trail_passes)))
+    rw (is.whole) (pass-append is_ascii is.lead (trimmed ++ is.trail) (pass-weaker is_white is_ascii white_ascii is.lead is.lead_passes)
+    (pass-append is_ascii trimmed is.trail h (pass-weaker is_white is_ascii white_ascii is.trail is.trail_passes)))
 
 type_ascii : (x : ℕ) → is_type_octet x ≡ true → is_ascii x ≡ true
 type_ascii x h = (and_parts (is_ascii x) (is_atom_octet Mime x) h).0
@@ -67,9 +66,9 @@ type_ascii x h = (and_parts (is_ascii x) (is_atom_octet Mime x) h).0
 SaysTyped-ascii : (value type text : List ℕ) → SaysTyped value type text → list_all is_ascii text ≡ true → list_all is_ascii value ≡ true
 SaysTyped-ascii value type text says h =
     let is = says.is_typed in
-    let front = trimmed_ascii is.front is.type_is.atom is.type_is.atom_is (list_weaker is_type_octet is_ascii type_ascii is.type_is.atom is.type_is.are) in
+    let front = trimmed_ascii is.front is.type_is.atom is.type_is.atom_is (pass-weaker is_type_octet is_ascii type_ascii is.type_is.atom is.type_is.are) in
     let behind = trimmed_ascii is.behind says.written is.written_is (WrittenSays-ascii (bytes_eq type utf8_type) says.written text says.says h) in
-    rw (is.cuts.whole) (all_append is_ascii is.front (59 ∷ is.behind) front behind)
+    rw (is.cuts.whole) (pass-append is_ascii is.front (59 ∷ is.behind) front behind)
 
 high_some : (value type text : List ℕ) → SaysTyped value type text → list_all is_ascii value ≡ false → 0 < length text
 high_some value type [] says high = absurd (both_ways (list_all is_ascii value) high (SaysTyped-ascii value type [] says refl))
@@ -91,11 +90,11 @@ digit_visible x h = grind (arith, nat_tests)
 
 char_visible : (c : ℕ) (b : Bool) → is_plain c ≡ b → list_all is_visible (if b then encode_utf8 c else escape_of c) ≡ true
 char_visible c true is = rw (encode_ascii c (plain_small c is)) (and_from (is_visible c) true (plain_visible c is) refl)
-char_visible c false is = all_append is_visible (hexadecimal c) (125 ∷ []) (list_weaker is_hex_digit is_visible digit_visible (hexadecimal c) (hex-hexadecimal c)) refl
+char_visible c false is = pass-append is_visible (hexadecimal c) (125 ∷ []) (pass-weaker is_hex_digit is_visible digit_visible (hexadecimal c) (hex-hexadecimal c)) refl
 
 chars_visible : (cs : List ℕ) → list_all is_visible (flat_map xtext_char cs) ≡ true
 chars_visible [] = refl
-chars_visible (c ∷ cs) = all_append is_visible (xtext_char c) (flat_map xtext_char cs) (char_visible c (is_plain c) refl) (chars_visible cs)
+chars_visible (c ∷ cs) = pass-append is_visible (xtext_char c) (flat_map xtext_char cs) (char_visible c (is_plain c) refl) (chars_visible cs)
 
 char_some : (c : ℕ) (b : Bool) → is_plain c ≡ b → 0 < length (if b then encode_utf8 c else escape_of c)
 char_some c true is = rw (encode_ascii c (plain_small c is)) (omega arith)
@@ -177,8 +176,8 @@ form_again text u some =
       are_pieces = (
         record {
           some = omega arith;
-          ascii = list_weaker is_visible is_ascii visible_ascii (xtext_form text) visible;
-          line = list_weaker is_visible is_line_octet visible_line (xtext_form text) visible;
+          ascii = pass-weaker is_visible is_ascii visible_ascii (xtext_form text) visible;
+          line = pass-weaker is_visible is_line_octet visible_line (xtext_form text) visible;
         },
         tt,
       );

@@ -1,5 +1,5 @@
 -- The pieces of comments: none is empty, each is ASCII, and what holds of a comment's octets holds of theirs.
-use Rattle.std.proofs.Common.{◌≡◌, ◌≢◌, ℕ, ◌<◌, Bool, true, false, List, [], ◌∷◌, ◌++◌, length, refl, sym, ap, ◌∙◌, subst, arith}
+use Rattle.std.proofs.Common.{◌≡◌, ◌≢◌, ℕ, ◌<◌, Bool, true, false, List, [], ◌∷◌, ◌++◌, length, refl, ap, ◌∙◌, subst, arith}
 use Rattle.std.proofs.lemmas.Bool.{and_parts, and_from, ne_eqb}
 use Rattle.std.proofs.lemmas.Bool.Decides.{nat_tests}
 use Rattle.std.proofs.lemmas.List.{length-append}
@@ -7,7 +7,7 @@ use Rattle.std.proofs.lemmas.List.Folds.{list_all-append}
 use Rattle.std.specs.List.{AllByRecursion, list_all}
 use Rattle.std.specs.Str.{IsUtf8}
 use Rattle.mail_wire.specs.Octets.{is_ascii}
-use Rattle.mail_wire.proofs.AllLemmas.{all-append}
+use Rattle.mail_wire.proofs.AllLemmas.{all-append, pass-parts, pass-weaker}
 use Rattle.encoded_words.specs.CommentUnits.{TextItem, Plain, Pair, AreTextItems, HasCommentUnits}
 use Rattle.encoded_words.specs.Words.{UnitValue}
 use Rattle.encoded_words.specs.Written.{WriteAll}
@@ -55,22 +55,13 @@ pub record HoldsInPlain (q : ℕ → Bool) : Type 0 where
   pub opening : q 40 ≡ true
   pub closing : q 41 ≡ true
 
-pub list_weaker : (p q : ℕ → Bool) → ((x : ℕ) → p x ≡ true → q x ≡ true) → (xs : List ℕ) → list_all p xs ≡ true → list_all q xs ≡ true
-list_weaker p q imp [] h = refl
-list_weaker p q imp (x ∷ xs) h =
-    let parts = and_parts (p x) (list_all p xs) h in
-    and_from (q x) (list_all q xs) (imp x parts.0) (list_weaker p q imp xs parts.1)
-
-list_parts : (q : ℕ → Bool) (xs ys : List ℕ) → list_all q (xs ++ ys) ≡ true → (list_all q xs ≡ true) × (list_all q ys ≡ true)
-list_parts q xs ys h = and_parts (list_all q xs) (list_all q ys) (sym (list_all-append q xs ys) ∙ h)
-
 plain_ascii : (x : ℕ) → is_plain x ≡ true → is_ascii x ≡ true
 plain_ascii x h = grind (arith, nat_tests)
 
 plain_hold : (q : ℕ → Bool) → HoldsInPlain q → (pieces : List (List ℕ)) → AllByRecursion IsPlainPiece pieces → AllByRecursion (HoldsPiece q) pieces
 plain_hold q in_plain [] all = tt
 plain_hold q in_plain (w ∷ ws) all = (
-  record { some = all.0.some; ascii = list_weaker is_plain is_ascii plain_ascii w all.0.plain; holds = list_weaker is_plain q in_plain.plain w all.0.plain },
+  record { some = all.0.some; ascii = pass-weaker is_plain is_ascii plain_ascii w all.0.plain; holds = pass-weaker is_plain q in_plain.plain w all.0.plain },
   plain_hold q in_plain ws all.1,
 )
 
@@ -78,8 +69,8 @@ run_holds : (q : ℕ → Bool) → HoldsInPlain q → (b : Bool) (text run : Lis
     → list_all is_ascii (spelling run) ≡ b → RunPieces b (spelling run) pieces → AllByRecursion (HoldsPiece q) pieces
 run_holds q in_plain true text run pieces are u all h ascii has =
     let whole : spelling text ≡ spelling h.lead ++ (spelling run ++ spelling h.trail) = ap spelling h.whole ∙ spelling-append h.lead (run ++ h.trail) ∙ ap (λ r. spelling h.lead ++ r) (spelling-append run h.trail) in
-    let behind = list_parts q (spelling h.lead) (spelling run ++ spelling h.trail) (subst (λ t. list_all q t ≡ true) whole all) in
-    rw has (record { some = run_some run h.is_run; ascii = ascii; holds = (list_parts q (spelling run) (spelling h.trail) behind.1).0 }, tt)
+    let behind = pass-parts q (spelling h.lead) (spelling run ++ spelling h.trail) (subst (λ t. list_all q t ≡ true) whole all) in
+    rw has (record { some = run_some run h.is_run; ascii = ascii; holds = (pass-parts q (spelling run) (spelling h.trail) behind.1).0 }, tt)
 run_holds q in_plain false text run pieces are u all h other has =
     plain_hold q in_plain pieces (run_plain run has.0 pieces (run_text text run h are) (run_of_utf8 text run h u) has.1 has.2)
 
@@ -108,8 +99,8 @@ body_holds : (q : ℕ → Bool) → HoldsInPlain q → (body : Body) (pieces : L
 body_holds q in_plain (Last text) pieces is u all has = text_holds q in_plain text pieces is u all has
 body_holds q in_plain (Before text inner more) pieces is u all has =
     let parts = body_utf8 text inner more u in
-    let first = list_parts q (spelling text) (40 ∷ (body_octets inner ++ 41 ∷ body_octets more)) all in
-    let second = list_parts q (body_octets inner) (41 ∷ body_octets more) (and_parts (q 40) (list_all q (body_octets inner ++ 41 ∷ body_octets more)) first.1).1 in
+    let first = pass-parts q (spelling text) (40 ∷ (body_octets inner ++ 41 ∷ body_octets more)) all in
+    let second = pass-parts q (body_octets inner) (41 ∷ body_octets more) (and_parts (q 40) (list_all q (body_octets inner ++ 41 ∷ body_octets more)) first.1).1 in
     let third : list_all q (body_octets more) ≡ true = (and_parts (q 41) (list_all q (body_octets more)) second.1).1 in
     let one = text_holds q in_plain text has.0 is.0 parts.of_text first.0 has.3 in
     let two = wrapped_holds q in_plain (list_all is_ascii (comment_of inner)) (comment_of inner) (BodyPieces inner) has.1 (comment_some inner) (comment_holds q in_plain inner second.0) refl
@@ -122,7 +113,7 @@ pub CommentPieces-hold : (q : ℕ → Bool) → HoldsInPlain q → (octets : Lis
 CommentPieces-hold q in_plain octets pieces u all p =
     let utf8 = inside_utf8 p.body (subst IsUtf8 p.spelled u) in
     let inside : list_all q (body_octets p.body) ≡ true
-    = (list_parts q (body_octets p.body) (41 ∷ []) (and_parts (q 40) (list_all q (body_octets p.body ++ 41 ∷ [])) (subst (λ o. list_all q o ≡ true) p.spelled all)).1).0 in
+    = (pass-parts q (body_octets p.body) (41 ∷ []) (and_parts (q 40) (list_all q (body_octets p.body ++ 41 ∷ [])) (subst (λ o. list_all q o ≡ true) p.spelled all)).1).0 in
     wrapped_holds q in_plain (list_all is_ascii octets) octets (BodyPieces p.body) pieces (omega (arith, ap length p.spelled)) all refl
     (λ pieces given. body_holds q in_plain p.body pieces p.is_body utf8 inside given) p.pieces_are
 

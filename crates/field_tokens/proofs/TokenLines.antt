@@ -9,10 +9,10 @@ use Rattle.std.proofs.Math.Seq.{get_or-append_seam}
 use Rattle.std.specs.List.{AllByRecursion, list_all, join_with_byte, slice_split, onto_first}
 use Rattle.std.specs.Str.{IsUtf8, IsCharBoundary}
 use Rattle.encoded_words.proofs.BWords.{ascii_literal}
-use Rattle.encoded_words.proofs.Octets.{all_append}
 use Rattle.mail_wire.specs.Octets.{is_white, is_ascii}
 use Rattle.mail_wire.specs.Spans.{Stops}
-use Rattle.mail_wire.proofs.AllLemmas.{all-append}
+use Rattle.mail_wire.proofs.AllLemmas.{all-append, pass-append}
+use Rattle.mail_wire.proofs.OctetLemmas.{white_below}
 use Rattle.field_tokens.specs.declared.Style.{Style}
 use Rattle.field_tokens.specs.declared.Style.TheVariants.{Mail, Mime}
 use Rattle.field_tokens.specs.declared.TokenKind.{TokenKind}
@@ -65,9 +65,6 @@ all_ascii p small (x ∷ a) rest h u =
     let more = all_ascii p small a rest parts.1 (behind_ascii x (a ++ rest) (small x parts.0) u) in
     record { front = IsUtf8-append (x ∷ []) a (one_ascii x (small x parts.0)) more.front; rest = more.rest }
 
-white_ascii : (x : ℕ) → is_white x ≡ true → x < 128
-white_ascii x h = grind (arith, nat_tests)
-
 special_ascii : (style : Style) (x : ℕ) → is_special style x ≡ true → x < 128
 special_ascii Mail x h = grind (arith, nat_tests)
 special_ascii Mime x h = grind (arith, nat_tests)
@@ -85,7 +82,7 @@ group_utf8 m octets rest ascii g u = rw (g.spelled) (ends_ascii (m.open_mark ∷
 
 -- UTF-8 is cut between tokens
 pub token_utf8 : (style : Style) (kind : TokenKind) (octets rest : List ℕ) → IsToken style kind octets rest → IsUtf8 (octets ++ rest) → BothUtf8 octets rest
-token_utf8 style Gap octets rest is u = all_ascii is_white white_ascii octets rest is.1.passes u
+token_utf8 style Gap octets rest is u = all_ascii is_white white_below octets rest is.1.passes u
 token_utf8 style Atom octets rest is u = before_ascii octets rest (stops_ascii style rest is.1.stops) u
 token_utf8 style Special octets rest is u = rw (is.1) (ends_ascii [] is.0 rest (special_ascii style is.0 is.2) (rw (is.1) at u))
 token_utf8 style Comment octets rest is u = group_utf8 comment_marks octets rest (omega arith) is u
@@ -151,7 +148,7 @@ pub line_none : IsLine []
 line_none = record { utf8 = IsUtf8-nil; plain = refl }
 
 pub line_append : (a b : List ℕ) → IsLine a → IsLine b → IsLine (a ++ b)
-line_append a b p q = record { utf8 = IsUtf8-append a b p.utf8 q.utf8; plain = all_append is_line_octet a b p.plain q.plain }
+line_append a b p q = record { utf8 = IsUtf8-append a b p.utf8 q.utf8; plain = pass-append is_line_octet a b p.plain q.plain }
 
 pub ascii_line : (text : List ℕ) → list_all is_ascii text ≡ true → list_all is_line_octet text ≡ true → IsLine text
 ascii_line text ascii plain = record { utf8 = IsUtf8-from_ascii text (ascii_literal text ascii); plain = plain }

@@ -1,11 +1,11 @@
 -- The parts of UTF-8 text and comments are UTF-8.
 use Rattle.std.proofs.Common.{◌≡◌, ℕ, ◌<◌, ◌≤◌, true, inl, inr, List, [], ◌∷◌, ◌++◌, subst, refl, ap, ◌∙◌, sym, arith}
 use Rattle.std.proofs.lemmas.Bool.{and_parts, and_from, cases_lt}
-use Rattle.std.proofs.lemmas.Bool.Decides.{nat_tests}
 use Rattle.std.proofs.lemmas.List.{append_assoc, append-nil}
 use Rattle.std.specs.List.{list_all}
 use Rattle.std.specs.Str.{IsUtf8}
 use Rattle.mail_wire.specs.Octets.{is_white}
+use Rattle.mail_wire.proofs.OctetLemmas.{white_below}
 use Rattle.encoded_words.specs.CommentUnits.{TextItem, Plain, Pair, is_white_item}
 use Rattle.field_tokens.specs.Trees.{spelling, Body, Before, body_octets}
 use Rattle.field_tokens.specs.private.Bodies.{BeginsNoItem}
@@ -13,15 +13,12 @@ use Rattle.field_tokens.specs.Comments.{HasRunOf, comment_of}
 use Rattle.field_tokens.proofs.Texts.{spelling-append}
 use Rattle.field_tokens.proofs.TokenLines.{BothUtf8, BeginsAscii, before_ascii, behind_ascii, ends_ascii}
 
-white_ascii : (x : ℕ) → is_white x ≡ true → x < 128
-white_ascii x h = grind (arith, nat_tests)
-
 -- what follows white
 pub behind_white : (white rest : List ℕ) → list_all is_white white ≡ true → IsUtf8 (white ++ rest) → IsUtf8 rest
 behind_white [] rest all u = u
 behind_white (x ∷ white) rest all u =
     let parts = and_parts (is_white x) (list_all is_white white) all in
-    behind_white white rest parts.1 (behind_ascii x (white ++ rest) (white_ascii x parts.0) u)
+    behind_white white rest parts.1 (behind_ascii x (white ++ rest) (white_below x parts.0) u)
 
 -- text ends before an ASCII octet, or where all ends
 stops_ascii : (after : List ℕ) → BeginsNoItem after → BeginsAscii after
@@ -36,7 +33,7 @@ stops_ascii (x ∷ after) stops = elim (cases_lt x 128) [
 
 white_begins : (trail : List TextItem) (after : List ℕ) → list_all is_white_item trail ≡ true → BeginsAscii after → BeginsAscii (spelling trail ++ after)
 white_begins [] after all begins = begins
-white_begins (Plain x ∷ trail) after all begins = white_ascii x (and_parts (is_white x) (list_all is_white_item trail) all).0
+white_begins (Plain x ∷ trail) after all begins = white_below x (and_parts (is_white x) (list_all is_white_item trail) all).0
 white_begins (Pair x ∷ trail) after all begins = cc all
 
 -- what follows text

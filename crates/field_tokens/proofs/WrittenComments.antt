@@ -6,6 +6,7 @@ use Rattle.std.proofs.lemmas.List.{append_assoc, append-nil, map-append, length-
 use Rattle.std.specs.List.{AllByRecursion, list_all, join_with_byte}
 use Rattle.std.specs.Str.{IsUtf8}
 use Rattle.mail_wire.specs.Octets.{is_white, is_ascii}
+use Rattle.mail_wire.proofs.AllLemmas.{pass-weaker}
 use Rattle.encoded_words.specs.CommentUnits.{TextItem, Plain, AreTextItems, comment_places, HasCommentUnits}
 use Rattle.encoded_words.specs.Units.{raw_units}
 use Rattle.encoded_words.specs.Words.{UnitValue}
@@ -23,7 +24,7 @@ use Rattle.field_tokens.proofs.Texts.{AreText-append, spelling-append, HasRunOf-
 use Rattle.field_tokens.proofs.BodyLemmas.{body_once}
 use Rattle.field_tokens.proofs.Insides.{IsComment-of, comment_within}
 use Rattle.field_tokens.proofs.Utf8Cuts.{body_utf8, run_of_utf8, inside_utf8}
-use Rattle.field_tokens.proofs.LinePieces.{AreTextItems-text, run_text, run_plain, list_weaker, HoldsPiece, CommentPieces-hold, CommentPieces-there}
+use Rattle.field_tokens.proofs.LinePieces.{AreTextItems-text, run_text, run_plain, HoldsPiece, CommentPieces-hold, CommentPieces-there}
 
 -- each piece with a space before it
 abbrev spaced : List (List ℕ) → List ℕ
@@ -60,7 +61,7 @@ octets_text (x ∷ xs) all =
 
 all_weaker : (q : ℕ → Bool) → ((x : ℕ) → is_plain x ≡ true → q x ≡ true) → (pieces : List (List ℕ)) → AllByRecursion IsPlainPiece pieces → AllByRecursion (λ w. list_all q w ≡ true) pieces
 all_weaker q imp [] all = tt
-all_weaker q imp (w ∷ ws) all = (list_weaker is_plain q imp w all.0.plain, all_weaker q imp ws all.1)
+all_weaker q imp (w ∷ ws) all = (pass-weaker is_plain q imp w all.0.plain, all_weaker q imp ws all.1)
 
 or_left : (a b : Bool) → a ≡ true → (a || b) ≡ true
 or_left true b h = refl

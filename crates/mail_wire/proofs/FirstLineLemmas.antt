@@ -80,25 +80,27 @@ first_none x y rest none false is = (is, unmapped (first_line (y ∷ rest)) (sym
 abbrev pub put : List ℕ → Cut → Cut
 put xs cut = record { line = xs ++ cut.line; rest = cut.rest }
 
-map_nil : (found : Option Cut) → found ≡ option_map (put []) found
-map_nil None = refl
-map_nil (Some cut) = refl
+-- no octets before a cut change nothing
+pub put_nothing : (found : Option Cut) → found ≡ option_map (put []) found
+put_nothing None = refl
+put_nothing (Some cut) = refl
 
-map_cons : (x : ℕ) (xs : List ℕ) (found : Option Cut)
+-- one octet more before a cut
+pub put_more : (x : ℕ) (xs : List ℕ) (found : Option Cut)
     → option_map (begun_with x) (option_map (put xs) found) ≡ option_map (put (x ∷ xs)) found
-map_cons x xs None = refl
-map_cons x xs (Some cut) = refl
+put_more x xs None = refl
+put_more x xs (Some cut) = refl
 
 -- no line in the first part, and no CRLF across: the line ends in the second part
 pub first_line-apart : (xs ys : List ℕ) → first_line xs ≡ None → joins xs ys ≡ false → first_line (xs ++ ys) ≡ option_map (put xs) (first_line ys)
 unfolding first_line
-first_line-apart [] ys none apart = map_nil (first_line ys)
+first_line-apart [] ys none apart = put_nothing (first_line ys)
 first_line-apart (x ∷ []) [] none apart = refl
 first_line-apart (x ∷ []) (y ∷ ys) none apart = first_line-other x y ys apart
 first_line-apart (x ∷ z ∷ xs) ys none apart =
     let parts = first_none x z xs none (is_crlf x z) refl in
     first_line-other x z (xs ++ ys) parts.0 ∙ ap (option_map (begun_with x)) (first_line-apart (z ∷ xs) ys parts.1 apart)
-    ∙ map_cons x (z ∷ xs) (first_line ys)
+    ∙ put_more x (z ∷ xs) (first_line ys)
 
 -- no line in the first part, and a CRLF across: the line ends with the first octet of the second part
 pub first_line-across : (xs ys : List ℕ) → first_line xs ≡ None → joins xs ys ≡ true → first_line (xs ++ ys) ≡ Some (record { line = xs ++ take 1 ys; rest = drop 1 ys })
@@ -116,7 +118,8 @@ pub record IsCut (octets : List ℕ) (cut : Cut) : Type 0 where
   pub some : 2 ≤ length cut.line
   pub longer : (more : List ℕ) → first_line (octets ++ more) ≡ Some (record { line = cut.line; rest = cut.rest ++ more })
 
-unput : (x : ℕ) (cut : Cut) (found : Option Cut) → option_map (begun_with x) found ≡ Some cut
+-- a cut behind one octet
+pub unput : (x : ℕ) (cut : Cut) (found : Option Cut) → option_map (begun_with x) found ≡ Some cut
     → (next : Cut) × (found ≡ Some next) × (cut ≡ record { line = x ∷ next.line; rest = next.rest })
 unput x cut None h = cc
 unput x cut (Some next) h = (next, refl, cc)

@@ -1,5 +1,5 @@
 -- What octets begin with doesn't change with more octets behind.
-use Rattle.std.proofs.Common.{◌≡◌, ℕ, ◌+◌, ◌<◌, ◌≤◌, List, [], ◌∷◌, ◌++◌, length, drop, Bool, true, false, arith, refl, sym, ap, ◌∙◌, Some, None, Option, length-append, length-drop}
+use Rattle.std.proofs.Common.{◌≡◌, ℕ, ◌+◌, ◌<◌, ◌≤◌, List, [], ◌∷◌, ◌++◌, length, drop, Bool, true, false, arith, refl, sym, ap, ◌∙◌, subst, Some, None, Option, length-append, length-drop}
 use Rattle.std.specs.Prelude.{nat_le}
 use Rattle.std.specs.Option.{option_map}
 use Rattle.std.proofs.lemmas.Bool.Decides.{nat_tests}
@@ -137,3 +137,31 @@ waits_by octets (Some cut) is waits = waits_some octets cut is waits (nat_le (le
 
 pub waits : (octets : List ℕ) → next_line octets ≡ waiting → IsWaiting octets
 waits octets h = waits_by octets (first_line octets) refl h
+
+-- ---- a line has its CRLF
+
+pub whole_line : (a b c d : List ℕ) → whole a b ≡ whole c d → a ≡ c
+whole_line a b c d same = cc
+
+pub never_long : (a b c : List ℕ) → too_long a ≡ whole b c → ⊥
+never_long a b c same = cc
+
+pub never_waiting : (a b : List ℕ) → waiting ≡ whole a b → ⊥
+never_waiting a b same = cc
+
+ends_some : (octets line rest : List ℕ) (cut : Cut) → first_line octets ≡ Some cut → next_line octets ≡ whole line rest → (b : Bool) → nat_le (length cut.line) LINE_MAX ≡ b → 2 ≤ length line
+ends_some octets line rest cut found framed true short =
+    subst (λ (l : List ℕ). 2 ≤ length l) (whole_line cut.line cut.rest line rest (sym (next_line-line octets cut found short) ∙ framed)) (first_line-cut octets cut found).some
+ends_some octets line rest cut found framed false long = absurd (never_long _ line rest (sym (next_line-long_line octets cut found long) ∙ framed))
+
+ends_none : (octets line rest : List ℕ) → first_line octets ≡ None → next_line octets ≡ whole line rest → (b : Bool) → nat_le (length octets) LINE_MAX ≡ b → 2 ≤ length line
+ends_none octets line rest none framed true short = absurd (never_waiting line rest (sym (next_line-waiting octets none short) ∙ framed))
+ends_none octets line rest none framed false long = absurd (never_long _ line rest (sym (next_line-long octets none long) ∙ framed))
+
+ends_by : (octets line rest : List ℕ) (found : Option Cut) → first_line octets ≡ found → next_line octets ≡ whole line rest → 2 ≤ length line
+ends_by octets line rest None found framed = ends_none octets line rest found framed (nat_le (length octets) LINE_MAX) refl
+ends_by octets line rest (Some cut) found framed = ends_some octets line rest cut found framed (nat_le (length cut.line) LINE_MAX) refl
+
+-- a whole line has two octets at least
+pub line_has_end : (octets line rest : List ℕ) → next_line octets ≡ whole line rest → 2 ≤ length line
+line_has_end octets line rest framed = ends_by octets line rest (first_line octets) refl framed

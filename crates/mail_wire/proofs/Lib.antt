@@ -14,3 +14,6 @@ pub mod DateLemmas
 pub mod FramingLemmas
 pub mod NumberLemmas
 pub mod KeptLemmas
+pub mod DotLemmas
+pub mod OctetLemmas
+pub mod KeeperLemmas

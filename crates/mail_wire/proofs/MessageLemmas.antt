@@ -35,7 +35,7 @@ slice_get-drop (suc n) (x ∷ octets) k zero at = absurd (omega arith)
 slice_get-drop (suc n) (x ∷ octets) k (suc i) at = slice_get-drop n octets k i (omega arith)
 
 -- one octet stands at a place
-one_octet : (octets : List ℕ) (at x y : ℕ) → Stands octets at x → Stands octets at y → x ≡ y
+pub one_octet : (octets : List ℕ) (at x y : ℕ) → Stands octets at x → Stands octets at y → x ≡ y
 one_octet octets at x y first second = unsome x y (sym first ∙ second)
   where
     unsome : (x y : ℕ) → Some x ≡ Some y → x ≡ y

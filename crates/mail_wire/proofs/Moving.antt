@@ -125,7 +125,7 @@ give_gives a b (Err Memory) octets keeps notes = record { given = []; missing = 
 Rose-later : (a b c : ℕ) → Rose a b → b ≤ c → Rose a c
 Rose-later a b c rose later = omega arith
 
-Rose-earlier : (a b c : ℕ) → a ≤ b → Rose b c → Rose a c
+pub Rose-earlier : (a b c : ℕ) → a ≤ b → Rose b c → Rose a c
 Rose-earlier a b c earlier rose = omega arith
 
 pub GoesOn-nil : (a : Telling) → GoesOn a a

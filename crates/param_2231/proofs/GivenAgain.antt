@@ -6,10 +6,9 @@ use Rattle.std.proofs.lemmas.List.Folds.{list_all-append}
 use Rattle.std.specs.List.{AllByRecursion, flat_map, list_all}
 use Rattle.std.specs.Str.{str_to_ascii_lowercase}
 use Rattle.mail_wire.specs.Octets.{is_ascii}
-use Rattle.mail_wire.proofs.AllLemmas.{all-append}
+use Rattle.mail_wire.proofs.AllLemmas.{all-append, pass-append}
 use Rattle.encoded_words.specs.Words.{is_name_octet}
 use Rattle.encoded_words.specs.private.Parts.{lacks}
-use Rattle.encoded_words.proofs.Octets.{all_append}
 use Rattle.field_tokens.specs.declared.Style.TheVariants.{Mime}
 use Rattle.field_tokens.specs.TokenOctets.{is_atom_octet}
 use Rattle.field_tokens.specs.Tokens.{IsToken, TokenValue, AreTokens}
@@ -105,7 +104,7 @@ all_good (p ∷ pieces) all = (core_good p all.0, all_good pieces all.1)
 
 flat_all : (q : ℕ → Bool) (f : Piece → List ℕ) (ps : List Piece) → ((p : Piece) → IsGood p → list_all q (f p) ≡ true) → AllByRecursion IsGood ps → list_all q (flat_map f ps) ≡ true
 flat_all q f [] each all = refl
-flat_all q f (p ∷ ps) each all = all_append q (f p) (flat_map f ps) (each p all.0) (flat_all q f ps each all.1)
+flat_all q f (p ∷ ps) each all = pass-append q (f p) (flat_map f ps) (each p all.0) (flat_all q f ps each all.1)
 
 first_good : (n : ℕ) (parts : List Piece) → AllByRecursion IsGood parts → AllByRecursion IsGood (first_parts n parts)
 first_good zero parts all = tt

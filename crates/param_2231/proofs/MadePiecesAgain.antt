@@ -9,15 +9,14 @@ use Rattle.std.proofs.lemmas.List.Folds.{list_all-append}
 use Rattle.std.specs.List.{AllByRecursion, flat_map, list_all, concat}
 use Rattle.std.specs.Str.{bytes_eq, str_to_ascii_lowercase}
 use Rattle.mail_wire.specs.Octets.{is_ascii}
+use Rattle.mail_wire.proofs.AllLemmas.{pass-append, pass-weaker}
 use Rattle.encoded_words.specs.Words.{UnitValue}
 use Rattle.encoded_words.specs.private.Parts.{lacks}
-use Rattle.encoded_words.proofs.Octets.{all_append}
 use Rattle.field_tokens.specs.declared.Style.TheVariants.{Mime}
 use Rattle.field_tokens.specs.declared.TokenKind.TheVariants.{Atom, Special}
 use Rattle.field_tokens.specs.TokenOctets.{is_atom_octet, is_line_octet}
 use Rattle.field_tokens.specs.Tokens.{IsToken, TokenValue}
 use Rattle.field_tokens.specs.Squeezed.{octets_of}
-use Rattle.field_tokens.proofs.LinePieces.{list_weaker}
 use Rattle.param_grammar.specs.declared.Piece.{Piece}
 use Rattle.param_grammar.specs.Escapes.{escaped}
 use Rattle.param_grammar.specs.Extended.{unit_of}
@@ -55,19 +54,19 @@ core_spelled : (name value : List ℕ) → octets_of (core name value) ≡ spell
 core_spelled name value = ap (λ r. name ++ 61 ∷ r) (append-nil value)
 
 word_atoms : (xs : List ℕ) → list_all is_word_octet xs ≡ true → list_all (is_atom_octet Mime) xs ≡ true
-word_atoms xs h = list_weaker is_word_octet (is_atom_octet Mime) word_octet-atom xs h
+word_atoms xs h = pass-weaker is_word_octet (is_atom_octet Mime) word_octet-atom xs h
 
 word_ascii : (xs : List ℕ) → list_all is_word_octet xs ≡ true → list_all is_ascii xs ≡ true
-word_ascii xs h = list_weaker is_word_octet is_ascii word_octet-ascii xs h
+word_ascii xs h = pass-weaker is_word_octet is_ascii word_octet-ascii xs h
 
 word_line : (xs : List ℕ) → list_all is_word_octet xs ≡ true → list_all is_line_octet xs ≡ true
-word_line xs h = list_weaker (is_atom_octet Mime) is_line_octet atom_octet-line xs (word_atoms xs h)
+word_line xs h = pass-weaker (is_atom_octet Mime) is_line_octet atom_octet-line xs (word_atoms xs h)
 
 word_octets : (xs : List ℕ) → list_all is_word_octet xs ≡ true → list_all is_octet xs ≡ true
-word_octets xs h = list_weaker is_ascii is_octet ascii-octet xs (word_ascii xs h)
+word_octets xs h = pass-weaker is_ascii is_octet ascii-octet xs (word_ascii xs h)
 
 around : (p : ℕ → Bool) (name value : List ℕ) → p 61 ≡ true → list_all p name ≡ true → list_all p value ≡ true → list_all p (spelled name value) ≡ true
-around p name value mark n v = all_append p name (61 ∷ value) n (and_from (p 61) (list_all p value) mark v)
+around p name value mark n v = pass-append p name (61 ∷ value) n (and_from (p 61) (list_all p value) mark v)
 
 core_stands : (name value : List ℕ) → IsWord name → IsWord value → CanStand (core name value)
 core_stands name value n v =
@@ -129,7 +128,7 @@ charset_said unit octets = charset_part unit ++ escaped octets
 charset_word : (unit : UnitValue) (octets : List ℕ) → CanBeWritten unit → IsWord (charset_said unit octets)
 charset_word unit octets can = record {
   some = omega (arith, length-append (charset_part unit) (escaped octets), length-append (charset_of unit) (codes "''"));
-  words = all_append is_word_octet (charset_part unit) (escaped octets) (all_append is_word_octet (charset_of unit) (codes "''") (names-words (charset_of unit) can.names) refl) (escaped-words octets);
+  words = pass-append is_word_octet (charset_part unit) (escaped octets) (pass-append is_word_octet (charset_of unit) (codes "''") (names-words (charset_of unit) can.names) refl) (escaped-words octets);
 }
 
 charset_extended : (unit : UnitValue) (octets : List ℕ) → CanBeWritten unit → list_all is_octet octets ≡ true → SaysOctets true true (charset_said unit octets) (charset_of unit) octets
@@ -163,7 +162,7 @@ whole_made : (name : List ℕ) (unit : UnitValue) → IsName name → CanBeWritt
 whole_made name unit is can =
     let parts : NameParts = record { base = name; number = None; is_extended = true } in
     made_piece (name ++ 42 ∷ []) (charset_said unit (octets_in unit)) parts (whole name unit)
-    (record { some = omega (arith, length-append name (42 ∷ [])); words = all_append is_word_octet name (42 ∷ []) is.words refl }) (charset_word unit (octets_in unit) can)
+    (record { some = omega (arith, length-append name (42 ∷ [])); words = pass-append is_word_octet name (42 ∷ []) is.words refl }) (charset_word unit (octets_in unit) can)
     (record { spelled = refl; base = is.base; first = is.first; number = tt }) (charset_extended unit (octets_in unit) can can.octets) (sym is.lower) refl
     (whole_spelled name (charset_part unit) (escaped (octets_in unit)))
 
@@ -204,9 +203,9 @@ part_made name unit n part is can some bytes =
     let number : IsNumber (number_digits n) = number_digits_are n in
     let parts : NameParts = record { base = name; number = Some (number_digits n); is_extended = true } in
     let suffix : List ℕ = (42 ∷ number_digits n) ++ 42 ∷ [] in
-    let words : list_all is_word_octet suffix ≡ true = all_append is_word_octet (42 ∷ number_digits n) (42 ∷ []) (digits-words (number_digits n) number.decimal) refl in
+    let words : list_all is_word_octet suffix ≡ true = pass-append is_word_octet (42 ∷ number_digits n) (42 ∷ []) (digits-words (number_digits n) number.decimal) refl in
     made_piece (name ++ suffix) (said_at unit n part) parts (part_piece name unit n part)
-    (record { some = omega (arith, length-append name suffix); words = all_append is_word_octet name suffix is.words words }) (part_word unit n part can some)
+    (record { some = omega (arith, length-append name suffix); words = pass-append is_word_octet name suffix is.words words }) (part_word unit n part can some)
     (record { spelled = refl; base = is.base; first = is.first; number = number }) (part_says unit n part can bytes) (sym is.lower) refl
     (part_spelled name (number_digits n) (said_at unit n part))
 

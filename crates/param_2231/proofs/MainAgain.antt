@@ -6,7 +6,7 @@ use Rattle.std.proofs.lemmas.List.{append-nil}
 use Rattle.std.specs.List.{list_all}
 use Rattle.std.specs.Str.{str_to_ascii_lowercase}
 use Rattle.mail_wire.specs.Octets.{is_ascii}
-use Rattle.encoded_words.proofs.Octets.{all_append}
+use Rattle.mail_wire.proofs.AllLemmas.{pass-append}
 use Rattle.field_tokens.specs.declared.Style.TheVariants.{Mime}
 use Rattle.field_tokens.specs.declared.Token.{Token}
 use Rattle.field_tokens.specs.declared.TokenKind.TheVariants.{Atom, Special}
@@ -74,8 +74,8 @@ main_stands Content text (a ∷ b ∷ c ∷ []) placed kept h =
         octets = run_are_octets text (a ∷ b ∷ c ∷ []) placed;
         some = omega arith;
       };
-      ascii = all_append is_ascii v.octets (octets_at text b.span ++ rest) name.1
-          (all_append is_ascii (octets_at text b.span) rest (ap (list_all is_ascii) mark) (ap (list_all is_ascii) (append-nil w.octets) ∙ other.1));
+      ascii = pass-append is_ascii v.octets (octets_at text b.span ++ rest) name.1
+          (pass-append is_ascii (octets_at text b.span) rest (ap (list_all is_ascii) mark) (ap (list_all is_ascii) (append-nil w.octets) ∙ other.1));
     }
 
 -- the type of a message

@@ -7,7 +7,8 @@ use Rattle.std.proofs.lemmas.List.{append_assoc, length-append, take_at, drop_at
 use Rattle.std.specs.List.{AllByRecursion, list_all, list_any, slice_split, onto_first}
 use Rattle.mail_wire.specs.Octets.{is_white}
 use Rattle.mail_wire.specs.Spans.{Stops}
-use Rattle.encoded_words.proofs.Octets.{all_append, bytes-IsUtf8}
+use Rattle.mail_wire.proofs.AllLemmas.{pass-append}
+use Rattle.encoded_words.proofs.Octets.{bytes-IsUtf8}
 use Rattle.field_tokens.specs.declared.Style.TheVariants.{Mime}
 use Rattle.field_tokens.specs.declared.Token.{Token}
 use Rattle.field_tokens.specs.declared.TokenKind.{TokenKind}
@@ -184,11 +185,11 @@ kept_solid text (t ∷ ts) = more (is_blank t.kind) refl (kept_solid text ts)
 
 pub run_line : (text : List ℕ) (ts : List Token) → ArePlaced text ts → list_all is_line_octet (octets_of (map (value_at text) ts)) ≡ true
 run_line text [] placed = refl
-run_line text (t ∷ ts) placed = all_append is_line_octet (octets_at text t.span) (octets_of (map (value_at text) ts)) placed.0.line (run_line text ts placed.1)
+run_line text (t ∷ ts) placed = pass-append is_line_octet (octets_at text t.span) (octets_of (map (value_at text) ts)) placed.0.line (run_line text ts placed.1)
 
 pub run_are_octets : (text : List ℕ) (ts : List Token) → ArePlaced text ts → list_all is_octet (octets_of (map (value_at text) ts)) ≡ true
 run_are_octets text [] placed = refl
-run_are_octets text (t ∷ ts) placed = all_append is_octet (octets_at text t.span) (octets_of (map (value_at text) ts)) placed.0.octets (run_are_octets text ts placed.1)
+run_are_octets text (t ∷ ts) placed = pass-append is_octet (octets_at text t.span) (octets_of (map (value_at text) ts)) placed.0.octets (run_are_octets text ts placed.1)
 
 -- a name, an equals sign and a value
 pub parameter_stands : (text : List ℕ) (a e : Token) (v : List Token) → ArePlaced text (a ∷ e ∷ v) → AreKept (map (value_at text) (a ∷ e ∷ v)) → is_atom a.kind ≡ true → is_mark_at text 61 e ≡ true

@@ -14,13 +14,12 @@ use Rattle.percent_encoding.specs.Percent.{percent_encode_byte}
 use Rattle.mail_wire.specs.Octets.{is_ascii}
 use Rattle.encoded_words.specs.Words.{UnitValue, Text, Opaque, is_name_octet}
 use Rattle.encoded_words.specs.private.Parts.{lacks}
-use Rattle.encoded_words.proofs.Octets.{all_append}
 use Rattle.field_tokens.specs.declared.Style.TheVariants.{Mime}
 use Rattle.field_tokens.specs.TokenOctets.{is_atom_octet, is_line_octet}
-use Rattle.field_tokens.proofs.LinePieces.{list_weaker}
 use Rattle.param_grammar.specs.Escapes.{EscapedItem, Plain, Escape, item_octet, IsEscapedItem, IsEscaped, item_spelling, is_letter_or_digit, is_attribute_octet, escaped_octet, escaped}
 use Rattle.param_grammar.specs.Extended.{is_nothing, is_text_of, unit_of}
 use Rattle.mail_wire.specs.Numbers.{is_digit}
+use Rattle.mail_wire.proofs.AllLemmas.{pass-append, pass-weaker}
 use Rattle.param_grammar.specs.Bodies.{unquoted}
 use Rattle.param_2231.specs.Layout.{charset_of, octets_in}
 use Rattle.param_2231.proofs.CoresAgain.{is_octet}
@@ -80,7 +79,7 @@ escaped_octet-words x = elim (cases_Bool (is_attribute_octet x)) [
 
 pub escaped-words : (xs : List ℕ) → list_all is_word_octet (escaped xs) ≡ true
 escaped-words [] = refl
-escaped-words (x ∷ xs) = all_append is_word_octet (escaped_octet x) (escaped xs) (escaped_octet-words x) (escaped-words xs)
+escaped-words (x ∷ xs) = pass-append is_word_octet (escaped_octet x) (escaped xs) (escaped_octet-words x) (escaped-words xs)
 
 some_escaped : (x : ℕ) → 0 < length (escaped_octet x)
 unfolding percent_encode_byte
@@ -100,13 +99,13 @@ name_octet-word : (x : ℕ) → is_name_octet x ≡ true → is_word_octet x ≡
 name_octet-word x h = grind (arith, nat_tests)
 
 pub names-words : (xs : List ℕ) → list_all is_name_octet xs ≡ true → list_all is_word_octet xs ≡ true
-names-words xs h = list_weaker is_name_octet is_word_octet name_octet-word xs h
+names-words xs h = pass-weaker is_name_octet is_word_octet name_octet-word xs h
 
 digit-word : (x : ℕ) → is_digit x ≡ true → is_word_octet x ≡ true
 digit-word x h = grind (arith, nat_tests)
 
 pub digits-words : (xs : List ℕ) → list_all is_digit xs ≡ true → list_all is_word_octet xs ≡ true
-digits-words xs h = list_weaker is_digit is_word_octet digit-word xs h
+digits-words xs h = pass-weaker is_digit is_word_octet digit-word xs h
 
 -- lower case
 pub lower-all : (p : ℕ → Bool) → ((x : ℕ) → p x ≡ true → p (to_ascii_lowercase x) ≡ true) → (xs : List ℕ) → list_all p xs ≡ true → list_all p (str_to_ascii_lowercase xs) ≡ true

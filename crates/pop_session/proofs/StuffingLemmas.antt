@@ -5,16 +5,12 @@ use Rattle.std.proofs.lemmas.Bool.Decides.{nat_tests}
 use Rattle.mail_wire.specs.Lines.{lines_of, put_before, is_crlf}
 use Rattle.mail_wire.proofs.FirstLine.{lines_of-crlf, lines_of-other}
 use Rattle.mail_wire.proofs.LineLemmas.{is_crlf_parts}
+use Rattle.mail_wire.proofs.DotLemmas.{others_stuffed}
 use Rattle.pop_session.specs.declared.stuffing.Place.{Place}
 use Rattle.pop_session.specs.declared.stuffing.Place.TheVariants.{LineStart, AfterCr, Within}
 use Rattle.pop_session.specs.Replies.{are_complete}
 use Rattle.mail_wire.specs.Dots.{stuffed, stuffed_line}
 use Rattle.pop_session.specs.private.Stuffing.{is_start, is_after_cr, next_place, place_after, stuffed_octet, stuffed_from}
-
--- the first line as it is, and the others stuffed
-abbrev pub others_stuffed : List (List ℕ) → List ℕ
-others_stuffed [] = []
-others_stuffed (line ∷ lines) = line ++ flat_map stuffed_line lines
 
 others_put : (x : ℕ) (lines : List (List ℕ)) → others_stuffed (put_before x lines) ≡ x ∷ others_stuffed lines
 others_put x [] = refl

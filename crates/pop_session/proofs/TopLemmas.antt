@@ -7,7 +7,7 @@ use Rattle.std.proofs.lemmas.List.Sums.{sum_by-cons}
 use Rattle.std.proofs.lemmas.Bool.Decides.{nat_tests}
 use Rattle.mail_wire.specs.Lines.{lines_of, put_before, is_crlf, crlf}
 use Rattle.mail_wire.proofs.FirstLine.{lines_of-crlf, lines_of-other}
-use Rattle.mail_wire.proofs.LineLemmas.{is_crlf_parts}
+use Rattle.mail_wire.proofs.LineLemmas.{begins, is_crlf_parts}
 use Rattle.pop_session.specs.declared.stuffing.Place.{Place}
 use Rattle.pop_session.specs.declared.stuffing.Place.TheVariants.{LineStart, AfterCr, Within}
 use Rattle.pop_session.specs.declared.top.Scan.{Scan}
@@ -154,25 +154,6 @@ shown_crlf n rest lines after = record {
   start_behind = λ m second. rw lines (crlf_start m second rest (λ k. after.start_behind k false));
   within_behind = λ m second. rw lines (crlf_behind m Within second rest (after.start_behind m false));
 }
-
--- the first line of these octets begins with the first octet
-pub record BeginsWith (y : ℕ) (octets : List ℕ) : Type 0 where
-  pub line : List ℕ
-  pub lines : List (List ℕ)
-  pub split : lines_of octets ≡ (y ∷ line) ∷ lines
-
--- from the second octet on
-begins_by : (y z : ℕ) (rest : List ℕ) → BeginsWith z (z ∷ rest) → (b : Bool) → is_crlf y z ≡ b → BeginsWith y (y ∷ z ∷ rest)
-begins_by y z rest next true is =
-    let parts = is_crlf_parts y z is in
-    record { line = 10 ∷ []; lines = lines_of rest; split = lines_of-crlf y z rest is ∙ (rw (parts.0) refl) }
-begins_by y z rest next false is = record { line = z ∷ next.line; lines = next.lines; split = lines_of-other y z rest is ∙ ap (put_before y) next.split }
-
--- there is such a line
-pub begins : (y : ℕ) (rest : List ℕ) → BeginsWith y (y ∷ rest)
-unfolding lines_of
-begins y [] = record { line = []; lines = []; split = refl }
-begins y (z ∷ rest) = begins_by y z rest (begins z rest) (is_crlf y z) refl
 
 -- a line that begins with other octets isn't empty
 two_other : (x y : ℕ) (line : List ℕ) → is_crlf x y ≡ false → (b : Bool) → (x == 13) ≡ b → bytes_eq (x ∷ y ∷ line) crlf ≡ false

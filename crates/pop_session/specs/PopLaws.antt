@@ -1,13 +1,11 @@
 -- What holds of the rows: which change the store, and that what they give may be sent.
-use Rattle.std.proofs.Common.{◌≡◌, ℕ, zero, suc, ◌+◌, ◌/◌, ◌%◌, ◌<◌, List, [], ◌∷◌, ◌++◌, length, Bool, true, false, arith, refl, Some, None, Option, append-nil, ◌&&◌, ◌==◌, ◌∙◌, ◌⊎◌, inl, inr, codes, sum_by}
-use Rattle.std.specs.Prelude.{nat_lt}
+use Rattle.std.proofs.Common.{◌≡◌, ℕ, ◌+◌, List, [], ◌∷◌, ◌++◌, length, Bool, true, false, refl, Some, None, Option, append-nil, ◌⊎◌, inl, inr, codes, sum_by}
 use Rattle.std.specs.List.{list_all}
-use Rattle.std.specs.Fmt.{decimal, digits, digits_onto, digit_glyph}
-use Rattle.std.proofs.lemmas.Bool.Decides.{nat_tests}
-use Rattle.std.proofs.lemmas.List.Folds.{list_all-append}
+use Rattle.std.specs.Fmt.{decimal}
 use Rattle.mail_wire.specs.Numbers.{number_of}
 use Rattle.mail_wire.specs.Octets.{is_ascii}
-use Rattle.mail_wire.proofs.AllLemmas.{all-append}
+use Rattle.mail_wire.proofs.AllLemmas.{all-append, pass-append}
+use Rattle.mail_wire.proofs.NumberLemmas.{ascii-decimal}
 use Rattle.journal_records.specs.declared.records.Record.{Record}
 use Rattle.mail_store.specs.Changing.{expunged}
 use Rattle.mail_store.specs.Following.{records_of}
@@ -107,39 +105,9 @@ step_quiet meanings ended store command = inr refl
 
 -- ---- each line is ASCII
 
-both : (b c : Bool) → b ≡ true → c ≡ true → (b && c) ≡ true
-both b c p q = rw (p, q) refl
-
-ascii-append : (xs ys : List ℕ) → list_all is_ascii xs ≡ true → list_all is_ascii ys ≡ true → list_all is_ascii (xs ++ ys) ≡ true
-ascii-append xs ys first second = list_all-append is_ascii xs ys ∙ both (list_all is_ascii xs) (list_all is_ascii ys) first second
-
-below_ten : (n : ℕ) → n % 10 < 10
-below_ten n = omega arith
-
-ascii-digit : (n : ℕ) (acc : List ℕ) → list_all is_ascii acc ≡ true → list_all is_ascii (digit_glyph false (n % 10) ∷ acc) ≡ true
-ascii-digit n acc ascii =
-    let low = below_ten n in
-    let small : nat_lt (n % 10) 10 ≡ true = grind (arith, nat_tests) in
-    let fits : nat_lt (48 + n % 10) 128 ≡ true = grind (arith, nat_tests) in
-    rw (small, fits) ascii
-
-onto_by : (k n : ℕ) (acc : List ℕ) → list_all is_ascii acc ≡ true
-    → ((more : List ℕ) → list_all is_ascii more ≡ true → list_all is_ascii (digits_onto k 10 false (n / 10) more) ≡ true) → (b : Bool) → (n / 10 == 0) ≡ b
-    → list_all is_ascii (digits_onto (suc k) 10 false n acc) ≡ true
-onto_by k n acc ascii others true is = rw is (ascii-digit n acc ascii)
-onto_by k n acc ascii others false is = rw is (others (digit_glyph false (n % 10) ∷ acc) (ascii-digit n acc ascii))
-
-ascii-onto : (k n : ℕ) (acc : List ℕ) → list_all is_ascii acc ≡ true → list_all is_ascii (digits_onto k 10 false n acc) ≡ true
-ascii-onto zero n acc ascii = ascii
-ascii-onto (suc k) n acc ascii = onto_by k n acc ascii (λ more m. ascii-onto k (n / 10) more m) (n / 10 == 0) refl
-
-ascii-decimal : (n : ℕ) → list_all is_ascii (decimal n) ≡ true
-unfolding digits
-ascii-decimal n = ascii-onto 64 n [] refl
-
 ascii-two : (word : List ℕ) (n m : ℕ) → list_all is_ascii word ≡ true → list_all is_ascii (two_numbers word n m) ≡ true
 ascii-two word n m ascii =
-    ascii-append (word ++ decimal n ++ codes " ") (decimal m) (ascii-append (word ++ decimal n) (codes " ") (ascii-append word (decimal n) ascii (ascii-decimal n)) refl) (ascii-decimal m)
+    pass-append is_ascii (word ++ decimal n ++ codes " ") (decimal m) (pass-append is_ascii (word ++ decimal n) (codes " ") (pass-append is_ascii word (decimal n) ascii (ascii-decimal n)) refl) (ascii-decimal m)
 
 from_by : (meanings : Meanings) (row : Listed → ℕ) (number : ℕ) (one : MaildropMessage) (maildrop : List MaildropMessage) → AreFit meanings (listing_from row (number + 1) maildrop)
     → (b : Bool) → one.deleted ≡ b → AreFit meanings (listing_from row number (one ∷ maildrop))

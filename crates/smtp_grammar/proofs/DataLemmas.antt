@@ -11,7 +11,7 @@ use Rattle.std.proofs.lemmas.Slice.Eq.{bytes_eq-Decides}
 use Rattle.mail_wire.specs.Lines.{Cut, begun_with, crlf, is_crlf, lines_of, put_before}
 use Rattle.mail_wire.specs.Message.{IsEnded}
 use Rattle.mail_wire.proofs.FirstLine.{is_crlf_true, lines_of-crlf, lines_of-other}
-use Rattle.mail_wire.proofs.FirstLineLemmas.{put}
+use Rattle.mail_wire.proofs.FirstLineLemmas.{put, put_nothing, put_more, unput}
 use Rattle.mail_wire.proofs.LineLemmas.{is_crlf_parts, first_line, concat_lines_of}
 use Rattle.mail_wire.specs.Dots.{unstuffed, unstuffed_line}
 use Rattle.smtp_grammar.specs.Data.{data_end, end_cut, behind_command, data_cut}
@@ -60,12 +60,6 @@ pub record IsEndCut (octets : List ℕ) (cut : Cut) : Type 0 where
   pub line_is : cut.line ≡ front ++ crlf
   pub parts : octets ≡ cut.line ++ (46 ∷ 13 ∷ 10 ∷ cut.rest)
   pub longer : (more : List ℕ) → end_cut (octets ++ more) ≡ Some (record { line = cut.line; rest = cut.rest ++ more })
-
--- a cut behind one octet
-unput : (x : ℕ) (cut : Cut) (found : Option Cut) → option_map (begun_with x) found ≡ Some cut
-    → (next : Cut) × (found ≡ Some next) × (cut ≡ record { line = x ∷ next.line; rest = next.rest })
-unput x cut None h = cc
-unput x cut (Some next) h = (next, refl, cc)
 
 -- two cuts that are some are one
 unsome : {a b : Cut} → Some a ≡ Some b → a ≡ b
@@ -122,16 +116,6 @@ none_parts x rest none false is = (is, unmapped (end_cut rest) (sym (end_cut-oth
     unmapped : (found : Option Cut) → option_map {U = Cut} (begun_with x) found ≡ None → found ≡ None
     unmapped None h = refl
     unmapped (Some cut) h = cc
-
--- no octets before a cut change nothing
-pub put_nothing : (found : Option Cut) → found ≡ option_map (put []) found
-put_nothing None = refl
-put_nothing (Some cut) = refl
-
--- one octet more before a cut
-put_more : (x : ℕ) (front : List ℕ) (found : Option Cut) → option_map (begun_with x) (option_map (put front) found) ≡ option_map (put (x ∷ front)) found
-put_more x front None = refl
-put_more x front (Some cut) = refl
 
 -- Octets without an end are looked at again only from their last four on.
 pub end_cut-apart : (front tail piece : List ℕ) → 4 ≤ length tail → end_cut (front ++ tail) ≡ None

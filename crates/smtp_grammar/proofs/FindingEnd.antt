@@ -7,9 +7,9 @@ use Rattle.std.proofs.Math.Seq.{take-add}
 use Rattle.std.proofs.lemmas.Bool.{cases_lt}
 use Rattle.memchr.specs.Find.{FindsNeedle, OccursAt}
 use Rattle.mail_wire.specs.Lines.{begun_with, crlf}
-use Rattle.mail_wire.proofs.FirstLineLemmas.{put}
+use Rattle.mail_wire.proofs.FirstLineLemmas.{put, put_nothing}
 use Rattle.smtp_grammar.specs.Data.{data_end, end_cut}
-use Rattle.smtp_grammar.proofs.DataLemmas.{ends_here, ends_here-false, data_end-first, end_cut-here, end_cut-other, end_cut-apart, put_nothing}
+use Rattle.smtp_grammar.proofs.DataLemmas.{ends_here, ends_here-false, data_end-first, end_cut-here, end_cut-other, end_cut-apart}
 
 -- ---- places of a needle
 

@@ -1,14 +1,14 @@
 -- The body of a field, from its lines.
-use Rattle.std.proofs.Common.{◌≡◌, ℕ, Bool, true, false, ◌⊎◌, inl, inr, List, [], ◌∷◌, ◌++◌, refl, ◌∙◌, arith, not, append_assoc, append-nil}
+use Rattle.std.proofs.Common.{◌≡◌, ℕ, Bool, true, false, ◌⊎◌, inl, inr, List, [], ◌∷◌, ◌++◌, refl, ◌∙◌, not, append_assoc, append-nil}
 use Rattle.std.specs.List.{All, list_all, concat}
 use Rattle.std.proofs.lemmas.Bool.{and_parts}
-use Rattle.std.proofs.lemmas.Bool.Decides.{nat_tests}
 use Rattle.std.proofs.lemmas.List.Elements.{All-head, All-tail}
 use Rattle.mail_wire.specs.Octets.{is_white, is_line_end}
 use Rattle.mail_wire.specs.Lines.{crlf}
 use Rattle.mail_wire.specs.Message.{IsSound}
 use Rattle.mail_wire.specs.Folds.{IsFolded}
 use Rattle.mail_wire.proofs.Folded.{IsFolded-append, IsFolded-fold, IsFolded-plain}
+use Rattle.mail_wire.proofs.OctetLemmas.{white_no_end}
 use Rattle.utf8_fields.specs.Lines.{BeginsWhite}
 use Rattle.utf8_fields.proofs.LineShapes.{AreLines, is_text, IsTextLine, IsTextLine-sound}
 
@@ -49,9 +49,6 @@ IsTextLine-behind (x ∷ front) line after all is =
     let parts = and_parts (is_text x) (list_all is_text front) all in
     IsTextLine-behind front line after parts.1 (IsTextLine-drop x (front ++ line) after (not_true (is_line_end x) parts.0) is)
 
-white_is_text : (x : ℕ) → is_white x ≡ true → is_line_end x ≡ false
-white_is_text x h = grind (arith, nat_tests)
-
 -- further lines, each behind its first octet, which is white
 pub body_of : (line : List ℕ) (more : List (List ℕ)) → IsTextLine line more → AreLines more → All IsSound more → All BeginsWhite more → HasBody (line ++ concat more)
 body_of line [] is are sound white = record {
@@ -64,7 +61,7 @@ body_of line [] is are sound white = record {
 body_of line ([] ∷ more) is are sound white = absurd (All-head BeginsWhite [] more white)
 body_of line ((w ∷ next) ∷ more) is are sound white =
     let white_first : is_white w ≡ true = All-head BeginsWhite (w ∷ next) more white in
-    let next_is = IsTextLine-drop w next more (white_is_text w white_first) (IsTextLine-sound (w ∷ next) more (All-head IsSound (w ∷ next) more sound) are.0) in
+    let next_is = IsTextLine-drop w next more (white_no_end w white_first) (IsTextLine-sound (w ∷ next) more (All-head IsSound (w ∷ next) more sound) are.0) in
     let behind = body_of next more next_is are.1 (All-tail IsSound (w ∷ next) more sound) (All-tail BeginsWhite (w ∷ next) more white) in
     by is.ends white_first behind
   where

@@ -2,7 +2,6 @@
 use Rattle.std.proofs.Common.{◌≡◌, ℕ, ◌+◌, ◌<◌, ◌≤◌, Bool, true, ◌⊎◌, inl, inr, List, [], ◌∷◌, ◌++◌, length, take, drop, refl, sym, ap, ◌∙◌, subst, arith, append_assoc, length-append}
 use Rattle.std.specs.Str.{IsUtf8, IsAscii}
 use Rattle.std.specs.List.{All, list_all, concat}
-use Rattle.std.proofs.lemmas.Bool.{and_parts}
 use Rattle.std.proofs.lemmas.Bool.Decides.{nat_tests}
 use Rattle.std.proofs.lemmas.List.{take-append-drop, length-take-le}
 use Rattle.std.proofs.lemmas.List.Elements.{All-head, All-tail, All-nil, All-cons}
@@ -15,6 +14,8 @@ use Rattle.mail_wire.specs.Octets.{is_white, is_line_end}
 use Rattle.mail_wire.specs.Lines.{lines_of, crlf}
 use Rattle.mail_wire.specs.Message.{IsSound}
 use Rattle.mail_wire.proofs.LineLemmas.{concat_lines_of}
+use Rattle.mail_wire.proofs.AllLemmas.{pass-weaker}
+use Rattle.mail_wire.proofs.OctetLemmas.{white_below}
 use Rattle.utf8_fields.specs.declared.block.Field.{Field}
 use Rattle.utf8_fields.specs.Lines.{is_name_octet, BeginsField, BeginsWhite}
 use Rattle.utf8_fields.specs.Parts.{FieldParts, HasParts, IsField}
@@ -32,17 +33,8 @@ white_is_text x h = grind (arith, nat_tests)
 name_is_text : (x : ℕ) → is_name_octet x ≡ true → is_text x ≡ true
 name_is_text x h = grind (arith, nat_tests)
 
-white_below : (x : ℕ) → is_white x ≡ true → x < 128
-white_below x h = grind (arith, nat_tests)
-
 name_octet_below : (x : ℕ) → is_name_octet x ≡ true → x < 128
 name_octet_below x h = grind (arith, nat_tests)
-
--- what passes one test passes a wider one
-all_wider : (p q : ℕ → Bool) → ((x : ℕ) → p x ≡ true → q x ≡ true) → (xs : List ℕ) → list_all p xs ≡ true → list_all q xs ≡ true
-all_wider p q wider [] all = refl
-all_wider p q wider (x ∷ xs) all =
-    let parts = and_parts (p x) (list_all p xs) all in rw (wider x parts.0, all_wider p q wider xs parts.1) refl
 
 all_ascii : (p : ℕ → Bool) → ((x : ℕ) → p x ≡ true → x < 128) → (xs : List ℕ) → list_all p xs ≡ true → IsAscii xs
 all_ascii p below xs all = IsAscii-from_all xs (λ k d lt. below _ (AllPass-from_list_all p xs all k d lt))
@@ -80,8 +72,8 @@ pub LinesHaveParts-from : (name first : List ℕ) (more : List (List ℕ)) → B
     → All IsUtf8 (first ∷ more) → LinesHaveParts (first ∷ more) name
 LinesHaveParts-from name first more begins further are sound utf8 =
     let line = subst (λ text. IsTextLine text more) begins.colon.3 (IsTextLine-sound first more (All-head IsSound first more sound) are.0) in
-    let behind_name = IsTextLine-behind name (begins.colon.0 ++ 58 ∷ begins.colon.1) more (all_wider is_name_octet is_text name_is_text name begins.octets) line in
-    let behind_white = IsTextLine-behind begins.colon.0 (58 ∷ begins.colon.1) more (all_wider is_white is_text white_is_text begins.colon.0 begins.colon.2) behind_name in
+    let behind_name = IsTextLine-behind name (begins.colon.0 ++ 58 ∷ begins.colon.1) more (pass-weaker is_name_octet is_text name_is_text name begins.octets) line in
+    let behind_white = IsTextLine-behind begins.colon.0 (58 ∷ begins.colon.1) more (pass-weaker is_white is_text white_is_text begins.colon.0 begins.colon.2) behind_name in
     let behind : HasBody (begins.colon.1 ++ concat more) =
     body_of begins.colon.1 more (IsTextLine-drop 58 begins.colon.1 more refl behind_white) are.1 (All-tail IsSound first more sound) further in
     let whole : concat (first ∷ more) ≡ name ++ (begins.colon.0 ++ 58 ∷ (behind.body ++ behind.ending)) =

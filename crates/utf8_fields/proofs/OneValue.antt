@@ -5,6 +5,7 @@ use Rattle.std.proofs.lemmas.Bool.{and_parts, both_ways}
 use Rattle.std.proofs.lemmas.List.Folds.{list_all-append}
 use Rattle.mail_wire.specs.Spans.{Stops, StopsBehind, IsTrimmed}
 use Rattle.mail_wire.proofs.SpanLemmas.{span_once}
+use Rattle.mail_wire.proofs.AllLemmas.{pass-append, pass-front}
 
 StopsBehind-tail : (p : ℕ → Bool) (x : ℕ) (xs : List ℕ) → StopsBehind p (x ∷ xs) → StopsBehind p xs
 StopsBehind-tail p x [] stops = tt
@@ -15,18 +16,12 @@ no_pass : (p : ℕ → Bool) (x : ℕ) (xs : List ℕ) → StopsBehind p (x ∷ 
 no_pass p x [] stops all = both_ways (p x) stops (and_parts (p x) true all).0
 no_pass p x (y ∷ xs) stops all = no_pass p y xs stops (and_parts (p x) (list_all p (y ∷ xs)) all).1
 
-front_passes : (p : ℕ → Bool) (xs ys : List ℕ) → list_all p (xs ++ ys) ≡ true → list_all p xs ≡ true
-front_passes p xs ys all = (and_parts (list_all p xs) (list_all p ys) (sym (list_all-append p xs ys) ∙ all)).0
-
-both_pass : (p : ℕ → Bool) (xs ys : List ℕ) → list_all p xs ≡ true → list_all p ys ≡ true → list_all p (xs ++ ys) ≡ true
-both_pass p xs ys a b = list_all-append p xs ys ∙ rw (a, b) refl
-
 -- texts that stop behind, with what passes behind them
 one_end : (p : ℕ → Bool) (text other trail trail' : List ℕ) → StopsBehind p text → StopsBehind p other → list_all p trail ≡ true → list_all p trail' ≡ true
     → text ++ trail ≡ other ++ trail' → text ≡ other
 one_end p [] [] trail trail' a b all all' same = refl
-one_end p [] (y ∷ other) trail trail' a b all all' same = absurd (no_pass p y other b (front_passes p (y ∷ other) trail' (sym (ap (list_all p) same) ∙ all)))
-one_end p (x ∷ text) [] trail trail' a b all all' same = absurd (no_pass p x text a (front_passes p (x ∷ text) trail (ap (list_all p) same ∙ all')))
+one_end p [] (y ∷ other) trail trail' a b all all' same = absurd (no_pass p y other b (pass-front p (y ∷ other) trail' (sym (ap (list_all p) same) ∙ all)))
+one_end p (x ∷ text) [] trail trail' a b all all' same = absurd (no_pass p x text a (pass-front p (x ∷ text) trail (ap (list_all p) same ∙ all')))
 one_end p (x ∷ text) (y ∷ other) trail trail' a b all all' same =
     let first : x ≡ y = cc same in
     let rest : text ++ trail ≡ other ++ trail' = cc same in
@@ -39,7 +34,7 @@ Stops-front p x text trail stops = stops
 none_left : (p : ℕ → Bool) (lead lead' trail trail' : List ℕ) (y : ℕ) (other : List ℕ) → list_all p lead ≡ true → list_all p trail ≡ true → list_all p lead' ≡ true → Stops p (y ∷ other)
     → lead ++ trail ≡ lead' ++ ((y ∷ other) ++ trail') → ⊥
 none_left p lead lead' trail trail' y other a b a' stops same =
-    let all : list_all p (lead' ++ ((y ∷ other) ++ trail')) ≡ true = sym (ap (list_all p) same) ∙ both_pass p lead trail a b in
+    let all : list_all p (lead' ++ ((y ∷ other) ++ trail')) ≡ true = sym (ap (list_all p) same) ∙ pass-append p lead trail a b in
     let behind = (and_parts (list_all p lead') (list_all p ((y ∷ other) ++ trail')) (sym (list_all-append p lead' ((y ∷ other) ++ trail')) ∙ all)).1 in
     both_ways (p y) stops (and_parts (p y) (list_all p (other ++ trail')) behind).0
 

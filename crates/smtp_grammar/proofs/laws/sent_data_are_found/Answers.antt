@@ -1,4 +1,5 @@
-use Rattle.smtp_grammar.proofs.SentLines.{sent_found, unstuffed_back}
+use Rattle.mail_wire.proofs.DotLemmas.{unstuffed_back}
+use Rattle.smtp_grammar.proofs.SentLines.{sent_found}
 use Rattle.smtp_grammar.proofs.laws.sent_data_are_found.Goals as goal
 
 pub returns-clause-found : goal.returns-clause-found
