@@ -1,18 +1,17 @@
 -- The steps of a machine of rows.
-use Rattle.std.proofs.Common.{◌≡◌, ◌<◌, ◌≤◌, ◌-◌, ◌+◌, ℕ, zero, suc, List, [], ◌++◌, length, take, drop, Bool, true, false, Ok, Err, Option, Some, None, refl, sym, ap, subst, ◌∙◌, append-nil, arith, length-append}
+use Rattle.std.proofs.Common.{◌≡◌, ◌<◌, ◌≤◌, ◌-◌, ◌+◌, ℕ, zero, suc, List, [], ◌++◌, length, take, drop, Bool, true, false, Ok, Err, Option, Some, None, refl, sym, ap, ◌∙◌, append-nil, arith, length-append}
 use Rattle.std.specs.Prelude.{IfSome, nat_le}
 use Rattle.std.proofs.Math.Seq.{take-append-add, drop-append-add, drop-length}
 use Rattle.std.proofs.lemmas.Bool.Decides.{nat_tests}
 use Rattle.std.proofs.lemmas.List.{length-take-le}
 use Rattle.std.proofs.lemmas.List.Elements.{All-nil}
-use Rattle.mail_wire.specs.Framing.{Framed as FramedOctets, waiting, whole, too_long, next_line, framed_as}
-use Rattle.mail_wire.specs.Lines.{Cut, first_line}
+use Rattle.mail_wire.specs.Framing.{Framed as FramedOctets, waiting, whole, too_long, framed_as}
+use Rattle.mail_wire.specs.Lines.{first_line}
 use Rattle.mail_wire.specs.declared.framing.FoundLine.{FoundLine}
 use Rattle.mail_wire.specs.declared.framing.FoundLine.TheVariants as found
 use Rattle.mail_wire.specs.declared.framing.TheConstants.{LINE_MAX}
 use Rattle.mail_wire.specs.declared.outside.Fault.{Fault}
-use Rattle.mail_wire.proofs.FirstLineLemmas.{first_line-cut}
-use Rattle.mail_wire.proofs.FramingLemmas.{next_line-line, next_line-long_line, next_line-waiting, next_line-long, at_most_of}
+use Rattle.mail_wire.proofs.FramingLemmas.{at_most_of, line_has_end, never_waiting, whole_line}
 use Rattle.session_core.specs.Around.{Around}
 use Rattle.session_core.specs.FramedLaws.{count_cut-some, count_cut-none, count_cut-zero, framed_by}
 use Rattle.session_core.specs.FramedRows.{framed_next}
@@ -56,28 +55,6 @@ none_kept (wants.Count (suc n)) = count_cut-none (suc n) [] (omega arith)
 
 -- ---- a unit
 
-whole_line : (a b c d : List ℕ) → whole a b ≡ whole c d → a ≡ c
-whole_line a b c d h = cc
-
-never_long : (a b c : List ℕ) → too_long a ≡ whole b c → ⊥
-never_long a b c h = cc
-
-never_waiting : (a b : List ℕ) → waiting ≡ whole a b → ⊥
-never_waiting a b h = cc
-
-ends_some : (octets line rest : List ℕ) (cut : Cut) → first_line octets ≡ Some cut → next_line octets ≡ whole line rest → (b : Bool) → nat_le (length cut.line) LINE_MAX ≡ b → 2 ≤ length line
-ends_some octets line rest cut is framed true short =
-    subst (λ (l : List ℕ). 2 ≤ length l) (whole_line cut.line cut.rest line rest (sym (next_line-line octets cut is short) ∙ framed)) (first_line-cut octets cut is).some
-ends_some octets line rest cut is framed false long = absurd (never_long _ line rest (sym (next_line-long_line octets cut is long) ∙ framed))
-
-ends_none : (octets line rest : List ℕ) → first_line octets ≡ None → next_line octets ≡ whole line rest → (b : Bool) → nat_le (length octets) LINE_MAX ≡ b → 2 ≤ length line
-ends_none octets line rest none framed true short = absurd (never_waiting line rest (sym (next_line-waiting octets none short) ∙ framed))
-ends_none octets line rest none framed false long = absurd (never_long _ line rest (sym (next_line-long octets none long) ∙ framed))
-
-ends_by : (octets line rest : List ℕ) (cut : Option Cut) → first_line octets ≡ cut → next_line octets ≡ whole line rest → 2 ≤ length line
-ends_by octets line rest None is framed = ends_none octets line rest is framed (nat_le (length octets) LINE_MAX) refl
-ends_by octets line rest (Some cut) is framed = ends_some octets line rest cut is framed (nat_le (length cut.line) LINE_MAX) refl
-
 counts_by : (n : ℕ) (octets unit rest : List ℕ) (b : Bool) → nat_le (suc n) (length octets) ≡ b → count_cut (suc n) octets ≡ whole unit rest → length unit ≡ suc n
 counts_by n octets unit rest true is framed =
     let low = at_most_of (suc n) (length octets) is in
@@ -87,7 +64,7 @@ counts_by n octets unit rest false is framed =
     let short : length octets < suc n = grind (arith, nat_tests) in absurd (never_waiting unit rest (sym (count_cut-none (suc n) octets short) ∙ framed))
 
 pub unit_of : (want : Wants) (octets unit rest : List ℕ) → cut_by want octets ≡ whole unit rest → IsUnit want unit
-unit_of wants.Line octets unit rest framed = ends_by octets unit rest (first_line octets) refl framed
+unit_of wants.Line octets unit rest framed = line_has_end octets unit rest framed
 unit_of (wants.Count zero) octets unit rest framed = absurd (never_waiting unit rest (sym (count_cut-zero octets) ∙ framed))
 unit_of (wants.Count (suc n)) octets unit rest framed = counts_by n octets unit rest (nat_le (suc n) (length octets)) refl framed
 

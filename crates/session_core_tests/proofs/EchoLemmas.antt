@@ -5,6 +5,7 @@ use Rattle.std.proofs.lemmas.Bool.Decides.{nat_tests}
 use Rattle.std.specs.Str.{bytes_eq}
 use Rattle.mail_wire.specs.Lines.{crlf}
 use Rattle.mail_wire.specs.declared.outside.Fault.{Fault}
+use Rattle.mail_wire.proofs.FramingLemmas.{at_most_of, le_true}
 use Rattle.session_core.specs.Around.{Around}
 use Rattle.session_core.specs.Doing.{Replies}
 use Rattle.session_core.specs.Grammar.{Answers, StandsNext}
@@ -23,9 +24,6 @@ short_line line low = let is : nat_le 5 (length line) ≡ false = grind (arith, 
 eq_true : (n m : ℕ) → n ≡ m → (n == m) ≡ true
 eq_true n m is = grind (arith, nat_tests)
 
-le_true : (n m : ℕ) → n ≤ m → nat_le n m ≡ true
-le_true n m low = grind (arith, nat_tests)
-
 pub announced : (line : List ℕ) → 5 ≤ length line → slice_index line (length line - 5) ≡ 123 → 49 ≤ slice_index line (length line - 5 + 1) → slice_index line (length line - 5 + 1) ≤ 57
     → slice_index line (length line - 5 + 2) ≡ 125 → Some (slice_index line (length line - 5 + 1) - 48) ≡ literal_of line
 unfolding literal_of
@@ -40,9 +38,6 @@ none_by line true false at also apart = rw (at, also) refl
 eq_of : (n m : ℕ) → (n == m) ≡ true → n ≡ m
 eq_of n m is = grind (arith, nat_tests)
 
-le_of : (n m : ℕ) → nat_le n m ≡ true → n ≤ m
-le_of n m is = grind (arith, nat_tests)
-
 -- the four tests of a line that announces one
 parts_of : (a b c d : Bool) → (a && b && c && d) ≡ true → (a ≡ true) × (b ≡ true) × (c ≡ true) × (d ≡ true)
 parts_of true true true true is = (refl, refl, refl, refl)
@@ -55,7 +50,7 @@ pub not_announced : (line : List ℕ) → (slice_index line (length line - 5) �
     → slice_index line (length line - 5 + 2) ≡ 125 → ⊥) → None ≡ literal_of line
 not_announced line apart = none_by line (nat_le 5 (length line)) (announces line (length line - 5)) refl refl (λ is long.
     let parts = parts_of (slice_index line (length line - 5) == 123) (nat_le 49 (slice_index line (length line - 5 + 1))) (nat_le (slice_index line (length line - 5 + 1)) 57) (slice_index line (length line - 5 + 2) == 125) is in
-    absurd (apart (eq_of (slice_index line (length line - 5)) 123 parts.0) (le_of 49 (slice_index line (length line - 5 + 1)) parts.1) (le_of (slice_index line (length line - 5 + 1)) 57 parts.2) (eq_of (slice_index line (length line - 5 + 2)) 125 parts.3)))
+    absurd (apart (eq_of (slice_index line (length line - 5)) 123 parts.0) (at_most_of 49 (slice_index line (length line - 5 + 1)) parts.1) (at_most_of (slice_index line (length line - 5 + 1)) 57 parts.2) (eq_of (slice_index line (length line - 5 + 2)) 125 parts.3)))
 
 -- ---- rows
 

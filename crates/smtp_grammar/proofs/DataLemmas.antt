@@ -1,19 +1,17 @@
--- Where the data end, and what is left of their lines.
-use Rattle.std.proofs.Common.{◌≡◌, ℕ, ◌*◌, ◌<◌, ◌≤◌, ◌==◌, if◌then◌else◌, List, [], ◌∷◌, ◌++◌, length, take, drop, Bool, true, false, arith, refl, sym, ap, ◌∙◌, append_assoc, length-append, inl, inr, Some, None, Option}
+-- Where the data end, and their lines.
+use Rattle.std.proofs.Common.{◌≡◌, ℕ, ◌<◌, ◌≤◌, List, [], ◌∷◌, ◌++◌, length, take, drop, Bool, true, false, arith, refl, sym, ap, ◌∙◌, append_assoc, length-append, inl, inr, Some, None, Option}
 use Rattle.std.specs.Prelude.{◌≢◌, codes}
-use Rattle.std.specs.List.{All, AllByRecursion, concat, flat_map}
+use Rattle.std.specs.List.{All, AllByRecursion, concat}
 use Rattle.std.specs.Option.{option_map}
 use Rattle.std.specs.Str.{bytes_eq}
 use Rattle.std.proofs.lemmas.List.{take-append-drop, take-append-le}
-use Rattle.std.proofs.lemmas.List.Concat.{flat_map-cons}
 use Rattle.std.proofs.lemmas.List.Elements.{All-from_recursion}
 use Rattle.std.proofs.lemmas.Slice.Eq.{bytes_eq-Decides}
 use Rattle.mail_wire.specs.Lines.{Cut, begun_with, crlf, is_crlf, lines_of, put_before}
 use Rattle.mail_wire.specs.Message.{IsEnded}
 use Rattle.mail_wire.proofs.FirstLine.{is_crlf_true, lines_of-crlf, lines_of-other}
-use Rattle.mail_wire.proofs.FirstLineLemmas.{put, put_nothing, put_more, unput}
+use Rattle.mail_wire.proofs.FirstLineLemmas.{unput}
 use Rattle.mail_wire.proofs.LineLemmas.{is_crlf_parts, first_line, concat_lines_of}
-use Rattle.mail_wire.specs.Dots.{unstuffed, unstuffed_line}
 use Rattle.smtp_grammar.specs.Data.{data_end, end_cut, behind_command, data_cut}
 
 -- ---- the end, octet by octet
@@ -103,31 +101,6 @@ pub end_cut-parts : (octets : List ℕ) (cut : Cut) → end_cut octets ≡ Some 
 unfolding end_cut
 end_cut-parts [] cut h = cc
 end_cut-parts (x ∷ rest) cut h = parts_by x rest cut h (λ next found. end_cut-parts rest next found) (ends_here (x ∷ rest)) refl
-
--- ---- octets that come in pieces
-
--- where octets have no end, one doesn't come first, nor behind the first octet
-pub none_parts : (x : ℕ) (rest : List ℕ) → end_cut (x ∷ rest) ≡ None → (b : Bool) → ends_here (x ∷ rest) ≡ b → (ends_here (x ∷ rest) ≡ false) × (end_cut rest ≡ None)
-none_parts x rest none true is =
-    let first : end_cut (x ∷ rest) ≡ Some (record { line = crlf; rest = drop 5 (x ∷ rest) }) = ap end_cut (ends_here-parts (x ∷ rest) is) ∙ end_cut-here (drop 5 (x ∷ rest)) in
-    cc
-none_parts x rest none false is = (is, unmapped (end_cut rest) (sym (end_cut-other x rest is) ∙ none))
-  where
-    unmapped : (found : Option Cut) → option_map {U = Cut} (begun_with x) found ≡ None → found ≡ None
-    unmapped None h = refl
-    unmapped (Some cut) h = cc
-
--- Octets without an end are looked at again only from their last four on.
-pub end_cut-apart : (front tail piece : List ℕ) → 4 ≤ length tail → end_cut (front ++ tail) ≡ None
-    → end_cut (front ++ (tail ++ piece)) ≡ option_map (put front) (end_cut (tail ++ piece))
-end_cut-apart [] tail piece four none = put_nothing (end_cut (tail ++ piece))
-end_cut-apart (x ∷ front) tail piece four none =
-    let parts = none_parts x (front ++ tail) none (ends_here (x ∷ (front ++ tail))) refl in
-    let other : ends_here (x ∷ (front ++ (tail ++ piece))) ≡ false =
-    ap (λ rest. ends_here (x ∷ rest)) (sym (append_assoc front tail piece)) ∙ ends_here-append (x ∷ (front ++ tail)) piece (omega (arith, length-append front tail)) ∙ parts.0 in
-    end_cut-other x (front ++ (tail ++ piece)) other
-    ∙ ap (option_map (begun_with x)) (end_cut-apart front tail piece four parts.1)
-    ∙ put_more x front (end_cut (tail ++ piece))
 
 -- ---- the data
 
@@ -240,32 +213,6 @@ lines_ended [] ended = tt
 lines_ended (x ∷ []) (inl nothing) = cc
 lines_ended (x ∷ []) (inr ended) = let lengths = ap length ended.1 in absurd (omega (arith, lengths, length-append ended.0 crlf))
 lines_ended (x ∷ y ∷ rest) ended = ended_by x y rest ended (lines_ended rest) (lines_ended (y ∷ rest)) (is_crlf x y) refl
-
--- a line with two octets at least is at most twice as long as without its dot
-unstuffed_line-long : (line : List ℕ) → 2 ≤ length line → length line ≤ 2 * length (unstuffed_line line)
-unstuffed_line-long [] long = omega arith
-unstuffed_line-long (x ∷ rest) long = by (x == 46)
-  where
-    by : (b : Bool) → length (x ∷ rest) ≤ 2 * length (if b then rest else x ∷ rest)
-    by true = omega arith
-    by false = omega arith
-
--- lines are at most twice as long as without their dots
-unstuffed_lines-long : (lines : List (List ℕ)) → AreEnded lines → length (concat lines) ≤ 2 * length (flat_map unstuffed_line lines)
-unstuffed_lines-long [] ended = omega arith
-unstuffed_lines-long (line ∷ lines) ended =
-    let count : length line ≡ length (ended.0.0 ++ crlf) = ap length ended.0.1 in
-    let first = unstuffed_line-long line (omega (arith, count, length-append ended.0.0 crlf)) in
-    let others = unstuffed_lines-long lines ended.1 in
-    rw (flat_map-cons unstuffed_line line lines)
-    (omega (arith, first, others, length-append line (concat lines), length-append (unstuffed_line line) (flat_map unstuffed_line lines)))
-
--- the data are at most twice as long as without their dots
-pub unstuffed-long : (octets : List ℕ) (cut : Cut) → data_cut octets ≡ Some cut → length cut.line ≤ 2 * length (unstuffed cut.line)
-unfolding unstuffed
-unstuffed-long octets cut h =
-    let long = unstuffed_lines-long (lines_of cut.line) (lines_ended cut.line (data_cut-parts octets cut h).ended) in
-    rw (concat_lines_of cut.line) at long
 
 -- the cut behind the first octet, where the line before the end goes on
 cut_later : (x : ℕ) (rest line left : List ℕ) → 2 ≤ length line → end_cut (x ∷ rest) ≡ Some (record { line = x ∷ line; rest = left })

@@ -26,7 +26,7 @@ unfolding ends_here
 crlf_passed octets line rest other found = passed 13 (10 ∷ octets) (10 ∷ line) rest other (passed 10 octets line rest refl found)
 
 -- two octets that are no CRLF begin no end
-two_other : (x y : ℕ) (octets : List ℕ) → is_crlf x y ≡ false → (b : Bool) → (x == 13) ≡ b → ends_here (x ∷ y ∷ octets) ≡ false
+pub two_other : (x y : ℕ) (octets : List ℕ) → is_crlf x y ≡ false → (b : Bool) → (x == 13) ≡ b → ends_here (x ∷ y ∷ octets) ≡ false
 unfolding ends_here
 two_other x y octets apart true is = let lone : (y == 10) ≡ false = rw is at apart in rw (is, lone) refl
 two_other x y octets apart false is = rw is refl

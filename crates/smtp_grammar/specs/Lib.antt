@@ -1,3 +1,5 @@
 pub mod Commands
 pub mod Data
 pub mod Paths
+pub mod Reading
+pub mod private

@@ -9,4 +9,4 @@ pub mod laws;
 pub use command::{
     Command, Parameters, PathAndRest, Verb, is_client, path_behind, read_command, read_parameters,
 };
-pub use data::{find_data_end, push_unstuffed};
+pub use data::DataReader;

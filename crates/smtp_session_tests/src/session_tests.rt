@@ -1,16 +1,22 @@
 //! Sessions over a wire and a keeper in memory, with a store whose journal was written here: whole, octet by octet, and where the
 //! keeper fails.
-ghost use Rattle.std.specs.Prelude.{IfOk, IsTrue};
-ghost use Rattle.mail_store.specs.Kept.{name_of};
-ghost use Rattle.smtp_session.specs.Session.{IsName};
+ghost use Rattle.session_core.specs.Desks.{IsOpen};
 
-use ace_domains::normal;
 use journal_records::{Record, push_record};
 use mail_store::Store;
 use mail_wire::{Entry, Failure, Fault, FixedClock, MemKeeper, MemWire, Memory, Octets};
+use session_core::{Desk, Limits, Outside, feed, open_desk};
 use smtp_session::SmtpSession;
 use std::alloc::Global;
 use std::test::Fail;
+
+// Messages of 1,000 octets.
+const SMALL: Limits = Limits {
+    message_max: 1000,
+    session_max: 100_000,
+    pool_blocks: 1,
+    cache_entries: 1,
+};
 
 const STREAM: &[u8] =
     b"EHLO c\r\nMAIL FROM:<a@b>\r\nRCPT TO:<ANN@Example.org>\r\nDATA\r\nA: b\r\n\r\n..x\r\n.\r\nQUIT\r\nNOOP\r\n";
@@ -48,36 +54,32 @@ fn message(alloc: Global) -> Result<Octets, Memory> {
     Ok(record)
 }
 
-// Whether the store has the name of a domain.
-fn is_named(alloc: Global, store: &Store) -> Result<bool, Memory>
-    ensures { IfOk result (λ is. IsTrue is → IsName (name_of store.now.kept)) }
+// A session that takes these pieces, one after the other.
+fn feed_all(
+    pieces: &[&[u8]],
+    outside: &mut Outside<MemWire, MemKeeper, FixedClock>,
+) -> Result<(), Fault>
+    requires { IsOpen outside.old.desk }
 {
-    match normal(alloc, store.name())? {
-        Some(form) => Ok(form.as_slice() == store.name().as_bytes()),
-        None => Ok(false),
+    let mut session = SmtpSession::begin(outside)?;
+    for piece in pieces {
+        session = feed(session, piece, outside)?;
     }
+    Ok(())
 }
 
-// A session that takes these pieces, one after the other.
 fn serve(
     alloc: Global,
-    store: &mut Store,
+    desk: Desk,
     pieces: &[&[u8]],
     wire: &mut MemWire,
     keeper: &mut MemKeeper,
 ) -> Result<(), Fault>
-    requires { IsName (name_of store.old.kept) }
+    requires { IsOpen desk }
 {
     let mut clock = FixedClock::new(0);
-    let mut session = SmtpSession::start(alloc, store.name(), wire)?;
-    for piece in pieces {
-        // one that failed serves nobody
-        if store.failed() {
-            return Err(Fault::Keeper);
-        }
-        session = session.feed(piece, store, wire, keeper, &mut clock)?;
-    }
-    Ok(())
+    let mut outside = Outside::new(alloc, desk, wire, keeper, &mut clock);
+    feed_all(pieces, &mut outside)
 }
 
 // What a wire was given.
@@ -102,13 +104,10 @@ struct Outcome {
 // What comes of these pieces where the keeper fails so.
 fn outcome_of(alloc: Global, pieces: &[&[u8]], failures: Vec<Failure>) -> Result<Outcome, Fail> {
     let mut keeper = MemKeeper::new(journal(alloc)?, Vec::new(alloc));
-    let mut store = Store::open(alloc, &mut keeper, 1000)?;
-    if !is_named(alloc, &store)? {
-        return Err(Fail::from("a store without a domain"));
-    }
+    let desk = open_desk(alloc, &mut keeper, SMALL)?;
     let mut keeper = MemKeeper::new(journal(alloc)?, failures);
     let mut wire = MemWire::new(alloc, Octets::new(alloc), Vec::new(alloc), Vec::new(alloc));
-    let served = serve(alloc, &mut store, pieces, &mut wire, &mut keeper);
+    let served = serve(alloc, desk, pieces, &mut wire, &mut keeper);
     Ok(Outcome {
         given: octets_given(alloc, &wire)?,
         kept: Octets::from_slice(alloc, keeper.octets())?,
