@@ -65,6 +65,20 @@ next_within lists list i within is =
 pub queue_text : (path : List ℕ) (count : ℕ) (rest : List ℕ) → (7 ∷ (octet_list path ++ number count)) ++ rest ≡ 7 ∷ (octet_list path ++ (number count ++ rest))
 queue_text path count rest = ap (λ l. 7 ∷ l) (append_assoc (octet_list path) (number count) rest)
 
--- how many octets the fields of a copy have
-pub copy_len : (folder : ℕ) (date octets : List ℕ) → 14 + length date + length octets ≡ length (fields_of (records.Message folder 0 date octets))
-copy_len folder date octets = omega (arith, length-append date (octet_list octets))
+-- a message: what stands before its octets, and they
+pub message_behind : (folder flags : ℕ) (date octets : List ℕ)
+    → (4 ∷ (number folder ++ flags ∷ (octet_list date ++ number (length octets)))) ++ octets ≡ fields_of (records.Message folder flags date octets)
+message_behind folder flags date octets =
+    ap (λ l. 4 ∷ l) (append_assoc (number folder) (flags ∷ (octet_list date ++ number (length octets))) octets
+    ∙ ap (λ l. number folder ++ flags ∷ l) (append_assoc (octet_list date) (number (length octets)) octets))
+
+-- a waiting message: what stands before its octets, and they
+pub queue_behind : (path : List ℕ) (addresses : List (List ℕ)) (octets : List ℕ)
+    → (7 ∷ (octet_list path ++ (number (length addresses) ++ (flat_map octet_list addresses ++ number (length octets))))) ++ octets
+    ≡ fields_of (records.Queue path addresses octets)
+queue_behind path addresses octets =
+    let count = number (length addresses) in
+    let lists = flat_map octet_list addresses in
+    let len = number (length octets) in
+    ap (λ l. 7 ∷ l) (append_assoc (octet_list path) (count ++ (lists ++ len)) octets
+    ∙ ap (λ l. octet_list path ++ l) (append_assoc count (lists ++ len) octets ∙ ap (λ l. count ++ l) (append_assoc lists len octets)))

@@ -1,14 +1,12 @@
 -- The grammars of a record's texts, but for addresses and domains.
-use Rattle.std.specs.Prelude.{◌≡◌, ◌≢◌, ℕ, ◌<◌, ◌≤◌, List, [], ◌∷◌, length, Bool, true, false, ◌&&◌, ◌||◌, ◌==◌, nat_le, if◌then◌else◌, codes, IsUtf8, slice_index_or, slice_range}
+use Rattle.std.specs.Prelude.{◌≡◌, ◌≢◌, ℕ, ◌<◌, ◌≤◌, List, [], ◌∷◌, length, Bool, true, false, ◌&&◌, ◌||◌, ◌==◌, if◌then◌else◌, codes, IsUtf8, slice_index_or, slice_range}
 use Rattle.std.specs.List.{All, list_any}
 use Rattle.std.specs.Char.{is_control}
 use Rattle.std.specs.Str.{chars}
 use Rattle.unicode_normalization.specs.Forms.{is_nfc}
+use Rattle.mail_wire.specs.Numbers.{is_digit}
 use Rattle.mail_wire.specs.Octets.{same_name}
 use Rattle.journal_records.specs.declared.limits.TheConstants.{NAME_MAX}
-
-abbrev pub is_digit : ℕ → Bool
-is_digit x = nat_le 48 x && nat_le x 57
 
 -- The shape of a date-time (RFC 3501, without its quotes): `9` stands for a digit, `d` for a digit or a space, `+` for a
 -- plus or minus sign, `a` for any octet, and every other octet for itself.

@@ -21,4 +21,6 @@ pub use limits::{NAME_MAX, RECORD_MAX, TEXT_MAX};
 pub use reading::{ReadFault, read_record};
 pub use records::{Record, Texts};
 pub use stored::is_stored;
-pub use writing::{account_text, domain_text, expunge_text, push_copy, push_record, record_text};
+pub use writing::{
+    account_text, copy_front, domain_text, expunge_text, push_record, queue_front, record_text,
+};

@@ -66,6 +66,22 @@ fn lists_len(lists: &[Octets]) -> usize
     len
 }
 
+// How many octets the kind and the fields of a message have.
+fn message_len(date: &[u8], octets: &[u8]) -> usize
+    requires { length date.now + length octets.now + 14 ≤ RECORD_MAX }
+    ensures { result ≡ 14 + length date.now + length octets.now }
+{
+    14 + date.len() + octets.len()
+}
+
+// How many octets the kind and the fields of a waiting message have.
+fn queue_len(path: &[u8], addresses: &[Octets], octets: &[u8]) -> usize
+    requires { length (fields_of (records.Queue path.now addresses.now octets.now)) ≤ RECORD_MAX }
+    ensures { result ≡ length (fields_of (records.Queue path.now addresses.now octets.now)) }
+{
+    13 + path.len() + lists_len(addresses) + octets.len()
+}
+
 // How many octets the kind and the fields of a record have.
 fn fields_len(one: &Record) -> usize
     requires fits { Fits one.now }
@@ -76,14 +92,14 @@ fn fields_len(one: &Record) -> usize
         Record::Account { address, password } => 9 + address.len() + password.len(),
         Record::Domain { name } => 5 + name.len(),
         Record::Folder { name, .. } => 9 + name.len(),
-        Record::Message { date, octets, .. } => 14 + date.len() + octets.len(),
+        Record::Message { date, octets, .. } => message_len(date.as_slice(), octets.as_slice()),
         Record::Flags { .. } => 6,
         Record::Expunge { .. } => 5,
         Record::Queue {
             path,
             addresses,
             octets,
-        } => 13 + path.len() + lists_len(addresses.as_slice()) + octets.len(),
+        } => queue_len(path.as_slice(), addresses.as_slice(), octets.as_slice()),
         Record::Settle { .. } => 9,
     }
 }
@@ -115,6 +131,31 @@ fn push_folder(journal: &mut Octets, account: u32, name: &[u8]) -> Result<(), Me
     )
 }
 
+// What stands before the octets of a message, which are so many.
+fn push_message_front(
+    journal: &mut Octets,
+    folder: u32,
+    flags: u8,
+    date: &[u8],
+    len: usize,
+) -> Result<(), Memory>
+    requires date { HasLength date.now }
+    requires len { len < 2 ^ 32 }
+    ensures { PutsText journal.old journal.new result (4 ∷ (number_octets folder ++ flags ∷ (octet_list date.now ++ number_octets len))) }
+{
+    push_parts(
+        journal,
+        &[
+            &[4],
+            &folder.to_be_bytes(),
+            &[flags],
+            &number(date.len()),
+            date,
+            &number(len),
+        ],
+    )
+}
+
 fn push_message(
     journal: &mut Octets,
     folder: u32,
@@ -127,27 +168,36 @@ fn push_message(
     ensures { PutsText journal.old journal.new result
         (4 ∷ (number_octets folder ++ flags ∷ (octet_list date.now ++ octet_list octets.now))) }
 {
-    push_parts(
-        journal,
-        &[
-            &[4],
-            &folder.to_be_bytes(),
-            &[flags],
-            &number(date.len()),
-            date,
-            &number(octets.len()),
-            octets,
-        ],
-    )
+    push_message_front(journal, folder, flags, date, octets.len())?;
+    push_parts(journal, &[octets])
 }
 
 // What stands before the addresses of a waiting message.
-fn push_queue_front(journal: &mut Octets, path: &[u8], count: usize) -> Result<(), Memory>
+fn push_path(journal: &mut Octets, path: &[u8], count: usize) -> Result<(), Memory>
     requires path { HasLength path.now }
     requires count { count < 2 ^ 32 }
     ensures { PutsText journal.old journal.new result (7 ∷ (octet_list path.now ++ number_octets count)) }
 {
     push_parts(journal, &[&[7], &number(path.len()), path, &number(count)])
+}
+
+// What stands before the octets of a waiting message, which are so many.
+fn push_queue_front(
+    journal: &mut Octets,
+    path: &[u8],
+    addresses: &[Octets],
+    len: usize,
+) -> Result<(), Memory>
+    requires path { HasLength path.now }
+    requires count { length addresses.now < 2 ^ 32 }
+    requires addresses { AllByRecursion HasLength addresses.now }
+    requires len { len < 2 ^ 32 }
+    ensures { PutsText journal.old journal.new result
+        (7 ∷ (octet_list path.now ++ (number_octets (length addresses.now) ++ (flat_map octet_list addresses.now ++ number_octets len)))) }
+{
+    push_path(journal, path, addresses.len())?;
+    push_lists(journal, addresses)?;
+    push_number(journal, len)
 }
 
 fn push_queue(
@@ -163,9 +213,8 @@ fn push_queue(
     ensures { PutsText journal.old journal.new result
         (7 ∷ (octet_list path.now ++ (number_octets (length addresses.now) ++ (flat_map octet_list addresses.now ++ octet_list octets.now)))) }
 {
-    push_queue_front(journal, path, addresses.len())?;
-    push_lists(journal, addresses)?;
-    push_list(journal, octets)
+    push_queue_front(journal, path, addresses, octets.len())?;
+    push_parts(journal, &[octets])
 }
 
 // Puts the kind and the fields of a record last.
@@ -218,18 +267,31 @@ pub fn push_record(journal: &mut Octets, one: &Record) -> Result<(), Memory>
     push_fields(journal, one)
 }
 
-/// Puts the record of a message without flags last.
-pub fn push_copy(
-    journal: &mut Octets,
-    folder: u32,
-    date: &[u8],
-    octets: &[u8],
-) -> Result<(), Memory>
+/// What stands before the octets in the text of a record of a message without flags.
+pub fn copy_front(alloc: Global, folder: u32, date: &[u8], octets: &[u8]) -> Result<Octets, Memory>
     requires { length date.now + length octets.now + 14 ≤ RECORD_MAX }
-    ensures { PutsText journal.old journal.new result (record_text (records.Message folder 0 date.now octets.now)) }
+    ensures { IfOk result (λ front. front ++ octets.now ≡ record_text (records.Message folder 0 date.now octets.now)) }
 {
-    push_number(journal, 14 + date.len() + octets.len())?;
-    push_message(journal, folder, 0, date, octets)
+    let mut front = Octets::new(alloc);
+    push_number(&mut front, message_len(date, octets))?;
+    push_message_front(&mut front, folder, 0, date, octets.len())?;
+    Ok(front)
+}
+
+/// What stands before the octets in the text of a record of a waiting message.
+pub fn queue_front(
+    alloc: Global,
+    path: &[u8],
+    addresses: &[Octets],
+    octets: &[u8],
+) -> Result<Octets, Memory>
+    requires { IsWritable (records.Queue path.now addresses.now octets.now) }
+    ensures { IfOk result (λ front. front ++ octets.now ≡ record_text (records.Queue path.now addresses.now octets.now)) }
+{
+    let mut front = Octets::new(alloc);
+    push_number(&mut front, queue_len(path, addresses, octets))?;
+    push_queue_front(&mut front, path, addresses, octets.len())?;
+    Ok(front)
 }
 
 /// The text of one record.

@@ -4,8 +4,8 @@ ghost use Rattle.std.specs.Prelude.{IfOk};
 
 use address_grammar::{Address, write_address};
 use journal_records::{
-    Record, TEXT_MAX, Texts, account_text, domain_text, expunge_text, push_copy, read_text,
-    record_text,
+    Record, TEXT_MAX, Texts, account_text, copy_front, domain_text, expunge_text, queue_front,
+    read_text, record_text,
 };
 use mail_wire::Octets;
 use std::alloc::Global;
@@ -78,11 +78,18 @@ fn a_domain_is_written(rt: HostRuntime) -> Result<(), Fail> {
 }
 
 #[test]
-fn a_copy_is_written(rt: HostRuntime) -> Result<(), Fail> {
-    let mut text = Octets::from_slice(rt.alloc(), b"..")?;
-    push_copy(&mut text, 1, b"01-Jan-1970 00:00:00 +0000", b"x")?;
-    let wanted = b"..\0\0\0)\x04\0\0\0\x01\0\0\0\0\x1a01-Jan-1970 00:00:00 +0000\0\0\0\x01x";
-    assert!(rt; text.as_slice() == wanted.as_slice());
+fn a_copy_is_written_but_for_its_octets(rt: HostRuntime) -> Result<(), Fail> {
+    let front = copy_front(rt.alloc(), 1, b"01-Jan-1970 00:00:00 +0000", b"x")?;
+    let wanted = b"\0\0\0)\x04\0\0\0\x01\0\0\0\0\x1a01-Jan-1970 00:00:00 +0000\0\0\0\x01";
+    assert!(rt; front.as_slice() == wanted.as_slice());
+    Ok(())
+}
+
+#[test]
+fn a_waiting_message_is_written_but_for_its_octets(rt: HostRuntime) -> Result<(), Fail> {
+    let front = queue_front(rt.alloc(), b"p", &[], b"xy")?;
+    let wanted = b"\0\0\0\x10\x07\0\0\0\x01p\0\0\0\0\0\0\0\x02";
+    assert!(rt; front.as_slice() == wanted.as_slice());
     Ok(())
 }
 

@@ -1,5 +1,5 @@
 -- What the keeper of a session holds that was broken off.
-use Rattle.std.proofs.Common.{◌≡◌, ℕ, List, [], ◌++◌, length, Option, Result, Ok, Err, sym, ap, subst, ◌∙◌, append_assoc, append-nil, arith, inl, inr}
+use Rattle.std.proofs.Common.{◌≡◌, ℕ, List, [], ◌++◌, length, Option, Some, None, sym, ap, subst, ◌∙◌, append_assoc, append-nil, arith, inl, inr}
 use Rattle.std.specs.Prelude.{IfSome, min}
 use Rattle.std.proofs.lemmas.List.{take_min, take-append-le}
 use Rattle.std.proofs.Math.Seq.{take-append_seam}
@@ -72,20 +72,20 @@ all_made store after had has all due is follows =
     subst (HoldsFirst has all) (append-nil due) (HoldsFirst-made after has all due [] (followed store after had has all due is follows))
 
 -- the keeper opens with the records that it had and the first of those that are due
-first_held : {P T : Type 0} (spelled : P → List ℕ) (store after : StoreState) (had has : Option (List ℕ)) (answer : Result T Fault) (all : List Record) (acts : List (Act P)) (given : List ℕ)
-    → IsStoreOf store had all → IsDone spelled store after had has answer acts given → HoldsFirst has all (records_of (changes_in acts))
-first_held spelled store after had has (Ok done) all acts given is made = all_made store after had has all (records_of (changes_in acts)) is made.1
-first_held spelled store after had has (Err fault.Keeper) all acts given is made = failed_by spelled store after had has all acts given is made
-first_held spelled store after had has (Err fault.Wire) all acts given is made = stopped_by spelled store after had has all acts given is made
-first_held spelled store after had has (Err fault.Memory) all acts given is made = stopped_by spelled store after had has all acts given is made
+first_held : {P : Type 0} (spelled : P → List ℕ) (store after : StoreState) (had has : Option (List ℕ)) (met : Option Fault) (all : List Record) (acts : List (Act P)) (given : List ℕ)
+    → IsStoreOf store had all → IsDone spelled store after had has met acts given → HoldsFirst has all (records_of (changes_in acts))
+first_held spelled store after had has None all acts given is made = all_made store after had has all (records_of (changes_in acts)) is made.1
+first_held spelled store after had has (Some fault.Keeper) all acts given is made = failed_by spelled store after had has all acts given is made
+first_held spelled store after had has (Some fault.Wire) all acts given is made = stopped_by spelled store after had has all acts given is made
+first_held spelled store after had has (Some fault.Memory) all acts given is made = stopped_by spelled store after had has all acts given is made
 
 -- so do the octets of a journal that was opened
-pub begun_held : {P T : Type 0} (spelled : P → List ℕ) (old : Option (List ℕ)) (store after : StoreState) (opened new : Option (List ℕ)) (answer : Result T Fault) (acts : List (Act P)) (given : List ℕ)
-    → IfSome old (λ octets. OpensTo octets opened store.kept) → IsDone spelled store after opened new answer acts given → IfSome old (λ octets. HoldsBegun new store (changes_in acts))
-begun_held spelled old store after opened new answer acts given opens made =
+pub begun_held : {P : Type 0} (spelled : P → List ℕ) (old : Option (List ℕ)) (store after : StoreState) (opened new : Option (List ℕ)) (met : Option Fault) (acts : List (Act P)) (given : List ℕ)
+    → IfSome old (λ octets. OpensTo octets opened store.kept) → IsDone spelled store after opened new met acts given → IfSome old (λ octets. HoldsBegun new store (changes_in acts))
+begun_held spelled old store after opened new met acts given opens made =
     IfSome_then old {P = λ octets. OpensTo octets opened store.kept} opens (λ octets to. record {
       all = to.all;
       records = records_had octets to.all to.had;
       fold = to.kept_is;
-      holds = first_held spelled store after opened new answer to.all acts given (opened_store octets opened store to) made;
+      holds = first_held spelled store after opened new met to.all acts given (opened_store octets opened store to) made;
     })

@@ -4,9 +4,6 @@ pub mod CommandLemmas
 pub mod RopeLemmas
 pub mod OutcomeLemmas
 pub mod RunLemmas
-pub mod ServingLemmas
-pub mod GoesLemmas
-pub mod RoleLemmas
-pub mod ExitLemmas
 pub mod BegunLemmas
+pub mod CourseLemmas
 pub mod SessionLemmas

@@ -13,7 +13,7 @@ use Rattle.mail_wire.proofs.LawfulLemmas.{IsLawful-give}
 use Rattle.mail_command.specs.Taking.{AreTaken, Takes, TakesUpTo}
 use Rattle.mail_command.specs.Outcome.{message_max, DowngradeOutcome}
 use Rattle.mail_wire.specs.declared.traffic.TheConstants.{PIECE}
-use Rattle.mail_command.specs.Serving.{IsPrefixOf}
+use Rattle.session_core.specs.Serving.{IsPrefixOf}
 use Rattle.setup_command.specs.Running.{IsBrokenOff}
 use Rattle.mail_command.specs.Running.{Answers, BreaksOff, IsExact, RunsDowngrade}
 use Rattle.setup_command.specs.Statuses.{status_of}

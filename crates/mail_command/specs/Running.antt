@@ -7,14 +7,13 @@ use Rattle.mail_wire.specs.Transcript.{IsLawful, taken_of, given_of}
 use Rattle.mail_wire.specs.Moves.{Moves, Gives, GivesPrefix}
 use Rattle.mail_store.specs.Answers.{LeavesRecords}
 use Rattle.mail_store.specs.StoreState.{StoreState}
+use Rattle.session_core.specs.Serving.{Course, IsPrefixOf, ServesLawfully, ServesAll, ServesUpTo, changes_by}
+use Rattle.session_core.specs.declared.desk.Limits.{Limits}
+use Rattle.session_core.specs.declared.serving.Served.{Served}
+use Rattle.session_core.specs.declared.serving.Served.TheVariants as came_to
 use Rattle.setup_command.specs.Running.{IsBrokenOff, OpensStore, HoldsStore, IsUnopened, BreaksSessionOff, HoldsBegun}
 use Rattle.mail_command.specs.Outcome.{DowngradeOutcome, message_max}
-use Rattle.mail_command.specs.declared.serving.Limits.{Limits}
-use Rattle.mail_command.specs.declared.serving.Served.{Served}
 use Rattle.mail_wire.specs.declared.traffic.TheConstants.{PIECE}
-use Rattle.mail_command.specs.Served.{status_of_served}
-use Rattle.mail_command.specs.Protocols.{Protocol, changes_by}
-use Rattle.mail_command.specs.Serving.{IsPrefixOf, ServesLawfully, ServesAll, ServesUpTo}
 
 -- ---- words of no command
 
@@ -67,8 +66,16 @@ pub record RunsDowngrade (before now : Telling) (status : ℕ) : Type 0 where
 
 -- ---- a session
 
+-- the status of a command whose session ends so
+abbrev pub status_of_served : Served → ℕ
+status_of_served came_to.Ended = 0
+status_of_served came_to.WireFault = 1
+status_of_served came_to.KeeperFault = 2
+status_of_served came_to.Memory = 3
+status_of_served came_to.Limit = 6
+
 -- A session was broken off that worked on the store that the keeper's records give.
-pub record BreaksInSession (protocol : Protocol) (limits : Limits) (old new : Option (List ℕ)) (before now : Telling) (status : ℕ) : Type 0 where
+pub record BreaksInSession (course : Course) (limits : Limits) (old new : Option (List ℕ)) (before now : Telling) (status : ℕ) : Type 0 where
   pub store : StoreState
   pub after : StoreState
   pub opened : Option (List ℕ)
@@ -76,28 +83,28 @@ pub record BreaksInSession (protocol : Protocol) (limits : Limits) (old new : Op
   pub told : status ≡ status_of_served served
   pub opens : OpensStore old opened store
   pub message_limit : store.message_max ≡ limits.message_max
-  pub lawful : ServesLawfully protocol store after opened new served limits.session_max before now
-  pub holds : IfSome old (λ octets. HoldsBegun new store (changes_by protocol store (taken_of lawful.entries)))
+  pub lawful : ServesLawfully course store after opened new served limits.session_max before now
+  pub holds : IfSome old (λ octets. HoldsBegun new store (changes_by course store (taken_of lawful.entries)))
 
 -- how far a session's command came that was broken off and ended so
-pub data BreaksSession (protocol : Protocol) (limits : Limits) (old new : Option (List ℕ)) (before now : Telling) (ended : ℕ) : Type 0 where
+pub data BreaksSession (course : Course) (limits : Limits) (old new : Option (List ℕ)) (before now : Telling) (ended : ℕ) : Type 0 where
   -- the journal wasn't opened
-  InJournal : Gives before now [] → LeavesRecords old new → BreaksSession protocol limits old new before now ended
+  InJournal : Gives before now [] → LeavesRecords old new → BreaksSession course limits old new before now ended
   -- the line that tells why it can't be
   InLine : (status : ℕ) (line : List ℕ) → IsUnopened old new status line → GivesPrefix before now line → LeavesRecords old new
-      → BreaksSession protocol limits old new before now ended
-  InSession : BreaksInSession protocol limits old new before now ended → BreaksSession protocol limits old new before now ended
+      → BreaksSession course limits old new before now ended
+  InSession : BreaksInSession course limits old new before now ended → BreaksSession course limits old new before now ended
 
 -- What the command of a session does, by its status. It works with these limits, of how many octets a message may have and how many
 -- a session may take.
-pub data RunsSession (protocol : Protocol) (limits : Limits) (old new : Option (List ℕ)) (before now : Telling) (status : ℕ) : Type 0 where
+pub data RunsSession (course : Course) (limits : Limits) (old new : Option (List ℕ)) (before now : Telling) (status : ℕ) : Type 0 where
   -- the session or its input ended
   Ended : (store after : StoreState) (opened : Option (List ℕ)) → OpensStore old opened store → store.message_max ≡ limits.message_max
-      → ServesAll protocol store after opened new limits.session_max before now → HoldsStore new after → status ≡ 0 → RunsSession protocol limits old new before now status
+      → ServesAll course store after opened new limits.session_max before now → HoldsStore new after → status ≡ 0 → RunsSession course limits old new before now status
   -- as many octets were taken as a session may take, and it hadn't ended
   Limit : (store after : StoreState) (opened : Option (List ℕ)) → OpensStore old opened store → store.message_max ≡ limits.message_max
-      → ServesUpTo protocol store after opened new limits.session_max before now → HoldsStore new after → status ≡ 6 → RunsSession protocol limits old new before now status
+      → ServesUpTo course store after opened new limits.session_max before now → HoldsStore new after → status ≡ 6 → RunsSession course limits old new before now status
   -- the journal was told to be bad
-  Unopened : (line : List ℕ) → IsUnopened old new status line → Gives before now line → RunsSession protocol limits old new before now status
+  Unopened : (line : List ℕ) → IsUnopened old new status line → Gives before now line → RunsSession course limits old new before now status
   -- it was broken off
-  Broken : BreaksSessionOff status → BreaksSession protocol limits old new before now status → RunsSession protocol limits old new before now status
+  Broken : BreaksSessionOff status → BreaksSession course limits old new before now status → RunsSession course limits old new before now status

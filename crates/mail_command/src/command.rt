@@ -7,15 +7,16 @@ ghost use Rattle.address_grammar.specs.declared.Address.{Address as AddressValue
 ghost use Rattle.journal_records.specs.Addresses.{WithPaths};
 ghost use Rattle.mail_store.specs.Changing.{account_refusal, domain_refusal};
 ghost use Rattle.journal_records.specs.declared.records.Record.TheVariants as records;
+ghost use Rattle.session_core.specs.Serving.{OfCourse};
+ghost use Rattle.session_core.specs.declared.desk.TheConstants.{LIMITS};
 ghost use Rattle.setup_command.specs.AddingRuns.{RunsAdding, IsExactAdding};
 ghost use Rattle.setup_command.specs.Running.{IsExactJournal, HasStatusCause};
 ghost use Rattle.setup_command.specs.Statuses.{status_of};
 ghost use Rattle.setup_command.specs.WordForms.{IsAccount, IsDomain, IsHelp};
-ghost use Rattle.mail_command.specs.Protocols.{WithProtocol};
+ghost use Rattle.mail_command.specs.Protocols.{protocol_for};
 ghost use Rattle.mail_command.specs.Words.{Names, IsNoCommand, IsDowngrade, IsSession, OpensJournal};
 ghost use Rattle.mail_command.specs.Running.{RefusesWords, RunsDowngrade, RunsSession, GivesHelp};
 ghost use Rattle.mail_command.specs.declared.roles.Role.{Role as RoleValue};
-ghost use Rattle.mail_command.specs.declared.serving.TheConstants.{LIMITS};
 
 use crate::downgrading::run_downgrade;
 use crate::roles::Role;
@@ -96,7 +97,7 @@ fn work<W: Wire, J: Keeper, C: Clock>(
 ) -> Result<u8, Fault>
     ensures words { IsNoCommand words.now → RefusesWords (W.tells wire.old) (W.tells wire.new) (status_of result) }
     ensures downgrade { IsDowngrade words.now → RunsDowngrade (W.tells wire.old) (W.tells wire.new) (status_of result) }
-    ensures session { (role : RoleValue) → IsSession words.now role → WithProtocol role (C.tells clock.old) (λ protocol. RunsSession protocol LIMITS
+    ensures session { (role : RoleValue) → IsSession words.now role → OfCourse (protocol_for role) (C.tells clock.old) (λ course. RunsSession course LIMITS
         (J.tells keeper.old).octets (J.tells keeper.new).octets (W.tells wire.old) (W.tells wire.new) (status_of result)) }
     ensures account { (address : AddressValue) (password : List ℕ) → IsAccount words.now address password → WithPaths (λ path_of.
         RunsAdding (λ kept. account_refusal path_of kept address) (records.Account (address_text address) password)
@@ -141,7 +142,7 @@ pub fn run<W: Wire, J: Keeper, C: Clock>(
 ) -> u8
     ensures words { IsNoCommand words.now → RefusesWords (W.tells wire.old) (W.tells wire.new) result }
     ensures downgrade { IsDowngrade words.now → RunsDowngrade (W.tells wire.old) (W.tells wire.new) result }
-    ensures session { (role : RoleValue) → IsSession words.now role → WithProtocol role (C.tells clock.old) (λ protocol. RunsSession protocol LIMITS
+    ensures session { (role : RoleValue) → IsSession words.now role → OfCourse (protocol_for role) (C.tells clock.old) (λ course. RunsSession course LIMITS
         (J.tells keeper.old).octets (J.tells keeper.new).octets (W.tells wire.old) (W.tells wire.new) result) }
     ensures account { (address : AddressValue) (password : List ℕ) → IsAccount words.now address password → WithPaths (λ path_of.
         RunsAdding (λ kept. account_refusal path_of kept address) (records.Account (address_text address) password)

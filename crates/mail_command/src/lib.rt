@@ -6,13 +6,12 @@ mod downgrading;
 pub mod laws;
 mod lines;
 mod roles;
-mod serving;
 mod sessions;
 mod taking;
 
 pub use command::run;
 pub use downgrading::downgrade;
-pub use roles::Role;
-pub use serving::{Desk, LIMITS, Limits, Served, open_desk, serve_one};
+pub use roles::{Role, serve_one};
+pub use session_core::{Desk, LIMITS, Limits, Outside, Served, open_desk};
 pub use sessions::run_session;
 pub use setup_command::{KEEPER_FAULT, WANT_OF_MEMORY, WIRE_FAULT};

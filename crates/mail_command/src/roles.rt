@@ -1,18 +1,14 @@
-//! The protocols of sessions, and a session of any of them.
-ghost use Rattle.std.specs.Prelude.{◌≡◌, ◌↔◌, ℕ, List, Err, IfOk, IsTrue, Option};
-ghost use Rattle.mail_wire.specs.Keeping.{HasKeeperCause};
-ghost use Rattle.mail_wire.specs.Moves.{HasWireCause};
-ghost use Rattle.mail_store.specs.Kept.{name_of};
-ghost use Rattle.smtp_session.specs.Session.{IsName};
-ghost use Rattle.mail_command.specs.Roles.{ForRole, OverCall, Begins, Feeds, HasEnded, IsReady};
-ghost use Rattle.mail_command.specs.Serving.{IsOpen};
+//! The protocols of sessions, and the serving of one.
+ghost use Rattle.session_core.specs.Desks.{IsOpen};
+ghost use Rattle.session_core.specs.Keeps.{Keeps};
+ghost use Rattle.session_core.specs.Served.{met_of};
+ghost use Rattle.session_core.specs.Serving.{ServesBy};
+ghost use Rattle.mail_command.specs.Protocols.{protocol_for};
 
-use crate::serving::Desk;
-use mail_store::Store;
-use mail_wire::{Clock, Fault, Keeper, Wire};
-use pop_session::PopSession;
-use smtp_session::SmtpSession;
-use std::alloc::Global;
+use mail_wire::{Clock, Keeper, Wire};
+use pop_session::serve_pop;
+use session_core::{Outside, Served};
+use smtp_session::serve_smtp;
 
 /// The protocol of a session.
 #[derive(Clone, Copy, Debug, PartialEq, Eq)]
@@ -21,75 +17,19 @@ pub enum Role {
     Smtp,
 }
 
-// A session of any protocol.
-#[derive(Debug, Drop)]
-pub(crate) enum Session {
-    Pop(PopSession),
-    Smtp(SmtpSession),
-}
-
-impl Session {
-    // Begins a session, and gives the greeting.
-    pub(crate) fn start<W: Wire>(
-        alloc: Global,
-        role: Role,
-        store: &Store,
-        wire: &mut W,
-    ) -> Result<Session, Fault>
-        requires { IsName (name_of store.now.kept) }
-        ensures begins { (reading : Option ℕ) (had : Option (List ℕ)) → ForRole role reading (λ protocol Stands.
-            Begins protocol Stands store.now had result (W.tells wire.old) (W.tells wire.new)) }
-        ensures ready { IfOk result (λ session. IsReady session store.now) }
-        ensures goes_on { IfOk result (λ session. ¬ HasEnded session) }
-        ensures cause { HasWireCause (W.tells wire.old) (W.tells wire.new) result Fault.Wire }
-        ensures keeper { ¬ (result ≡ Err Fault.Keeper) }
-    {
-        match role {
-            Role::Pop => Ok(Session::Pop(PopSession::start(alloc, wire)?)),
-            Role::Smtp => Ok(Session::Smtp(SmtpSession::start(alloc, store.name(), wire)?)),
-        }
-    }
-
-    // Takes the next piece of the stream.
-    pub(crate) fn feed<W: Wire, J: Keeper, C: Clock>(
-        self,
-        piece: &[u8],
-        desk: &mut Desk,
-        wire: &mut W,
-        keeper: &mut J,
-        clock: &mut C,
-    ) -> Result<Session, Fault>
-        requires open { IsOpen desk.old }
-        requires ready { IsReady self desk.old.store }
-        // Whatever the role is: one that isn't the session's has nothing that the session stands for.
-        ensures feeds { (role : Role) → OverCall role (C.tells clock.old) (λ protocol Stands Stays. Feeds protocol Stands Stays self (W.tells wire.old) (W.tells wire.new)
-            desk.old.store desk.new.store (J.tells keeper.old).octets (J.tells keeper.new).octets result piece.now) }
-        ensures ready { IfOk result (λ session. IsReady session desk.new.store) }
-        ensures open { ¬ (result ≡ Err Fault.Keeper) → IsOpen desk.new }
-        ensures limits { desk.new.limits ≡ desk.old.limits }
-        ensures clock { C.tells clock.new ≡ C.tells clock.old }
-        ensures cause { HasWireCause (W.tells wire.old) (W.tells wire.new) result Fault.Wire }
-        ensures keeper { HasKeeperCause (J.tells keeper.old) (J.tells keeper.new) result Fault.Keeper }
-    {
-        match self {
-            Session::Pop(session) => {
-                let next = session.feed(piece, &mut desk.store, &mut desk.cache, wire, keeper)?;
-                Ok(Session::Pop(next))
-            }
-            Session::Smtp(session) => {
-                let next = session.feed(piece, &mut desk.store, wire, keeper, clock)?;
-                Ok(Session::Smtp(next))
-            }
-        }
-    }
-
-    // Whether the session has ended.
-    pub(crate) fn ended(&self) -> bool
-        ensures { IsTrue result ↔ HasEnded self.now }
-    {
-        match self {
-            Session::Pop(session) => session.ended(),
-            Session::Smtp(session) => session.ended(),
-        }
+/// Serves one session of the role's protocol, from its greeting to its end.
+pub fn serve_one<W: Wire, J: Keeper, C: Clock>(role: Role, outside: &mut Outside<W, J, C>) -> Served
+    requires { IsOpen outside.old.desk }
+    // By the machine of the role's protocol: before each take all that was taken was answered and had not ended the session, no take
+    // was of more than a piece, nothing else was ever given, and no more was taken than the limit. What was taken was done: the replies
+    // given and the changes made in the store and in the keeper, in their order, or, after a fault, the first of them. At Ended it was
+    // sent what is due for all that was left, and has ended, or nothing is left. At Limit it was sent what is due for as many octets as
+    // a session may take, and has not ended.
+    ensures serves { ServesBy (protocol_for role) outside.old outside.new result }
+    ensures keeps { Keeps outside.old outside.new (met_of result) }
+{
+    match role {
+        Role::Pop => serve_pop(outside),
+        Role::Smtp => serve_smtp(outside),
     }
 }

@@ -1,16 +1,30 @@
 //! The commands that serve a session.
-ghost use Rattle.std.specs.Prelude.{IfSome};
-ghost use Rattle.mail_command.specs.Protocols.{WithProtocol};
+ghost use Rattle.std.specs.Prelude.{◌≡◌, IfSome};
+ghost use Rattle.session_core.specs.Serving.{OfCourse};
+ghost use Rattle.session_core.specs.declared.desk.TheConstants.{LIMITS};
 ghost use Rattle.setup_command.specs.Running.{IsExactJournal, HasStatusCause};
-ghost use Rattle.mail_command.specs.Running.{RunsSession};
 ghost use Rattle.setup_command.specs.Statuses.{status_of};
-ghost use Rattle.mail_command.specs.declared.serving.TheConstants.{LIMITS};
+ghost use Rattle.mail_command.specs.Protocols.{protocol_for};
+ghost use Rattle.mail_command.specs.Running.{RunsSession, status_of_served};
 
-use crate::roles::Role;
-use crate::serving::{LIMITS, Served, open_desk, serve_one};
+use crate::roles::{Role, serve_one};
 use mail_wire::{Clock, Fault, Keeper, Wire};
+use session_core::{LIMITS, Outside, Served, open_desk};
 use setup_command::{DONE, LIMIT_REACHED, tell_unopened};
 use std::alloc::Global;
+
+// The answer of a command whose session came to its end so.
+fn answer_of(served: Served) -> Result<u8, Fault>
+    ensures { status_of result ≡ status_of_served served }
+{
+    match served {
+        Served::Ended => Ok(DONE),
+        Served::Limit => Ok(LIMIT_REACHED),
+        Served::WireFault => Err(Fault::Wire),
+        Served::KeeperFault => Err(Fault::Keeper),
+        Served::Memory => Err(Fault::Memory),
+    }
+}
 
 /// Opens the journal of the keeper, and serves one session.
 pub fn run_session<W: Wire, J: Keeper, C: Clock>(
@@ -20,21 +34,21 @@ pub fn run_session<W: Wire, J: Keeper, C: Clock>(
     keeper: &mut J,
     clock: &mut C,
 ) -> Result<u8, Fault>
-    ensures runs { WithProtocol role (C.tells clock.old) (λ protocol. RunsSession protocol LIMITS
+    ensures runs { OfCourse (protocol_for role) (C.tells clock.old) (λ course. RunsSession course LIMITS
         (J.tells keeper.old).octets (J.tells keeper.new).octets (W.tells wire.old) (W.tells wire.new) (status_of result)) }
     // A bad journal is told.
     ensures journal { IfSome (J.tells keeper.old).octets (λ octets. IsExactJournal octets (status_of result)) }
     ensures cause { HasStatusCause (W.tells wire.old) (W.tells wire.new) (J.tells keeper.old) (J.tells keeper.new) (status_of result) }
 {
-    let mut desk = match open_desk(alloc, keeper, LIMITS) {
+    let desk = match open_desk(alloc, keeper, LIMITS) {
         Ok(desk) => desk,
         Err(fault) => return tell_unopened(alloc, fault, wire),
     };
-    match serve_one(alloc, &mut desk, role, wire, keeper, clock) {
-        Served::Ended => Ok(DONE),
-        Served::Limit => Ok(LIMIT_REACHED),
-        Served::WireFault => Err(Fault::Wire),
-        Served::KeeperFault => Err(Fault::Keeper),
-        Served::Memory => Err(Fault::Memory),
-    }
+    let mut outside = Outside::new(alloc, desk, wire, keeper, clock);
+    let served = serve_one(role, &mut outside);
+    let (_desk, wire, keeper, _clock) = outside.into_parts();
+    // Used once more: a loan that ends within the bundle tells nothing of what was lent.
+    let _wire = &mut *wire;
+    let _keeper = &mut *keeper;
+    answer_of(served)
 }

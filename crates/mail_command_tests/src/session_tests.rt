@@ -1,5 +1,5 @@
 //! The rows of sessions, over wires and keepers in memory.
-use mail_command::{LIMITS, Limits, Role, Served, open_desk, run, serve_one};
+use mail_command::{LIMITS, Limits, Outside, Role, Served, open_desk, run, serve_one};
 use mail_wire::{Entry, Failure, FixedClock, MemKeeper, MemWire, Memory, Octets, Words};
 use std::alloc::Global;
 use std::test::Fail;
@@ -165,12 +165,14 @@ fn served_up_to(
         pool_blocks: 1,
         cache_entries: 1,
     };
-    let Ok(mut desk) = open_desk(alloc, keeper, limits) else {
+    let Ok(desk) = open_desk(alloc, keeper, limits) else {
         return Err(Fail::from("the journal isn't opened"));
     };
     let mut wire = wire_of(alloc, input, &[], &[])?;
     let mut clock = FixedClock::new(0);
-    let served = serve_one(alloc, &mut desk, role, &mut wire, keeper, &mut clock);
+    let mut outside = Outside::new(alloc, desk, &mut wire, keeper, &mut clock);
+    let served = serve_one(role, &mut outside);
+    let (_desk, _wire, _keeper, _clock) = outside.into_parts();
     Ok((served, given(alloc, &wire)?))
 }
 

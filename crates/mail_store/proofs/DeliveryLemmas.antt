@@ -1,5 +1,5 @@
 -- The records of a delivery.
-use Rattle.std.proofs.Common.{◌≡◌, ◌⊎◌, ℕ, suc, ◌+◌, ◌<◌, ◌≤◌, Bool, true, false, not, cond, ◌||◌, ◌&&◌, eqb, List, [], ◌∷◌, ◌++◌, length, map, take, get_or, Option, Some, None, unwrap_or, refl, sym, ap, subst, ◌∙◌, arith, inl, inr, append_assoc, append-nil, length-append}
+use Rattle.std.proofs.Common.{◌≡◌, ◌⊎◌, ℕ, suc, ◌+◌, ◌<◌, ◌≤◌, Bool, true, false, not, cond, ◌||◌, ◌&&◌, eqb, List, [], ◌∷◌, ◌++◌, length, map, take, get_or, Option, Some, None, unwrap_or, refl, sym, ap, ap₂, subst, ◌∙◌, arith, inl, inr, append_assoc, append-nil, length-append}
 use Rattle.std.specs.List.{flat_map, All, AllByRecursion}
 use Rattle.std.specs.Prelude.{IfSome, ◌*◌}
 use Rattle.address_grammar.specs.declared.Address.{Address}
@@ -18,7 +18,7 @@ use Rattle.journal_records.specs.Addresses.{IsSendable, path_text, IsAddress}
 use Rattle.journal_records.specs.Spelling.{IsWritable, record_text, octet_list, HasLength, number}
 use Rattle.mail_store.specs.Changing.{IsDeliverable, delivered, queued, copy_for, inboxes_of, has_large_octets, has_many_things, are_too_many, delivery_refusal}
 use Rattle.mail_store.specs.declared.changing.StoreFault.TheVariants as faults
-use Rattle.mail_store.specs.private.Delivering.{copied}
+use Rattle.mail_store.specs.private.Delivering.{copied, IsFrontOf, fronts_text, delivery_text}
 use Rattle.mail_store.specs.Kept.{Kept, after, after_all, inbox_of}
 use Rattle.journal_records.specs.Grammar.{IsDate}
 use Rattle.mail_store.specs.Records.{AreRecords, recipient_count}
@@ -40,18 +40,25 @@ copies-push : (date octets folders : List ℕ) (folder : ℕ) → map (copy_for 
 copies-push date octets [] folder = refl
 copies-push date octets (x ∷ folders) folder = ap (λ l. copy_for date octets x ∷ l) (copies-push date octets folders folder)
 
+fronts-push : (fronts : List (List ℕ)) (front octets : List ℕ) → fronts_text (fronts ++ front ∷ []) octets ≡ fronts_text fronts octets ++ (front ++ octets)
+fronts-push fronts front octets =
+    flat_map-append (λ before. before ++ octets) fronts (front ∷ []) ∙ ap (λ l. fronts_text fronts octets ++ l) (append-nil (front ++ octets))
+
 -- the text of one more copy
-pub copies-text-step : (date octets : List ℕ) (kept : Kept) (accounts : List ℕ) (i account folder : ℕ) (old new : List ℕ) → i < length accounts → account ≡ get_or accounts i 0
-    → inbox_of kept account ≡ Some folder → old ≡ flat_map record_text (map (copy_for date octets) (inboxes_of kept (take i accounts)))
-    → new ≡ old ++ record_text (copy_for date octets folder) → new ≡ flat_map record_text (map (copy_for date octets) (inboxes_of kept (take (i + 1) accounts)))
-copies-text-step date octets kept accounts i account folder old new within is e o n =
-    let front = inboxes_of kept (take i accounts) in
+pub copies-text-step : (date octets : List ℕ) (kept : Kept) (accounts : List ℕ) (i account folder : ℕ) (fronts : List (List ℕ)) (front : List ℕ) → i < length accounts
+    → account ≡ get_or accounts i 0 → inbox_of kept account ≡ Some folder
+    → fronts_text fronts octets ≡ flat_map record_text (map (copy_for date octets) (inboxes_of kept (take i accounts)))
+    → front ++ octets ≡ record_text (copy_for date octets folder)
+    → fronts_text (fronts ++ front ∷ []) octets ≡ flat_map record_text (map (copy_for date octets) (inboxes_of kept (take (i + 1) accounts)))
+copies-text-step date octets kept accounts i account folder fronts front within is e o n =
+    let before = inboxes_of kept (take i accounts) in
     let one = copy_for date octets folder in
-    let more : inboxes_of kept (take (i + 1) accounts) ≡ front ++ folder ∷ [] =
+    let more : inboxes_of kept (take (i + 1) accounts) ≡ before ++ folder ∷ [] =
     ap (inboxes_of kept) (take_more accounts i 0 within ∙ ap (λ a. take i accounts ++ a ∷ []) (sym is)) ∙ inboxes-push kept (take i accounts) account folder e in
-    n ∙ ap (λ l. l ++ record_text one) o ∙ ap (λ l. flat_map record_text (map (copy_for date octets) front) ++ l) (sym (append-nil (record_text one)))
-    ∙ sym (flat_map-append record_text (map (copy_for date octets) front) (one ∷ []))
-    ∙ ap (flat_map record_text) (sym (copies-push date octets front folder) ∙ ap (map (copy_for date octets)) (sym more))
+    fronts-push fronts front octets ∙ ap (λ l. fronts_text fronts octets ++ l) n ∙ ap (λ l. l ++ record_text one) o
+    ∙ ap (λ l. flat_map record_text (map (copy_for date octets) before) ++ l) (sym (append-nil (record_text one)))
+    ∙ sym (flat_map-append record_text (map (copy_for date octets) before) (one ∷ []))
+    ∙ ap (flat_map record_text) (sym (copies-push date octets before folder) ∙ ap (map (copy_for date octets)) (sym more))
 
 pub AreRecords-append : (kept : Kept) (all more : List Record) → AreRecords kept all → AreRecords (after_all kept all) more → AreRecords kept (all ++ more)
 AreRecords-append kept [] more a b = b
@@ -220,16 +227,30 @@ AreRecords-delivered store i delivery x bound d small =
     (λ some. (let octets = local-small store.message_max delivery parts.0 some in omega (arith, octets, bound))) d.known few)
     (queue-is (after_all store.kept copies) store delivery (ap (λ k. k.entries) (after-copies store.kept delivery.date delivery.local_octets (inboxes_of store.kept delivery.local))) d bound parts.0 parts.1)
 
--- the text of a delivery
-pub delivered-text : (kept : Kept) (delivery : Delivery) (waiting : List Record) (text : List ℕ) → waiting ≡ queued delivery
-    → text ≡ flat_map record_text (map (copy_for delivery.date delivery.local_octets) (inboxes_of kept delivery.local)) ++ flat_map record_text waiting
-    → text ≡ flat_map record_text (delivered kept delivery)
-delivered-text kept delivery waiting text is t =
-    let copies = map (copy_for delivery.date delivery.local_octets) (inboxes_of kept delivery.local) in
-    t ∙ ap (λ l. flat_map record_text copies ++ flat_map record_text l) is ∙ sym (flat_map-append record_text copies (queued delivery))
-
 one_is : (a b : Record) → a ∷ [] ≡ b ∷ [] → a ≡ b
 one_is a b e = cc
+
+-- what stands before the octets of the waiting message, and they, are its text
+queued-text : (delivery : Delivery) (waiting : Option Record) (front : Option (List ℕ)) → option_to_list waiting ≡ queued delivery → IsFrontOf front waiting
+    → fronts_text (option_to_list front) delivery.remote_octets ≡ flat_map record_text (queued delivery)
+queued-text delivery None front is made = rw (made, ← is) refl
+queued-text delivery (Some one) front is made =
+    elim (cases_Bool (eqb (length delivery.remote) 0)) [
+      | inl none ↦ (let empty : one ∷ [] ≡ [] = rw none at is in absurd cc)
+      | inr some ↦
+          let queue = records.Queue (path_text delivery.path) (map address_text delivery.remote) delivery.remote_octets in
+          let it : one ≡ queue = one_is one queue (rw some at is) in
+          let found = subst (λ r. IsFrontOf front (Some r)) it made in
+          rw (found.1, some) (ap (λ l. l ++ []) found.2)
+    ]
+
+-- the text of a delivery, by what stands before the octets of its records
+pub delivered-text : (kept : Kept) (delivery : Delivery) (local : List (List ℕ)) (waiting : Option Record) (remote : Option (List ℕ))
+    → fronts_text local delivery.local_octets ≡ flat_map record_text (map (copy_for delivery.date delivery.local_octets) (inboxes_of kept delivery.local))
+    → option_to_list waiting ≡ queued delivery → IsFrontOf remote waiting → delivery_text local remote delivery ≡ flat_map record_text (delivered kept delivery)
+delivered-text kept delivery local waiting remote copied is made =
+    let copies = map (copy_for delivery.date delivery.local_octets) (inboxes_of kept delivery.local) in
+    ap₂ (λ l m. l ++ m) copied (queued-text delivery waiting remote is made) ∙ sym (flat_map-append record_text copies (queued delivery))
 
 -- the waiting message's record, where there is one, can be written
 pub queued-writable : (store : StoreState) (delivery : Delivery) (waiting : Option Record) → IsDeliverable store delivery → store.message_max ≤ MESSAGE_MAX

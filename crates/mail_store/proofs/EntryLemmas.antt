@@ -1,11 +1,11 @@
 -- What is kept after a delivery.
-use Rattle.std.proofs.Common.{◌≡◌, ◌⊎◌, ℕ, ◌+◌, ◌<◌, ◌≤◌, false, ◌||◌, eqb, List, [], ◌∷◌, ◌++◌, length, map, Option, Some, None, refl, sym, ap, subst, ◌∙◌, arith, inl, inr, append-nil}
+use Rattle.std.proofs.Common.{◌≡◌, ◌⊎◌, ℕ, suc, ◌+◌, ◌<◌, ◌≤◌, Bool, true, false, cond, ◌||◌, ◌&&◌, eqb, List, [], ◌∷◌, ◌++◌, length, map, Option, Some, None, refl, sym, ap, subst, ◌∙◌, arith, inl, inr, append-nil}
 use Rattle.std.specs.List.{flat_map, All}
 use Rattle.std.specs.Prelude.{IfSome}
 use Rattle.std.specs.Option.{option_to_list, option_and_then}
 use Rattle.std.proofs.lemmas.List.{length-map}
 use Rattle.std.proofs.lemmas.List.Elements.{All-map}
-use Rattle.std.proofs.lemmas.Bool.{cases_Bool}
+use Rattle.std.proofs.lemmas.Bool.{cases_Bool, ne_eqb}
 use Rattle.address_grammar.specs.Addresses.{address_text}
 use Rattle.mail_wire.specs.Keeping.{with_last}
 use Rattle.mail_store.specs.declared.contents.Content.{Content}
@@ -31,17 +31,38 @@ use Rattle.mail_store.proofs.IndexLemmas.{AreIndexes-messages, AreIndexes-entry}
 
 -- ---- where nothing is written
 
--- a record has a text
-text-none : (all : List Record) → flat_map record_text all ≡ [] → all ≡ []
-text-none [] e = refl
-text-none (one ∷ all) e = absurd (cc e)
+false_true : false ≡ true → ⊥
+false_true e = cc
 
--- a delivery without a text leaves all as it is
-pub changes-nothing : (now : StoreState) (had : Option (List ℕ)) (all : List Record) (text : List ℕ) → text ≡ flat_map record_text all → text ≡ []
+none_for : (kept : Kept) (date octets local : List ℕ) (none : Bool) (one : Record) → (eqb (length local) 0 && none) ≡ true
+    → map (copy_for date octets) (inboxes_of kept local) ++ cond none [] (one ∷ []) ≡ []
+none_for kept date octets [] true one e = refl
+none_for kept date octets [] false one e = absurd cc
+none_for kept date octets (x ∷ local) none one e =
+    let some : eqb (length (x ∷ local)) 0 ≡ false = ne_eqb (suc (length local)) 0 (λ e. omega (arith, e)) in
+    absurd (false_true (rw some at e))
+
+for_none : (kept : Kept) (date octets local : List ℕ) (none : Bool) (one : Record) → map (copy_for date octets) (inboxes_of kept local) ++ cond none [] (one ∷ []) ≡ []
+    → (eqb (length local) 0 && none) ≡ true
+for_none kept date octets [] true one e = refl
+for_none kept date octets [] false one e = absurd (cc e)
+for_none kept date octets (x ∷ local) none one e = absurd (cc e)
+
+-- exactly a delivery for nobody has no records
+pub for-nobody : (kept : Kept) (delivery : Delivery) → (eqb (length delivery.local) 0 && eqb (length delivery.remote) 0) ≡ true → delivered kept delivery ≡ []
+for-nobody kept delivery e =
+    none_for kept delivery.date delivery.local_octets delivery.local (eqb (length delivery.remote) 0)
+    (records.Queue (path_text delivery.path) (map address_text delivery.remote) delivery.remote_octets) e
+
+pub nobody-of : (kept : Kept) (delivery : Delivery) → delivered kept delivery ≡ [] → (eqb (length delivery.local) 0 && eqb (length delivery.remote) 0) ≡ true
+nobody-of kept delivery e =
+    for_none kept delivery.date delivery.local_octets delivery.local (eqb (length delivery.remote) 0)
+    (records.Queue (path_text delivery.path) (map address_text delivery.remote) delivery.remote_octets) e
+
+-- no records leave all as it is
+pub changes-nothing : (now : StoreState) (had : Option (List ℕ)) (all : List Record) → all ≡ []
     → AreRecords now.kept all × (now ≡ with_records now all) × (had ≡ with_last had (flat_map record_text all))
-changes-nothing now had all text is none =
-    let nobody : all ≡ [] = text-none all (sym is ∙ none) in
-    rw nobody (tt, refl, with_nothing had)
+changes-nothing now had all nobody = rw nobody (tt, refl, with_nothing had)
 
 -- ---- the entry
 

@@ -1,14 +1,13 @@
 //! The calls that change a store, and write the change to its keeper.
-ghost use Rattle.std.specs.Prelude.{◌≡◌, ◌≢◌, ◌≤◌, ◌<◌, ◌+◌, ◌==◌, ◌||◌, ◌∷◌, ◌++◌, [], length, vec_len, vec_capacity, IfOk, OnOk, OnErr, List, IfSome, IsUtf8, Some, None, Err, false, map, ℕ, slice_get, option_and_then};
+ghost use Rattle.std.specs.Prelude.{◌≡◌, ◌≢◌, ◌≤◌, ◌<◌, ◌+◌, ◌==◌, ◌||◌, ◌∷◌, ◌++◌, [], length, vec_len, vec_capacity, IfOk, OnOk, OnErr, List, IfSome, IsUtf8, Some, None, Err, false, map, ℕ, slice_get};
 ghost use Rattle.std.specs.List.{All, IsDistinct, flat_map, list_all};
 ghost use Rattle.mail_wire.specs.Keeping.{HasKeeperCause};
 ghost use Rattle.std.specs.Option.{option_map_or, option_to_list};
 ghost use Rattle.ace_domains.specs.Domains.{normal_form, compared_form};
 ghost use Rattle.mail_store.specs.Kept.{inbox, is_local};
 ghost use Rattle.mail_store.specs.private.Names.{PutsName, number_of as number_of_name};
-ghost use Rattle.mail_store.specs.private.Chains.{AreChained, empty_content};
-ghost use Rattle.mail_store.specs.private.Delivering.{copied, entry_of as entry_for, IsEntryOf, HasShortCopies, room_refusal};
-ghost use Rattle.mail_store.specs.Records.{recipient_count};
+ghost use Rattle.mail_store.specs.private.Chains.{empty_content};
+ghost use Rattle.mail_store.specs.private.Delivering.{copied, IsEntryOf, IsNewAccount, fronts_text, delivery_text, HasShortCopies, room_refusal};
 ghost use Rattle.mail_store.specs.StoreState.{with_record, with_records};
 ghost use Rattle.mail_store.specs.declared.kept.Message.{Message as MessageValue};
 ghost use Rattle.address_grammar.specs.Addresses.{address_text};
@@ -22,15 +21,18 @@ ghost use Rattle.mail_store.specs.Changing.{Writes, Changes, LeavesAll, IsRefuse
 ghost use Rattle.mail_store.specs.declared.changing.StoreFault.TheVariants as faults;
 
 use crate::checks::{are_too_many, is_live};
-use crate::contents::{Content, EMPTY, push_reserved, put_messages};
+use crate::contents::{Content, EMPTY, push_reserved};
 use crate::delivery::Delivery;
-use crate::kept::{Account, Entry, Folder, Message, waiting_entry};
+use crate::kept::{Account, Entry, Folder, Message};
 use crate::names::{number_of, put_first, take_back};
+use crate::parcels::{
+    Fronts, Parcel, entry_of, is_for_nobody, parts_of, put_parcel, queued, queued_front,
+    reserve_delivery,
+};
 use crate::storing::{Store, take_away};
 use address_grammar::{Address, write_address};
 use journal_records::{
-    Record, account_text, address_texts, domain_key, domain_text, expunge_text, mailbox_key,
-    path_text, push_copy, push_record,
+    Record, account_text, copy_front, domain_key, domain_text, expunge_text, mailbox_key,
 };
 use mail_wire::{Failed, Keeper, Memory as OutOfMemory, Octets};
 use std::alloc::{AllocError, AllocFailed, Global};
@@ -81,12 +83,16 @@ impl<T: Drop> From<AllocFailed<T>> for StoreFault {
     }
 }
 
-// Puts the text of records last in the keeper, and notes it where the keeper failed.
-fn write<J: Keeper>(keeper: &mut J, text: &[u8], failed: &mut bool) -> Result<(), StoreFault>
-    ensures writes { Writes failed.old failed.new (J.tells keeper.old).octets (J.tells keeper.new).octets result text.now }
+// Puts the text of records, in parts, last in the keeper, and notes it where the keeper failed.
+fn write_parts<J: Keeper>(
+    keeper: &mut J,
+    parts: &[&[u8]],
+    failed: &mut bool,
+) -> Result<(), StoreFault>
+    ensures writes { Writes failed.old failed.new (J.tells keeper.old).octets (J.tells keeper.new).octets result (flat_map (λ part. part.now) parts.now) }
     ensures cause { HasKeeperCause (J.tells keeper.old) (J.tells keeper.new) result StoreFault.Keeper }
 {
-    match keeper.append(text) {
+    match keeper.append_all(parts) {
         Ok(()) => Ok(()),
         Err(Failed::Outside) => {
             *failed = true;
@@ -94,6 +100,14 @@ fn write<J: Keeper>(keeper: &mut J, text: &[u8], failed: &mut bool) -> Result<()
         }
         Err(Failed::Memory) => Err(StoreFault::Memory),
     }
+}
+
+// Puts the text of records last in the keeper, and notes it where the keeper failed.
+fn write<J: Keeper>(keeper: &mut J, text: &[u8], failed: &mut bool) -> Result<(), StoreFault>
+    ensures writes { Writes failed.old failed.new (J.tells keeper.old).octets (J.tells keeper.new).octets result text.now }
+    ensures cause { HasKeeperCause (J.tells keeper.old) (J.tells keeper.new) result StoreFault.Keeper }
+{
+    write_parts(keeper, &[text], failed)
 }
 
 // A name, the number that it is to get, and the text of the record that brings it.
@@ -199,103 +213,36 @@ pub(crate) fn put_account(
     push_reserved(inboxes, folder);
 }
 
-// The record of a message that waits for the remote recipients, where there are any.
-fn queued(alloc: Global, delivery: &Delivery) -> Result<Option<Record>, OutOfMemory>
-    requires path { IfSome delivery.now.path ComesInPath }
-    requires addresses { All ComesInPath delivery.now.remote }
-    ensures { IfOk result (λ queued. option_to_list queued ≡ queued_of delivery.now) }
-{
-    if delivery.remote.len() == 0 {
-        return Ok(None);
-    }
-    Ok(Some(Record::Queue {
-        path: path_text(alloc, &delivery.path)?,
-        addresses: address_texts(alloc, delivery.remote.as_slice())?,
-        octets: Octets::from_slice(alloc, delivery.remote_octets.as_slice())?,
-    }))
+// What is written of a delivery, and what is put last for it.
+#[derive(Clone, Copy)]
+struct Letter<'a> {
+    alloc: Global,
+    delivery: &'a Delivery,
+    parcel: &'a Parcel,
 }
 
-// The entry of a record of the queue.
-fn entry_of(alloc: Global, queued: Option<Record>) -> Result<Option<Entry>, OutOfMemory>
-    ensures { IfOk result (λ entry. entry ≡ option_and_then entry_for queued) }
-{
-    match queued {
-        Some(
-            Record::Queue {
-                path,
-                addresses,
-                octets,
-            },
-        ) => Ok(Some(waiting_entry(alloc, path, addresses, octets)?)),
-        _ => Ok(None),
-    }
-}
-
-// Makes room for so many messages and for an entry.
-fn reserve_delivery(
+// Makes room for the messages and the entry of a delivery, and writes its records.
+fn write_delivery<J: Keeper>(
+    keeper: &mut J,
     messages: &mut Vec<Message>,
     previous: &mut Vec<Option<u32>>,
     entries: &mut Vec<Entry>,
-    count: usize,
-) -> Result<(), OutOfMemory>
+    failed: &mut bool,
+    letter: Letter,
+) -> Result<(), StoreFault>
+    ensures writes { Writes failed.old failed.new (J.tells keeper.old).octets (J.tells keeper.new).octets result
+        (delivery_text letter.entry.parcel.now.fronts.local.items letter.entry.parcel.now.fronts.remote letter.entry.delivery.now) }
     ensures messages { messages.new.items ≡ messages.old.items }
     ensures previous { previous.new.items ≡ previous.old.items }
     ensures entries { entries.new.items ≡ entries.old.items }
-    ensures message_room { OnOk result (vec_len messages.new + count ≤ vec_capacity messages.new) }
-    ensures previous_room { OnOk result (vec_len previous.new + count ≤ vec_capacity previous.new) }
+    ensures message_room { OnOk result (vec_len messages.new + length letter.entry.parcel.now.copies.items ≤ vec_capacity messages.new) }
+    ensures previous_room { OnOk result (vec_len previous.new + length letter.entry.parcel.now.copies.items ≤ vec_capacity previous.new) }
     ensures entry_room { OnOk result (vec_len entries.new < vec_capacity entries.new) }
+    ensures cause { HasKeeperCause (J.tells keeper.old) (J.tells keeper.new) result StoreFault.Keeper }
 {
-    messages.reserve(count)?;
-    previous.reserve(count)?;
-    entries.reserve(1)?;
-    Ok(())
-}
-
-// Puts an entry last, for which there is room, and counts its recipients.
-pub(crate) fn put_entry(entries: &mut Vec<Entry>, recipients: &mut usize, entry: Option<Entry>)
-    requires room { vec_len entries.old < vec_capacity entries.old }
-    requires few { recipients.old + recipient_count (option_to_list entry) ≤ THINGS_MAX }
-    ensures entries { entries.new.items ≡ entries.old.items ++ option_to_list entry }
-    ensures recipients { recipients.new ≡ recipients.old + recipient_count (option_to_list entry) }
-{
-    if let Some(entry) = entry {
-        *recipients += entry.recipients.as_slice().len();
-        push_reserved(entries, entry);
-    }
-}
-
-// What is put last for a delivery: the text of its records, the messages for the local accounts, and the entry of the queue.
-#[derive(Drop)]
-struct Parcel {
-    text: Octets,
-    copies: Vec<Message>,
-    entry: Option<Entry>,
-}
-
-// Puts the messages and the entry of a delivery last, for which there is room.
-fn put_parcel(
-    contents: &mut Vec<Content>,
-    previous: &mut Vec<Option<u32>>,
-    messages: &mut Vec<Message>,
-    entries: &mut Vec<Entry>,
-    recipients: &mut usize,
-    parcel: Parcel,
-)
-    requires chained { AreChained messages.old.items contents.old.items previous.old.items }
-    requires few { length messages.old.items + length parcel.copies.items ≤ THINGS_MAX }
-    requires known { All (λ message. message.folder < length contents.old.items) parcel.copies.items }
-    requires room { vec_len messages.old + length parcel.copies.items ≤ vec_capacity messages.old }
-    requires room_before { vec_len previous.old + length parcel.copies.items ≤ vec_capacity previous.old }
-    requires entry_room { vec_len entries.old < vec_capacity entries.old }
-    requires few_recipients { recipients.old + recipient_count (option_to_list parcel.entry) ≤ THINGS_MAX }
-    ensures messages { messages.new.items ≡ messages.old.items ++ parcel.copies.items }
-    ensures chained { AreChained messages.new.items contents.new.items previous.new.items }
-    ensures count { length contents.new.items ≡ length contents.old.items }
-    ensures entries { entries.new.items ≡ entries.old.items ++ option_to_list parcel.entry }
-    ensures recipients { recipients.new ≡ recipients.old + recipient_count (option_to_list parcel.entry) }
-{
-    put_messages(contents, previous, messages, parcel.copies);
-    put_entry(entries, recipients, parcel.entry);
+    reserve_delivery(messages, previous, entries, letter.parcel.copies.len())?;
+    let parts = parts_of(letter.alloc, &letter.parcel.fronts, letter.delivery)?;
+    write_parts(keeper, &parts, failed)
 }
 
 /// Whether the octets for the local accounts, or those for the remote recipients, are more than the limit. Octets that nobody
@@ -379,6 +326,22 @@ impl Store {
         ensures cause { HasKeeperCause (J.tells keeper.old) (J.tells keeper.new) result StoreFault.Keeper }
     {
         let made = self.new_account(address, password)?;
+        self.put_new_account(keeper, made)
+    }
+
+    // Puts an account last that isn't refused, and writes it.
+    fn put_new_account<J: Keeper>(
+        &mut self,
+        keeper: &mut J,
+        made: NewAccount,
+    ) -> Result<u32, StoreFault>
+        requires { IsNewAccount self.old made.named.name made.named.number made.named.text made.own }
+        ensures changes { Changes self.old self.new (J.tells keeper.old).octets (J.tells keeper.new).octets result
+            (records.Account made.own.address made.own.password ∷ []) }
+        ensures number { IfOk result (λ account. account ≡ length self.old.kept.accounts) }
+        ensures refusal { IsRefusedAs result None }
+        ensures cause { HasKeeperCause (J.tells keeper.old) (J.tells keeper.new) result StoreFault.Keeper }
+    {
         let account = made.named.number;
         let inbox = reserve_account(
             self.alloc,
@@ -489,44 +452,38 @@ impl Store {
         Ok(copies)
     }
 
-    // The texts of the records of the messages that are kept for the local accounts.
-    fn copies_text(&self, delivery: &Delivery) -> Result<Octets, OutOfMemory>
+    // What stands before the octets of the records of the messages that are kept for the local accounts.
+    fn copy_fronts(&self, delivery: &Delivery) -> Result<Vec<Octets>, OutOfMemory>
         requires known { All (λ account. account < length self.now.kept.accounts) delivery.now.local }
         requires short { HasShortCopies delivery.now }
-        ensures { IfOk result (λ text. text
+        ensures { IfOk result (λ fronts. fronts_text fronts.items delivery.now.local_octets
             ≡ flat_map record_text (map (copy_for delivery.now.date delivery.now.local_octets) (inboxes_of self.now.kept delivery.now.local))) }
     {
-        let mut text = Octets::new(self.alloc);
+        let mut fronts = Vec::new(self.alloc);
         for account in delivery.local.as_slice() {
             let folder = self.inbox(*account);
-            push_copy(
-                &mut text,
+            fronts.push(copy_front(
+                self.alloc,
                 folder,
                 delivery.date.as_slice(),
                 delivery.local_octets.as_slice(),
-            )?;
+            )?)?;
         }
-        Ok(text)
+        Ok(fronts)
     }
 
-    // The text of the records of a delivery.
-    fn delivery_text(
-        &self,
-        delivery: &Delivery,
-        queued: &Option<Record>,
-    ) -> Result<Octets, OutOfMemory>
+    // What stands before the octets of the records of a delivery.
+    fn fronts(&self, delivery: &Delivery, queued: &Option<Record>) -> Result<Fronts, OutOfMemory>
         requires known { All (λ account. account < length self.now.kept.accounts) delivery.now.local }
         requires short { HasShortCopies delivery.now }
         requires queued { IfSome queued.now IsWritable }
-        ensures { IfOk result (λ text. text
-            ≡ flat_map record_text (map (copy_for delivery.now.date delivery.now.local_octets) (inboxes_of self.now.kept delivery.now.local))
-            ++ flat_map record_text (option_to_list queued.now)) }
+        requires same { option_to_list queued.now ≡ queued_of delivery.now }
+        ensures { IfOk result (λ fronts. delivery_text fronts.local.items fronts.remote delivery.now
+            ≡ flat_map record_text (delivered self.now.kept delivery.now)) }
     {
-        let mut text = self.copies_text(delivery)?;
-        if let Some(record) = queued {
-            push_record(&mut text, record)?;
-        }
-        Ok(text)
+        let local = self.copy_fronts(delivery)?;
+        let remote = queued_front(self.alloc, queued)?;
+        Ok(Fronts { local, remote })
     }
 
     // Whether octets are more than the limit, or a kind of things would pass its limit.
@@ -555,7 +512,7 @@ impl Store {
         ensures cause { HasKeeperCause (J.tells keeper.old) (J.tells keeper.new) result StoreFault.Keeper }
     {
         let parcel = self.parcel(delivery)?;
-        if parcel.text.is_empty() {
+        if is_for_nobody(delivery) {
             return Ok(());
         }
         self.put_delivery(keeper, delivery, parcel)
@@ -570,7 +527,8 @@ impl Store {
     ) -> Result<(), StoreFault>
         requires deliverable { IsDeliverable self.old delivery.now }
         requires taken { delivery_refusal self.old delivery.now ≡ None }
-        requires text { parcel.text ≡ flat_map record_text (delivered self.old.kept delivery.now) }
+        requires text { delivery_text parcel.fronts.local.items parcel.fronts.remote delivery.now
+            ≡ flat_map record_text (delivered self.old.kept delivery.now) }
         requires copies { parcel.copies.items
             ≡ map (copied delivery.now.date delivery.now.local_octets) (inboxes_of self.old.kept delivery.now.local) }
         requires entry { IsEntryOf parcel.entry (queued_of delivery.now) }
@@ -578,13 +536,19 @@ impl Store {
         ensures refusal { IsRefusedAs result None }
         ensures cause { HasKeeperCause (J.tells keeper.old) (J.tells keeper.new) result StoreFault.Keeper }
     {
-        reserve_delivery(
+        let letter = Letter {
+            alloc: self.alloc,
+            delivery,
+            parcel: &parcel,
+        };
+        write_delivery(
+            keeper,
             &mut self.messages,
             &mut self.previous,
             &mut self.entries,
-            parcel.copies.len(),
+            &mut self.failed,
+            letter,
         )?;
-        write(keeper, parcel.text.as_slice(), &mut self.failed)?;
         put_parcel(
             &mut self.contents,
             &mut self.previous,
@@ -599,7 +563,8 @@ impl Store {
     // What is put last for a delivery, unless it is refused.
     fn parcel(&self, delivery: &Delivery) -> Result<Parcel, StoreFault>
         requires { IsDeliverable self.now delivery.now }
-        ensures text { IfOk result (λ parcel. parcel.text ≡ flat_map record_text (delivered self.now.kept delivery.now)) }
+        ensures text { IfOk result (λ parcel. delivery_text parcel.fronts.local.items parcel.fronts.remote delivery.now
+            ≡ flat_map record_text (delivered self.now.kept delivery.now)) }
         ensures copies { IfOk result (λ parcel. parcel.copies.items
             ≡ map (copied delivery.now.date delivery.now.local_octets) (inboxes_of self.now.kept delivery.now.local)) }
         ensures entry { IfOk result (λ parcel. IsEntryOf parcel.entry (queued_of delivery.now)) }
@@ -609,12 +574,25 @@ impl Store {
         if self.is_too_large(delivery) {
             return Err(StoreFault::TooLarge);
         }
+        Ok(self.made_parcel(delivery)?)
+    }
+
+    // What is put last for a delivery that isn't refused.
+    fn made_parcel(&self, delivery: &Delivery) -> Result<Parcel, OutOfMemory>
+        requires deliverable { IsDeliverable self.now delivery.now }
+        requires taken { delivery_refusal self.now delivery.now ≡ None }
+        ensures text { IfOk result (λ parcel. delivery_text parcel.fronts.local.items parcel.fronts.remote delivery.now
+            ≡ flat_map record_text (delivered self.now.kept delivery.now)) }
+        ensures copies { IfOk result (λ parcel. parcel.copies.items
+            ≡ map (copied delivery.now.date delivery.now.local_octets) (inboxes_of self.now.kept delivery.now.local)) }
+        ensures entry { IfOk result (λ parcel. IsEntryOf parcel.entry (queued_of delivery.now)) }
+    {
         let queued = queued(self.alloc, delivery)?;
-        let text = self.delivery_text(delivery, &queued)?;
+        let fronts = self.fronts(delivery, &queued)?;
         let entry = entry_of(self.alloc, queued)?;
         let copies = self.copies(delivery)?;
         Ok(Parcel {
-            text,
+            fronts,
             copies,
             entry,
         })

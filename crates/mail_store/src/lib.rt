@@ -11,6 +11,7 @@ pub mod laws;
 mod limits;
 mod names;
 mod opening;
+mod parcels;
 mod storing;
 
 pub use changing::{StoreFault, has_large_octets};

@@ -11,11 +11,12 @@ ghost use Rattle.mail_store.specs.Kept.{nothing, change_at, with_flags, gone, wi
 ghost use Rattle.mail_store.specs.Records.{IsInOrder, IsUnsettled};
 ghost use Rattle.journal_records.specs.Stored.{IsStored};
 
-use crate::changing::{put_account, put_entry, reserve_account};
+use crate::changing::{put_account, reserve_account};
 use crate::checks::{self, account_fits, are_too_many, has_room, message_fits};
 use crate::contents::{Content, EMPTY, push_reserved, put_message};
 use crate::kept::{Account, Entry, Folder, Listed, Message, waiting_entry};
 use crate::names::{number_of, put_first};
+use crate::parcels::put_entry;
 use address_grammar::Address;
 use journal_records::{
     ReadFault, Record, Texts, are_addresses, domain_key, is_domain_text, is_folder_name,

@@ -25,7 +25,8 @@ use Rattle.mime_tree.proofs.FieldLines.{is_safe, no_nul_in_safe}
 use Rattle.mime_tree.proofs.KeptTrees.{fields_before}
 use Rattle.journal_records.specs.Addresses.{IsSendable}
 use Rattle.mail_store.specs.Changing.{IsDeliverable}
-use Rattle.journal_records.specs.Grammar.{IsDate, is_digit, date_shape, fits_letter, months}
+use Rattle.mail_wire.specs.Numbers.{is_digit}
+use Rattle.journal_records.specs.Grammar.{IsDate, date_shape, fits_letter, months}
 use Rattle.mail_store.specs.Kept.{name_of}
 use Rattle.journal_records.specs.Stored.{IsStored}
 use Rattle.mail_store.specs.StoreState.{StoreState}

@@ -1,13 +1,8 @@
 pub mod ReplyLemmas
-pub mod SaidLines
-pub mod FitLemmas
 pub mod RecipientLemmas
 pub mod RowLemmas
-pub mod TreeLemmas
 pub mod WrittenPaths
-pub mod FeedLemmas
 pub mod LineSteps
-pub mod DroppedLemmas
 pub mod DataSteps
 pub mod KeptLemmas
 pub mod EndLemmas

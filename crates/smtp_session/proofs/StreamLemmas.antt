@@ -16,7 +16,7 @@ use Rattle.journal_records.specs.declared.records.Record.{Record}
 use Rattle.session_core.specs.Acts.{Act, gives, changes, acts_of}
 use Rattle.mail_store.specs.Answers.{IsFold}
 use Rattle.mail_store.specs.Changing.{delivered, delivery_refusal, has_large_octets}
-use Rattle.mail_store.specs.Kept.{Kept, name_of}
+use Rattle.mail_store.specs.Kept.{name_of}
 use Rattle.mail_store.specs.StoreState.{StoreState, with_records}
 use Rattle.smtp_grammar.specs.declared.command.Verb.{Verb}
 use Rattle.smtp_grammar.specs.Commands.{command_of}
@@ -29,11 +29,10 @@ use Rattle.session_core.specs.Meanings.{Meanings}
 use Rattle.smtp_session.specs.Session.{Machine, after_step, data_turn, later, line_too_long, line_turn, next_moment, next_turn, start_of, turn_in, turns_of}
 use Rattle.session_core.specs.Desks.{IsName}
 use Rattle.session_core.specs.Moments.{Moment}
-use Rattle.smtp_session.proofs.FeedLemmas.{next_turn-framed}
 use Rattle.smtp_session.proofs.IntakeLemmas.{HaveInboxes, delivered_once, have_inboxes, inboxes_after_all}
 use Rattle.smtp_session.proofs.KnownRecipients.{step-recipients}
-use Rattle.smtp_session.proofs.RowLemmas.{step-changes}
-use Rattle.smtp_session.proofs.SaidLines.{SaidLines, step_said}
+use Rattle.smtp_session.specs.SaidLines.{SaidLines, step_said}
+use Rattle.smtp_session.specs.SmtpLaws.{framed_by, named_after, step-changes}
 
 -- ---- no other line tells that a message is stored
 
@@ -142,10 +141,6 @@ ends_by is_message store client delivery =
     (λ small. cond_both (not is_message) _ _ P (λ none. Refused _ (differs_at 0 _ refl) refl)
     (λ message. cond_both (is_some (delivery_refusal store delivery)) _ _ P (λ refused. Refused _ (differs_at 0 _ refl) refl) (λ room. Stored refl)))
 
--- a delivery leaves the domains
-named_after : (old new : Kept) → new.domains ≡ old.domains → IsName (name_of old) → IsName (name_of new)
-named_after old new same named = subst (λ (domains : List (List ℕ)). IsName (slice_index_or domains 0 (codes "localhost"))) (sym same) named
-
 -- the end of data
 end_turn : (store : StoreState) (client : Client) (delivery : Delivery) (envelope : Envelope) (moments : List Moment) (rest : List ℕ) (taken : Step)
     → delivery.local ≡ envelope.local → delivery.remote ≡ envelope.remote → HaveInboxes store.kept → AreRecipients store.kept envelope → IsName (name_of store.kept)
@@ -212,13 +207,13 @@ turns_keep : (meanings : Meanings) (n : ℕ) (machine : Machine) (octets : List 
     → next_turn meanings machine octets ≡ found → KeepsAccepted machine.store (all_turns (next_turn meanings) machine octets).parts
 turns_keep meanings n machine octets low stays None is = rw (all_turns-stop (next_turn meanings) machine octets is) (NoMore machine.store)
 turns_keep meanings zero machine octets low stays (Some turn) is =
-    let shorter = (next_turn-framed meanings).shorter machine octets turn is in
+    let shorter = (framed_by meanings).shorter machine octets turn is in
     absurd (omega (arith, shorter, low))
 turns_keep meanings (suc n) machine octets low stays (Some turn) is =
-    let shorter = (next_turn-framed meanings).shorter machine octets turn is in
+    let shorter = (framed_by meanings).shorter machine octets turn is in
     let one = next_brings meanings machine octets turn stays is in
     let later = turns_keep meanings n turn.after turn.rest (omega (arith, shorter, low)) one.stays (next_turn meanings turn.after turn.rest) refl in
-    rw (all_turns-go (next_turn meanings) (next_turn-framed meanings) machine octets turn is) (behind_turn machine.store turn _ one.brings later)
+    rw (all_turns-go (next_turn meanings) (framed_by meanings) machine octets turn is) (behind_turn machine.store turn _ one.brings later)
 
 pub stream_kept : (meanings : Meanings) (store : StoreState) (moments : List Moment) (octets : List ℕ) → IsFold store.kept → IsName (name_of store.kept)
     → KeepsAccepted store (turns_of meanings (start_of store moments) octets).parts

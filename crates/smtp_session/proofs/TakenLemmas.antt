@@ -1,6 +1,6 @@
 -- Data that have a tree and are within the limits are taken.
-use Rattle.std.proofs.Common.{◌≡◌, ℕ, zero, suc, ◌+◌, ◌<◌, ◌≤◌, ◌==◌, Bool, true, false, not, ◌&&◌, ◌||◌, List, [], ◌∷◌, length, if◌then◌else◌, Some, None, refl, ap, ◌∙◌, arith, codes, append-nil}
-use Rattle.std.specs.Prelude.{nat_lt}
+use Rattle.std.proofs.Common.{◌≡◌, ℕ, zero, suc, ◌+◌, ◌<◌, ◌≤◌, ◌==◌, Bool, true, false, not, ◌&&◌, ◌||◌, List, [], ◌∷◌, length, if◌then◌else◌, Option, Some, None, refl, ap, ◌∙◌, arith, codes, cond, rules, append-nil}
+use Rattle.std.specs.Prelude.{is_some, nat_lt}
 use Rattle.std.specs.Option.{option_map}
 use Rattle.std.proofs.lemmas.Bool.Decides.{nat_tests}
 use Rattle.mail_wire.specs.Lines.{Cut}
@@ -8,6 +8,7 @@ use Rattle.mail_wire.specs.Message.{IsEnded}
 use Rattle.session_core.specs.Turns.{Turn, behind}
 use Rattle.session_core.proofs.TurnsLemmas.{all_turns-go}
 use Rattle.mail_wire.specs.Dots.{stuffed}
+use Rattle.mail_store.specs.declared.changing.StoreFault.{StoreFault}
 use Rattle.mail_store.specs.declared.changing.StoreFault.TheVariants as faults
 use Rattle.mail_store.specs.declared.delivery.Delivery.{Delivery}
 use Rattle.mail_store.specs.declared.limits.TheConstants.{THINGS_MAX}
@@ -28,8 +29,7 @@ use Rattle.session_core.specs.Meanings.{Meanings, TellsTrees}
 use Rattle.smtp_session.specs.Room.{IsWithinLimits}
 use Rattle.smtp_session.specs.Session.{Machine, after_step, data_turn, later, next_moment, next_turn, turns_of}
 use Rattle.session_core.specs.Moments.{Moment}
-use Rattle.smtp_session.proofs.EndLemmas.{last_of, tells_true}
-use Rattle.smtp_session.proofs.FeedLemmas.{next_turn-framed}
+use Rattle.smtp_session.specs.SmtpLaws.{framed_by}
 
 -- ---- the limits
 
@@ -71,6 +71,15 @@ not_refused : (large many : Bool) → large ≡ false → many ≡ false → (if
 not_refused large many first second = rw (first, second) refl
 
 -- ---- the end of the data
+
+-- octets that may be kept are told so
+tells_true : (has_tree : List ℕ → Bool) (octets : List ℕ) → TellsTrees has_tree → IsStored octets → has_tree octets ≡ true
+tells_true has_tree octets tells stored = let t = (tells octets).1 stored in search rules
+
+-- the last of four steps by three tests
+last_of : (large is_message : Bool) (refusal : Option StoreFault) (a b c d : Step) → large ≡ false → is_message ≡ true → refusal ≡ None
+    → cond large a (cond (not is_message) b (cond (is_some refusal) c d)) ≡ d
+last_of large is_message refusal a b c d p q r = rw (p, q, r) refl
 
 -- the step that keeps a delivery
 abbrev keeping : StoreState → Client → Delivery → Step
@@ -131,7 +140,7 @@ sent_kept meanings store client envelope moments octets rest tells ended tree wi
     let next : List Record → Turn Machine (Act (List ℕ)) = λ all.
     behind (changes records ∷ gives stored_line ∷ []) (turns_of meanings (record { state = greeted client; store = with_records store all; moments = later moments }) rest) in
     let whole : Cut = record { line = stuffed octets; rest = rest } in
-    all_turns-go (next_turn meanings) (next_turn-framed meanings) machine (sent octets rest) (data_turn meanings machine client envelope whole)
+    all_turns-go (next_turn meanings) (framed_by meanings) machine (sent octets rest) (data_turn meanings machine client envelope whole)
     (first_turn meanings store client envelope moments (sent octets rest) whole (sent_found octets ended rest))
     ∙ ap (λ said. brings meanings store moments rest (end_data meanings store client envelope moment said)) (unstuffed_back octets)
     ∙ ap (brings meanings store moments rest) (data_kept meanings store client envelope moment octets tells tree within)

@@ -1,5 +1,5 @@
 -- The SMTP machine (RFC 5321, 4; RFC 6531, 3).
-use Rattle.std.specs.Prelude.{ℕ, ◌+◌, ◌++◌, ◌==◌, ◌&&◌, not, List, [], ◌∷◌, Bool, true, false, Option, None, Some, length, codes, nat_lt, nat_le, is_some, sum_by, option_and_then, decimal, if◌then◌else◌, IsTrue, ◌↔◌}
+use Rattle.std.specs.Prelude.{ℕ, ◌+◌, ◌++◌, ◌==◌, ◌&&◌, not, List, [], ◌∷◌, Bool, true, false, Option, None, Some, length, codes, nat_lt, nat_le, is_some, sum_by, option_and_then, decimal, if◌then◌else◌}
 use Rattle.std.specs.List.{list_any, list_all}
 use Rattle.std.specs.Str.{bytes_eq}
 use Rattle.mail_wire.specs.Octets.{is_ascii}
@@ -8,7 +8,6 @@ use Rattle.journal_records.specs.Addresses.{is_same_domain, path_text}
 use Rattle.mail_store.specs.Changing.{delivered, delivery_refusal, has_large_octets}
 use Rattle.mail_store.specs.Kept.{find_account, is_local, name_of}
 use Rattle.mail_store.specs.StoreState.{StoreState}
-use Rattle.journal_records.specs.Stored.{IsStored}
 use Rattle.mail_store.specs.declared.delivery.Delivery.{Delivery}
 use Rattle.journal_records.specs.declared.limits.TheConstants.{TEXT_MAX}
 use Rattle.mail_store.specs.declared.limits.TheConstants.{RECIPIENTS_MAX}

@@ -1,5 +1,5 @@
 -- A session (RFC 5321, 3 and 4): the machine over a stream, and what its values stand for.
-use Rattle.std.specs.Prelude.{◌≡◌, ℕ, ◌+◌, ◌<◌, ◌≤◌, ◌++◌, List, [], ◌∷◌, codes, true, length, Option, None, Some, IfSome}
+use Rattle.std.specs.Prelude.{◌≡◌, ℕ, ◌<◌, ◌≤◌, ◌++◌, List, [], ◌∷◌, codes, true, length, Option, None, Some, IfSome}
 use Rattle.std.specs.List.{AllByRecursion, All, flat_map, list_all}
 use Rattle.std.specs.Option.{option_map}
 use Rattle.mail_wire.specs.Dots.{unstuffed}
@@ -132,7 +132,7 @@ machine_of session desk moments = record { state = state_of session.state; store
 
 -- The rest that stands behind a state: what was kept of a line, or what was read of data.
 abbrev pub HasRest : SmtpMachine → SmtpState → List ℕ → List ℕ → Type 0
-HasRest session (smtp.Data data) kept rest = HasRead session.reader rest
+HasRest session (smtp.Data taking) kept rest = HasRead session.reader rest
 HasRest session state kept rest = rest ≡ kept
 
 -- the states and the rests that a session stands for
@@ -157,7 +157,7 @@ KnowsState store ended = Unit {0}
 
 -- What was kept is no whole command. Data are read up to the store's limit, and nothing of them is kept beside.
 abbrev pub IsUnfinished : SmtpMachine → SmtpState → List ℕ → Desk → Type 0
-IsUnfinished session (smtp.Data data) kept desk = (kept ≡ []) × (session.reader.limit ≡ desk.store.message_max)
+IsUnfinished session (smtp.Data taking) kept desk = (kept ≡ []) × (session.reader.limit ≡ desk.store.message_max)
 IsUnfinished session state kept desk = next_line kept ≡ waiting
 
 -- what a session needs

@@ -1,6 +1,5 @@
-//! Laws of the trees of data, of which data are taken, of written paths, of transactions, and of what is kept.
-ghost use Rattle.std.specs.Prelude.{◌≡◌, ◌≢◌, ◌<◌, ◌++◌, ◌∷◌, ℕ, List, [], Bool, Option, Some, IfSome, length, true, codes};
-ghost use Rattle.std.specs.List.{All};
+//! Laws of which data are taken, of written paths, of transactions, and of what is kept.
+ghost use Rattle.std.specs.Prelude.{◌≡◌, ◌≢◌, ◌<◌, ◌++◌, ◌∷◌, ℕ, List, [], Option, Some, IfSome, true, codes};
 ghost use Rattle.mail_wire.specs.Message.{IsEnded};
 ghost use Rattle.session_core.specs.Turns.{behind};
 ghost use Rattle.address_grammar.specs.declared.Address.{Address};
@@ -26,11 +25,6 @@ ghost use Rattle.session_core.specs.Moments.{Moment};
 ghost use Rattle.smtp_session.specs.Transaction.{GoesOn, IsTransactionKept, TakesData, TakesRecipient, TakesSender, go_ahead, recipient_ok, sender_ok};
 ghost use Rattle.smtp_session.specs.declared.states.Client.{Client};
 ghost use Rattle.smtp_session.specs.declared.states.Envelope.{Envelope};
-
-/// Some function tells of all octets whether they have a tree of entities.
-pub fn trees_are_told()
-    ensures { (has_tree : List ℕ → Bool) × TellsTrees has_tree }
-{}
 
 /// With a recipient DATA is accepted. Data that a client sends of any lines that have a tree and are within the limits are
 /// accepted: over a stream they are kept and told to be stored, and what follows them is read on.

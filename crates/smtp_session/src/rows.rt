@@ -4,10 +4,10 @@ ghost use Rattle.std.specs.List.{All, list_any};
 ghost use Rattle.address_grammar.specs.Addresses.{address_text};
 ghost use Rattle.address_grammar.specs.Paths.{ComesInPath};
 ghost use Rattle.journal_records.specs.Addresses.{WithPaths, IsSendable};
-ghost use Rattle.mail_store.specs.Kept.{name_of};
+ghost use Rattle.mail_store.specs.Kept.{find_account, name_of};
 ghost use Rattle.mail_store.specs.StoreState.{StoreState};
 ghost use Rattle.smtp_grammar.specs.Commands.{command_of, is_client as is_client_of, words_of, path_behind as path_behind_of};
-ghost use Rattle.smtp_session.specs.Machine.{greeted as greeted_of, mail as mail_of, step, offers as offers_of, client_of, ehlo_step, helo_step, within_limit, lacks_smtputf8 as lacks_smtputf8_of, mail_by, mail_step, is_same_remote as is_same_remote_of, recipient_count as recipient_count_of, rcpt_local, rcpt_remote, rcpt_to, alone, rcpt_step, data_step, reset as reset_of};
+ghost use Rattle.smtp_session.specs.Machine.{greeted as greeted_of, mail as mail_of, step, offers as offers_of, client_of, ehlo_step, helo_step, within_limit, lacks_smtputf8 as lacks_smtputf8_of, mail_by, mail_step, is_same_remote as is_same_remote_of, recipient_count as recipient_count_of, rcpt_local, rcpt_remote, rcpt_to, alone, rcpt_step, data_step, ok as ok_of, reset as reset_of};
 ghost use Rattle.smtp_session.specs.Session.{Knows, KnowsState, reply_octets, state_of, state_or_ended};
 ghost use Rattle.session_core.specs.Meanings.{WithMeanings};
 
@@ -41,6 +41,10 @@ const OK: &[u8] = b"250 2.0.0 ok\r\n";
 
 const RECIPIENT_OK: &[u8] = b"250 2.1.5 ok\r\n";
 
+const UNVERIFIED: &[u8] = b"252 2.5.0 send and see\r\n";
+
+const UNKNOWN: &[u8] = b"500 5.5.2 unknown command\r\n";
+
 const BAD_ARGUMENT: &[u8] = b"501 5.5.4 bad argument\r\n";
 
 const OUT_OF_ORDER: &[u8] = b"503 5.5.1 out of order\r\n";
@@ -51,6 +55,8 @@ const NEEDS_SMTPUTF8: &[u8] = b"553 5.6.7 address needs SMTPUTF8\r\n";
 pub const TOO_LARGE: &[u8] = b"552 5.3.4 too large\r\n";
 
 const TOO_MANY: &[u8] = b"452 4.5.3 too many recipients\r\n";
+
+const NO_MAILBOX: &[u8] = b"550 5.1.1 no such mailbox\r\n";
 
 // What the server can do (RFC 5321, 4.1.1.1).
 fn offers(alloc: Global, store: &Store) -> Result<Octets, Memory>
@@ -367,6 +373,30 @@ fn rcpt_address(
     says(alloc, RECIPIENT_OK, SmtpState::Mail(next))
 }
 
+// RCPT with an address of a domain that is local.
+fn rcpt_mailbox(
+    alloc: Global,
+    session: Smtp<Mail>,
+    address: Address,
+    store: &Store,
+) -> Result<Reply, Memory>
+    requires client { is_client_of session.state.client.name ≡ true }
+    requires known { Knows store.now session.state.envelope }
+    requires address { IsSendable address }
+    ensures reply { IfOk result (λ reply. WithPaths (λ path_of. reply.octets
+        ≡ reply_octets (rcpt_local session.state.client session.state.envelope (find_account path_of store.now.kept address)).reply)) }
+    ensures next { IfOk result (λ reply. WithPaths (λ path_of. state_or_ended reply.next
+        ≡ (rcpt_local session.state.client session.state.envelope (find_account path_of store.now.kept address)).state)) }
+    ensures known { IfOk result (λ reply. KnowsState store.now (state_or_ended reply.next)) }
+{
+    let found = store.find_account(&address);
+    drop(address);
+    match found? {
+        Some(account) => rcpt_account(alloc, session, account, store),
+        None => says(alloc, NO_MAILBOX, SmtpState::Mail(session)),
+    }
+}
+
 // RCPT with an address that was read.
 fn rcpt_path(
     alloc: Global,
@@ -386,17 +416,10 @@ fn rcpt_path(
     if lacks_smtputf8(session.state.envelope.smtputf8, &address) {
         return says(alloc, NEEDS_SMTPUTF8, SmtpState::Mail(session));
     }
-    if !store.is_local(domain_of(&address))? {
-        return rcpt_address(alloc, session, address, store);
+    if store.is_local(domain_of(&address))? {
+        return rcpt_mailbox(alloc, session, address, store);
     }
-    match store.find_account(&address)? {
-        Some(account) => rcpt_account(alloc, session, account, store),
-        None => says(
-            alloc,
-            b"550 5.1.1 no such mailbox\r\n",
-            SmtpState::Mail(session),
-        ),
-    }
+    rcpt_address(alloc, session, address, store)
 }
 
 // The text of a path, where nothing stands behind it.
@@ -490,6 +513,27 @@ fn reset(state: SmtpState) -> SmtpState
     }
 }
 
+// RSET, in any state.
+fn answer_rset(alloc: Global, state: SmtpState, store: &Store) -> Result<Reply, Memory>
+    requires { KnowsState store.now (state_of state) }
+    ensures reply { IfOk result (λ reply. reply.octets ≡ reply_octets (ok_of (reset_of (state_of state))).reply) }
+    ensures next { IfOk result (λ reply. state_or_ended reply.next ≡ reset_of (state_of state)) }
+    ensures known { IfOk result (λ reply. KnowsState store.now (state_or_ended reply.next)) }
+{
+    says(alloc, OK, reset(state))
+}
+
+// QUIT, in any state: none is left.
+fn quit(alloc: Global) -> Result<Reply, Memory>
+    ensures reply { IfOk result (λ reply. reply.octets ≡ reply_octets (codes "221 2.0.0 bye" ∷ [])) }
+    ensures next { IfOk result (λ reply. reply.next ≡ None) }
+{
+    Ok(Reply {
+        octets: Octets::from_slice(alloc, b"221 2.0.0 bye\r\n")?,
+        next: None,
+    })
+}
+
 // A command, in any state.
 #[tactic(auto, unfolding(crate::specs::Machine::step))]
 fn answer_command(
@@ -512,14 +556,14 @@ fn answer_command(
         Verb::Mail => answer_mail(alloc, state, argument, store),
         Verb::Rcpt => answer_rcpt(alloc, state, argument, store),
         Verb::Data => answer_data(alloc, state, store),
-        Verb::Rset => says(alloc, OK, reset(state)),
+        Verb::Rset => answer_rset(alloc, state, store),
         Verb::Noop => says(alloc, OK, state),
-        Verb::Vrfy => says(alloc, b"252 2.5.0 send and see\r\n", state),
-        Verb::Quit => Ok(Reply {
-            octets: Octets::from_slice(alloc, b"221 2.0.0 bye\r\n")?,
-            next: None,
-        }),
-        Verb::Other => says(alloc, b"500 5.5.2 unknown command\r\n", state),
+        Verb::Vrfy => says(alloc, UNVERIFIED, state),
+        Verb::Quit => {
+            drop(state);
+            quit(alloc)
+        }
+        Verb::Other => says(alloc, UNKNOWN, state),
     }
 }
 

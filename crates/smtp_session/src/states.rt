@@ -1,7 +1,5 @@
 //! The states of a session (RFC 5321, 4.1.4), each a type of its own.
-ghost use Rattle.std.specs.Prelude.{◌≡◌, ◌++◌, ◌∷◌, [], IfOk, true, false, Option};
-ghost use Rattle.smtp_session.specs.Machine.{greeted, reset, State};
-ghost use Rattle.smtp_session.specs.Session.{state_of};
+ghost use Rattle.std.specs.Prelude.{◌≡◌, ◌++◌, ◌∷◌, [], IfOk};
 
 use address_grammar::Address;
 use mail_store::{Addresses, Numbers};

@@ -1,16 +1,23 @@
 -- What a delivery puts into a store, and what refuses an account; words of the private calls.
-use Rattle.std.specs.Prelude.{ℕ, ◌+◌, ◌≤◌, ◌≡◌, ◌<◌, List, map, length, true, ◌||◌, not, Option, Some, None, option_and_then, if◌then◌else◌}
+use Rattle.std.specs.Prelude.{ℕ, ◌+◌, ◌≤◌, ◌≡◌, ◌<◌, List, ◌++◌, map, length, true, ◌||◌, not, Option, Some, None, option_and_then, if◌then◌else◌}
+use Rattle.std.specs.List.{flat_map}
 use Rattle.std.specs.Option.{option_to_list}
 use Rattle.mail_store.specs.declared.changing.StoreFault.{StoreFault}
 use Rattle.mail_store.specs.declared.changing.StoreFault.TheVariants as faults
-use Rattle.mail_store.specs.Changing.{are_too_many}
+use Rattle.mail_store.specs.Changing.{are_too_many, account_refusal}
 use Rattle.mail_store.specs.declared.delivery.Delivery.{Delivery}
+use Rattle.mail_store.specs.declared.kept.Account.{Account}
 use Rattle.mail_store.specs.declared.kept.Entry.{Entry}
 use Rattle.mail_store.specs.declared.kept.Message.{Message}
-use Rattle.journal_records.specs.declared.limits.TheConstants.{RECORD_MAX}
+use Rattle.address_grammar.specs.declared.Address.{Address}
+use Rattle.address_grammar.specs.Addresses.{address_text}
+use Rattle.journal_records.specs.declared.limits.TheConstants.{RECORD_MAX, TEXT_MAX}
+use Rattle.journal_records.specs.Addresses.{IsSendable, WithPaths, mailbox_key}
 use Rattle.journal_records.specs.declared.records.Record.{Record}
 use Rattle.journal_records.specs.declared.records.Record.TheVariants as records
+use Rattle.journal_records.specs.Spelling.{record_text}
 use Rattle.mail_store.specs.Kept.{Kept, waiting, is_local}
+use Rattle.mail_store.specs.StoreState.{StoreState}
 
 -- a live message without flags
 abbrev pub copied : List ℕ → List ℕ → ℕ → Message
@@ -25,6 +32,20 @@ entry_of other = None
 abbrev pub IsEntryOf : Option Entry → List Record → Type 0
 IsEntryOf entry records = (one : Option Record) × (option_to_list one ≡ records) × (entry ≡ option_and_then entry_of one)
 
+-- what stands before the octets in the text of a record of the queue
+abbrev pub IsFrontOf : Option (List ℕ) → Option Record → Type 0
+IsFrontOf front (Some (records.Queue path addresses octets)) =
+    (before : List ℕ) × (front ≡ Some before) × (before ++ octets ≡ record_text (records.Queue path addresses octets))
+IsFrontOf front other = front ≡ None
+
+-- texts that end with the same octets, by what stands before these
+abbrev pub fronts_text : List (List ℕ) → List ℕ → List ℕ
+fronts_text fronts octets = flat_map (λ front. front ++ octets) fronts
+
+-- the texts of a delivery's records, by what stands before their octets
+abbrev pub delivery_text : List (List ℕ) → Option (List ℕ) → Delivery → List ℕ
+delivery_text local remote delivery = fronts_text local delivery.local_octets ++ fronts_text (option_to_list remote) delivery.remote_octets
+
 -- where there are local accounts, a copy's record is within the limit
 abbrev pub HasShortCopies : Delivery → Type 0
 HasShortCopies delivery = 0 < length delivery.local → length delivery.date + length delivery.local_octets + 14 ≤ RECORD_MAX
@@ -35,3 +56,14 @@ room_refusal kept domain =
     if not (is_local kept domain) then Some faults.NoSuch
     else if are_too_many (length kept.accounts) 1 || are_too_many (length kept.folders) 1 then Some faults.TooLarge
     else None
+
+-- what is written of an account that isn't refused, and it
+pub record IsNewAccount (store : StoreState) (name : List ℕ) (number : ℕ) (text : List ℕ) (own : Account) : Type 0 where
+  pub address : Address
+  pub own_is : own.address ≡ address_text address
+  pub sendable : IsSendable address
+  pub short : length own.password ≤ TEXT_MAX
+  pub name_is : name ≡ mailbox_key address
+  pub number_is : number ≡ length store.kept.accounts
+  pub text_is : text ≡ record_text (records.Account own.address own.password)
+  pub free : WithPaths (λ path_of. account_refusal path_of store.kept address ≡ None)

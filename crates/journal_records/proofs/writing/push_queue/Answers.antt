@@ -1,33 +1,22 @@
-use Rattle.std.proofs.Common.{◌++◌, ◌∷◌, length}
+use Rattle.std.proofs.Common.{◌++◌, ◌∷◌, length, append-nil}
 use Rattle.std.specs.List.{flat_map}
 use Rattle.std.proofs.lemmas.Result.{err_from_is_err_and}
 use Rattle.journal_records.specs.Spelling.{number, octet_list}
-use Rattle.journal_records.proofs.WritingLemmas.{first_of, first_behind, puts_behind, queue_text}
+use Rattle.journal_records.proofs.WritingLemmas.{first_of, puts_behind, queue_behind}
 use Rattle.journal_records.proofs.writing.push_queue.Goals as goal
 
 pub returns-in_err-push_queue_front : goal.returns-in_err-push_queue_front
 returns-in_err-push_queue_front c =
     let failed = err_from_is_err_and c.from_residual.result c.from_residual.ensures.1 in
-    let front = 7 ∷ (octet_list c.args.path.now ++ number (length c.args.addresses.now)) in
-    let behind = flat_map octet_list c.args.addresses.now ++ octet_list c.args.octets.now in
-    rw (failed.1, ← queue_text c.args.path.now (length c.args.addresses.now) behind)
-    (first_of c.args.journal.now c.push_queue_front.new.journal front behind c.in_err-push_queue_front.ensures)
-
-pub returns-in_err-push_lists : goal.returns-in_err-push_lists
-returns-in_err-push_lists c =
-    let failed = err_from_is_err_and c.from_residual-in_err-push_lists.result c.from_residual-in_err-push_lists.ensures.1 in
-    let front = 7 ∷ (octet_list c.args.path.now ++ number (length c.args.addresses.now)) in
-    let addresses = flat_map octet_list c.args.addresses.now in
-    let octets = octet_list c.args.octets.now in
-    rw (failed.1, ← queue_text c.args.path.now (length c.args.addresses.now) (addresses ++ octets))
-    (first_behind c.args.journal.now c.push_queue_front.new.journal c.push_lists.new.journal front (addresses ++ octets) c.in_ok-push_queue_front.ensures
-    (first_of c.push_queue_front.new.journal c.push_lists.new.journal addresses octets c.in_err-push_lists.ensures))
+    let addresses = c.args.addresses.now in
+    let front = 7 ∷ (octet_list c.args.path.now ++ (number (length addresses) ++ (flat_map octet_list addresses ++ number (length c.args.octets.now)))) in
+    rw (failed.1, ← queue_behind c.args.path.now addresses c.args.octets.now)
+    (first_of c.args.journal.now c.push_queue_front.new.journal front c.args.octets.now c.in_err-push_queue_front.ensures)
 
 pub returns : goal.returns
 returns c =
-    let front = 7 ∷ (octet_list c.args.path.now ++ number (length c.args.addresses.now)) in
-    let addresses = flat_map octet_list c.args.addresses.now in
-    let octets = octet_list c.args.octets.now in
-    rw (← queue_text c.args.path.now (length c.args.addresses.now) (addresses ++ octets))
-    (puts_behind c.args.journal.now c.push_queue_front.new.journal c.push_list.new.journal front (addresses ++ octets) c.push_list.result c.in_ok-push_queue_front.ensures
-    (puts_behind c.push_queue_front.new.journal c.push_lists.new.journal c.push_list.new.journal addresses octets c.push_list.result c.in_ok-push_lists.ensures c.push_list.ensures))
+    let addresses = c.args.addresses.now in
+    let front = 7 ∷ (octet_list c.args.path.now ++ (number (length addresses) ++ (flat_map octet_list addresses ++ number (length c.args.octets.now)))) in
+    rw (← queue_behind c.args.path.now addresses c.args.octets.now)
+    (puts_behind c.args.journal.now c.push_queue_front.new.journal c.push_parts.new.journal front c.args.octets.now c.push_parts.result
+    c.in_ok-push_queue_front.ensures (rw (append-nil c.args.octets.now) at c.push_parts.ensures))

@@ -6,12 +6,13 @@ use Rattle.address_grammar.specs.Addresses.{address_text}
 use Rattle.address_grammar.specs.declared.Address.{Address}
 use Rattle.mail_store.specs.Changing.{account_refusal, domain_refusal}
 use Rattle.journal_records.specs.declared.records.Record.TheVariants as records
+use Rattle.session_core.specs.Serving.{OfCourse}
+use Rattle.session_core.specs.declared.desk.TheConstants.{LIMITS}
 use Rattle.setup_command.specs.AddingRuns.{RunsAdding, IsExactAdding}
 use Rattle.setup_command.specs.Statuses.{status_of}
 use Rattle.mail_command.specs.declared.roles.Role.{Role}
-use Rattle.mail_command.specs.Protocols.{WithProtocol}
+use Rattle.mail_command.specs.Protocols.{protocol_for}
 use Rattle.mail_command.specs.Running.{RunsSession}
-use Rattle.mail_command.specs.declared.serving.TheConstants.{LIMITS}
 use Rattle.mail_command.specs.Words.{OfSession, OfAccount, OfDomain}
 use Rattle.mail_command.proofs.CommandLemmas.{account_at, domain_at, none_opens, not_begun}
 use Rattle.mail_command.proofs.RunLemmas.{runs_downgrade}
@@ -31,7 +32,7 @@ returns-in-Some-Downgrade-clause-downgrade g c _ =
 pub returns-in-Some-Session-clause-session : goal.returns-in-Some-Session-clause-session
 returns-in-Some-Session-clause-session g c role is =
     subst
-    (λ (role : Role). WithProtocol role (g.C.Clock.tells c.args.clock.now) (λ protocol. RunsSession protocol LIMITS (g.J.Keeper.tells c.args.keeper.now).octets (g.J.Keeper.tells c.run_session.new.keeper).octets
+    (λ (role : Role). OfCourse (protocol_for role) (g.C.Clock.tells c.args.clock.now) (λ course. RunsSession course LIMITS (g.J.Keeper.tells c.args.keeper.now).octets (g.J.Keeper.tells c.run_session.new.keeper).octets
     (g.W.Wire.tells c.args.wire.now) (g.W.Wire.tells c.run_session.new.wire) (status_of c.run_session.result)))
     (session_once c.args.words.now c.in-Some-Session.role role (rw (c.in-Some-Session.is, c.in-Some-Session.field-0-is) at c.in_ok-command_of.ensures.names) is) c.run_session.ensures.runs
 

@@ -1,18 +1,8 @@
-use Rattle.std.proofs.Common.{◌≡◌, ℕ, ◌∷◌, [], None, length, sym, ap, ap₂, subst, ◌∙◌}
+use Rattle.std.proofs.Common.{ℕ, sym, subst}
 use Rattle.std.proofs.lemmas.Result.{err_from_is_err_and}
-use Rattle.address_grammar.specs.Addresses.{address_text}
-use Rattle.address_grammar.proofs.WritingLemmas.{path_again}
 use Rattle.mail_store.specs.declared.changing.NewAccount.{NewAccount}
-use Rattle.journal_records.specs.declared.records.Record.TheVariants as records
-use Rattle.journal_records.specs.Addresses.{IsTextOf, WithPaths}
-use Rattle.mail_store.specs.Changing.{account_refusal}
-use Rattle.mail_store.specs.private.Names.{number_of, PutsName}
-use Rattle.mail_store.specs.private.Store.{kept_of, indexes_of, state_of}
-use Rattle.mail_store.specs.StoreState.{StoreState}
-use Rattle.mail_store.proofs.ChangeLemmas.{changes-unwritten, refused-unwritten, changes-written, text-one}
-use Rattle.mail_store.proofs.DomainLemmas.{AreIndexes-same_mailboxes}
-use Rattle.mail_store.proofs.AccountLemmas.{account_taken, refused_as, room_for, AreRecords-account, account_after}
-use Rattle.mail_store.proofs.IndexLemmas.{AreIndexes-account}
+use Rattle.mail_store.specs.Changing.{account_refusal, IsRefusedAs}
+use Rattle.mail_store.proofs.AccountLemmas.{refused_as}
 use Rattle.mail_store.proofs.storing.Store.add_account.Goals as goal
 
 pub returns-in_err-made-clause-refusal : goal.returns-in_err-made-clause-refusal
@@ -21,87 +11,24 @@ returns-in_err-made-clause-refusal g c = λ path_of reads.
     let fault = c.in_err-made.field-0.0 in
     rw (failed.1, failed.2) (refused_as NewAccount ℕ fault (account_refusal path_of c.args.self.now.kept c.args.address.now) (c.in_err-made.ensures.refusal path_of reads))
 
-pub write_named-requires : goal.write_named-requires
-write_named-requires g c =
-    let free = subst (λ s. WithPaths (λ path_of. account_refusal path_of s.kept c.args.address.now ≡ None)) (sym c.self.view_is) c.in_ok-made.ensures.refusal in
-    (account_taken (kept_of c.self.inside) (indexes_of c.self.inside) c.args.address.now c.in_ok-made.made.named.name c.self.invariant.indexes c.requires.address.0 c.in_ok-made.ensures.name free).0
-
-pub invariant_of-self-in_err-write_named : goal.invariant_of-self-in_err-write_named
-invariant_of-self-in_err-write_named g c = record {
-  indexes = rw (
-    c.in_ok-inbox.ensures.accounts,
-    c.in_ok-inbox.ensures.folders,
-    c.in_ok-inbox.ensures.contents,
-    c.in_ok-inbox.ensures.inboxes,
-  ) (AreIndexes-same_mailboxes (kept_of c.self.inside) (indexes_of c.self.inside) (number_of c.write_named.new.numbers) c.self.invariant.indexes c.in_err-write_named.ensures.err);
-  message_bound = c.self.invariant.message_bound;
-}
-
-pub returns-in_err-write_named-clause-changes : goal.returns-in_err-write_named-clause-changes
-returns-in_err-write_named-clause-changes g c =
-    let failed = err_from_is_err_and c.from_residual-in_err-write_named.result c.from_residual-in_err-write_named.ensures.1 in
-    let made = c.in_ok-made.made in
-    let free = subst (λ s. WithPaths (λ path_of. account_refusal path_of s.kept c.args.address.now ≡ None)) (sym c.self.view_is) c.in_ok-made.ensures.refusal in
-    let taken = (account_taken (kept_of c.self.inside) (indexes_of c.self.inside) c.args.address.now made.named.name c.self.invariant.indexes c.requires.address.0 c.in_ok-made.ensures.name free).1 in
-    let room = room_for (kept_of c.self.inside) c.args.address.now.domain taken in
-    let one = records.Account (address_text c.args.address.now) c.args.password.now in
-    let text = text-one one made.named.text c.in_ok-made.ensures.text in
-    let them = AreRecords-account (kept_of c.self.inside) c.args.address.now c.args.password.now c.requires.address c.requires.password room.0 room.1 in
-    let n = ap₂ (λ a f. let s : StoreState = record { kept = record (kept_of c.self.inside) { accounts = a; folders = f }; message_max = c.self.inside.message_max; failed = c.write_named.new.failed } in s)
-    c.in_ok-inbox.ensures.accounts c.in_ok-inbox.ensures.folders in
-    rw (failed.1, failed.2)
-    (changes-unwritten ℕ c.args.self.now (state_of c.self.inside) _ c.write_named.new.failed (g.J.Keeper.tells c.args.keeper.now).octets (g.J.Keeper.tells c.write_named.new.keeper).octets
-    c.in_err-write_named.field-0.0 (one ∷ []) made.named.text c.self.view_is them text n c.in_err-write_named.ensures.writes)
-
-pub returns-in_err-write_named-clause-refusal : goal.returns-in_err-write_named-clause-refusal
-returns-in_err-write_named-clause-refusal g c = λ path_of reads.
-    let failed = err_from_is_err_and c.from_residual-in_err-write_named.result c.from_residual-in_err-write_named.ensures.1 in
-    let none = c.in_ok-made.ensures.refusal path_of reads in
-    rw (failed.1, failed.2) (refused_as (Unit {0}) ℕ c.in_err-write_named.field-0.0 (account_refusal path_of c.args.self.now.kept c.args.address.now)
-    (refused-unwritten (Unit {0}) c.self.inside.failed c.write_named.new.failed (g.J.Keeper.tells c.args.keeper.now).octets (g.J.Keeper.tells c.write_named.new.keeper).octets
-    c.in_err-write_named.field-0.0 c.in_ok-made.made.named.text (account_refusal path_of c.args.self.now.kept c.args.address.now) none c.in_err-write_named.ensures.writes))
-
-pub invariant_of-self-2 : goal.invariant_of-self-2
-invariant_of-self-2 g c =
-    let made = c.in_ok-made.made in
-    let free = subst (λ s. WithPaths (λ path_of. account_refusal path_of s.kept c.args.address.now ≡ None)) (sym c.self.view_is) c.in_ok-made.ensures.refusal in
-    let taken = (account_taken (kept_of c.self.inside) (indexes_of c.self.inside) c.args.address.now made.named.name c.self.invariant.indexes c.requires.address.0 c.in_ok-made.ensures.name free).1 in
-    let room = room_for (kept_of c.self.inside) c.args.address.now.domain taken in
-    let number = c.in_ok-made.ensures.number ∙ ap (λ s. length s.kept.accounts) (sym c.self.view_is) in
-    let puts : PutsName (number_of c.self.inside.mailboxes) (number_of c.write_named.new.numbers) made.named.name made.named.number = c.in_ok-write_named.ensures.ok in
-    let named = subst (λ k. PutsName (number_of c.self.inside.mailboxes) (number_of c.write_named.new.numbers) k (length c.self.inside.accounts.items)) c.in_ok-made.ensures.name
-    (subst (PutsName (number_of c.self.inside.mailboxes) (number_of c.write_named.new.numbers) made.named.name) number puts) in
-    let text : IsTextOf made.own.address c.args.address.now = subst (λ t. IsTextOf t c.args.address.now) (sym c.in_ok-made.ensures.address) (path_again c.args.address.now c.requires.address.0) in
-    record {
-      indexes = rw (
-        c.put_account.ensures.accounts,
-        c.put_account.ensures.folders,
-        c.put_account.ensures.contents,
-        c.put_account.ensures.inboxes,
-        c.in_ok-inbox.ensures.accounts,
-        c.in_ok-inbox.ensures.folders,
-        c.in_ok-inbox.ensures.contents,
-        c.in_ok-inbox.ensures.inboxes,
-      ) (AreIndexes-account (kept_of c.self.inside) (indexes_of c.self.inside) (number_of c.write_named.new.numbers) made.own c.args.address.now c.in_ok-inbox.inbox c.self.invariant.indexes text room.0 room.1 named);
-      message_bound = c.self.invariant.message_bound;
+pub put_new_account-requires : goal.put_new_account-requires
+put_new_account-requires g c =
+    let made = c.in_ok-made.ensures in record {
+      address = c.args.address.now;
+      own_is = made.address;
+      sendable = c.requires.address;
+      short = rw made.password c.requires.password;
+      name_is = made.name;
+      number_is = made.number;
+      text_is = rw (made.address, made.password) made.text;
+      free = made.refusal;
     }
 
 pub returns-clause-changes : goal.returns-clause-changes
 returns-clause-changes g c =
-    let made = c.in_ok-made.made in
-    let free = subst (λ s. WithPaths (λ path_of. account_refusal path_of s.kept c.args.address.now ≡ None)) (sym c.self.view_is) c.in_ok-made.ensures.refusal in
-    let taken = (account_taken (kept_of c.self.inside) (indexes_of c.self.inside) c.args.address.now made.named.name c.self.invariant.indexes c.requires.address.0 c.in_ok-made.ensures.name free).1 in
-    let room = room_for (kept_of c.self.inside) c.args.address.now.domain taken in
-    let one = records.Account (address_text c.args.address.now) c.args.password.now in
-    let text = text-one one made.named.text c.in_ok-made.ensures.text in
-    let them = AreRecords-account (kept_of c.self.inside) c.args.address.now c.args.password.now c.requires.address c.requires.password room.0 room.1 in
-    let n = account_after (state_of c.self.inside) c.write_named.new.failed made.own (address_text c.args.address.now) c.args.password.now c.in_ok-inbox.inbox
-    c.put_account.new.accounts.items c.put_account.new.folders.items c.in_ok-made.ensures.address c.in_ok-made.ensures.password c.in_ok-inbox.ensures.name
-    (rw c.in_ok-inbox.ensures.accounts at c.put_account.ensures.accounts)
-    (rw (c.in_ok-inbox.ensures.accounts, c.in_ok-inbox.ensures.folders) at c.put_account.ensures.folders) in
-    let written = c.in_ok-write_named.ensures.writes in
-    changes-written c.args.self.now (state_of c.self.inside) c.write_named.new.failed _ (g.J.Keeper.tells c.args.keeper.now).octets (g.J.Keeper.tells c.write_named.new.keeper).octets
-    (one ∷ []) made.named.text c.self.view_is them text written.0 written.1 n
+    let made = c.in_ok-made.ensures in
+    rw (made.address, made.password) at c.put_new_account.ensures.changes
 
 pub returns-clause-refusal : goal.returns-clause-refusal
-returns-clause-refusal g c = c.in_ok-made.ensures.refusal
+returns-clause-refusal g c = λ path_of reads.
+    subst (IsRefusedAs c.put_new_account.result) (sym (c.in_ok-made.ensures.refusal path_of reads)) c.put_new_account.ensures.refusal

@@ -1,4 +1,4 @@
-use Rattle.std.proofs.Common.{◌+◌, ◌<◌, ◌≤◌, length, false, subst, arith}
+use Rattle.std.proofs.Common.{◌+◌, ◌<◌, ◌≤◌, length, subst, arith}
 use Rattle.std.specs.Prelude.{IfOk, IsTrue, ◌↔◌}
 use Rattle.journal_records.specs.declared.records.Record.TheVariants as records
 use Rattle.mail_store.specs.declared.limits.TheConstants.{THINGS_MAX}

@@ -1,11 +1,9 @@
-use Rattle.std.proofs.Common.{◌≡◌, true, false, sym, ap, subst, ◌∙◌}
-use Rattle.std.specs.List.{flat_map}
+use Rattle.std.proofs.Common.{◌≡◌, true, false, sym, subst, ◌∙◌}
 use Rattle.std.proofs.lemmas.Result.{err_from_is_err_and}
-use Rattle.mail_store.specs.declared.changing.Parcel.{Parcel}
+use Rattle.mail_store.specs.declared.parcels.Parcel.{Parcel}
 use Rattle.mail_store.specs.Changing.{IsRefusedAs, delivered, delivery_refusal}
-use Rattle.journal_records.specs.Spelling.{record_text}
 use Rattle.mail_store.proofs.AccountLemmas.{refused_as}
-use Rattle.mail_store.proofs.EntryLemmas.{changes-nothing}
+use Rattle.mail_store.proofs.EntryLemmas.{changes-nothing, for-nobody, nobody-of}
 use Rattle.mail_store.proofs.storing.Store.deliver.Goals as goal
 
 true_false : true ≡ false → ⊥
@@ -16,13 +14,14 @@ returns-in_err-parcel-clause-refusal g c =
     let failed = err_from_is_err_and c.from_residual.result c.from_residual.ensures.1 in
     rw (failed.1, failed.2) (refused_as Parcel (Unit {0}) c.in_err-parcel.field-0.0 (delivery_refusal c.args.self.now c.args.delivery.now) c.in_err-parcel.ensures.refusal)
 
-pub returns-then-is_empty-clause-changes : goal.returns-then-is_empty-clause-changes
-returns-then-is_empty-clause-changes g c =
-    changes-nothing c.args.self.now (g.J.Keeper.tells c.args.keeper.now).octets (delivered c.args.self.now.kept c.args.delivery.now) c.in_ok-parcel.parcel.text c.in_ok-parcel.ensures.text (c.is_empty.ensures.0 c.if-is_empty.true)
+pub returns-then-is_for_nobody-clause-changes : goal.returns-then-is_for_nobody-clause-changes
+returns-then-is_for_nobody-clause-changes g c =
+    changes-nothing c.args.self.now (g.J.Keeper.tells c.args.keeper.now).octets (delivered c.args.self.now.kept c.args.delivery.now)
+    (for-nobody c.args.self.now.kept c.args.delivery.now (sym c.is_for_nobody.ensures ∙ c.if-is_for_nobody.true))
 
 pub returns-clause-refusal : goal.returns-clause-refusal
 returns-clause-refusal g c = subst (IsRefusedAs c.put_delivery.result) (sym c.in_ok-parcel.ensures.refusal) c.put_delivery.ensures.refusal
 
 pub returns-clause-nothing : goal.returns-clause-nothing
 returns-clause-nothing g c = λ none.
-    absurd (true_false (sym (c.is_empty.ensures.1 (c.in_ok-parcel.ensures.text ∙ ap (flat_map record_text) none)) ∙ c.if-is_empty.false))
+    absurd (true_false (sym (nobody-of c.args.self.now.kept c.args.delivery.now none) ∙ sym c.is_for_nobody.ensures ∙ c.if-is_for_nobody.false))

@@ -1,11 +1,11 @@
-use Rattle.std.proofs.Common.{◌≡◌, None, ap₂, ◌+◌, ◌<◌, List, ◌++◌, length, map, sym, ap, subst, ◌∙◌}
+use Rattle.std.proofs.Common.{◌≡◌, None, ap₂, ◌<◌, List, ◌++◌, length, map, sym, ap, subst, ◌∙◌}
 use Rattle.std.specs.List.{All}
 use Rattle.std.specs.Option.{option_to_list}
 use Rattle.std.proofs.lemmas.Result.{err_from_is_err_and}
 use Rattle.mail_store.specs.declared.kept.Entry.{Entry}
 use Rattle.mail_store.specs.declared.kept.Message.{Message}
 use Rattle.mail_store.specs.Changing.{inboxes_of, IsDeliverable, delivered, delivery_refusal}
-use Rattle.mail_store.specs.private.Delivering.{copied}
+use Rattle.mail_store.specs.private.Delivering.{copied, delivery_text}
 use Rattle.mail_store.specs.Kept.{after_all}
 use Rattle.mail_store.specs.Records.{AreRecords}
 use Rattle.mail_store.specs.private.Store.{kept_of, indexes_of, state_of}
@@ -15,29 +15,30 @@ use Rattle.mail_store.proofs.DeliveryLemmas.{AreRecords-delivered, copies_known,
 use Rattle.mail_store.proofs.EntryLemmas.{entry-few, AreIndexes-delivered, after-delivered}
 use Rattle.mail_store.proofs.storing.Store.put_delivery.Goals as goal
 
-pub returns-in_err-write-clause-changes : goal.returns-in_err-write-clause-changes
-returns-in_err-write-clause-changes g c =
-    let failed = err_from_is_err_and c.from_residual-in_err-write.result c.from_residual-in_err-write.ensures.1 in
+pub returns-in_err-write_delivery-clause-changes : goal.returns-in_err-write_delivery-clause-changes
+returns-in_err-write_delivery-clause-changes g c =
+    let failed = err_from_is_err_and c.from_residual.result c.from_residual.ensures.1 in
     let delivery = c.args.delivery.now in
     let parcel = c.args.parcel in
     let small = delivery_free (state_of c.self.inside) delivery (subst (λ s. delivery_refusal s delivery ≡ None) (sym c.self.view_is) c.requires.taken) in
     let old = state_of c.self.inside in
     let deliverable = subst (λ s. IsDeliverable s delivery) (sym c.self.view_is) c.requires.deliverable in
     let them = AreRecords-delivered old (indexes_of c.self.inside) delivery c.self.invariant.indexes c.self.invariant.message_bound deliverable small in
-    let text = c.as_slice.ensures ∙ c.requires.text in
+    let text = c.requires.text in
+    let octets = delivery_text parcel.fronts.local.items parcel.fronts.remote delivery in
     let all = ap (λ s. delivered s.kept delivery) c.self.view_is in
-    let n = ap₂ (λ m e. let s : StoreState = record { kept = record (kept_of c.self.inside) { messages = m; entries = e }; message_max = c.self.inside.message_max; failed = c.write.new.failed } in s)
-    c.in_ok-reserve_delivery.ensures.messages c.in_ok-reserve_delivery.ensures.entries in
+    let n = ap₂ (λ m e. let s : StoreState = record { kept = record (kept_of c.self.inside) { messages = m; entries = e }; message_max = c.self.inside.message_max; failed = c.write_delivery.new.failed } in s)
+    c.in_err-write_delivery.ensures.messages c.in_err-write_delivery.ensures.entries in
     rw (failed.1, failed.2)
-    (changes-unwritten (Unit {0}) c.args.self.now old _ c.write.new.failed (g.J.Keeper.tells c.args.keeper.now).octets (g.J.Keeper.tells c.write.new.keeper).octets
-    c.in_err-write.field-0.0 (delivered c.args.self.now.kept delivery) c.as_slice.result.now c.self.view_is (subst (AreRecords old.kept) all them) text n c.in_err-write.ensures.writes)
+    (changes-unwritten (Unit {0}) c.args.self.now old _ c.write_delivery.new.failed (g.J.Keeper.tells c.args.keeper.now).octets (g.J.Keeper.tells c.write_delivery.new.keeper).octets
+    c.in_err-write_delivery.field-0.0 (delivered c.args.self.now.kept delivery) octets c.self.view_is (subst (AreRecords old.kept) all them) text n c.in_err-write_delivery.ensures.writes)
 
 pub put_parcel-requires-clause-few : goal.put_parcel-requires-clause-few
 put_parcel-requires-clause-few g c =
     let delivery = c.args.delivery.now in
     let parcel = c.args.parcel in
     let small = delivery_free (state_of c.self.inside) delivery (subst (λ s. delivery_refusal s delivery ≡ None) (sym c.self.view_is) c.requires.taken) in
-    rw c.in_ok-reserve_delivery.ensures.messages
+    rw c.in_ok-write_delivery.ensures.messages
     (copies_few (kept_of c.self.inside) c.self.inside.message_max delivery parcel.copies.items small
     (c.requires.copies ∙ ap (λ s. map (copied delivery.date delivery.local_octets) (inboxes_of s.kept delivery.local)) (sym c.self.view_is)))
 
@@ -63,8 +64,8 @@ invariant_of-self-2 g c =
     let small = delivery_free (state_of c.self.inside) delivery (subst (λ s. delivery_refusal s delivery ≡ None) (sym c.self.view_is) c.requires.taken) in
     let entry = c.requires.entry in
     let copies = c.requires.copies ∙ ap (λ s. map (copied delivery.date delivery.local_octets) (inboxes_of s.kept delivery.local)) (sym c.self.view_is) in
-    let messages = c.put_parcel.ensures.messages ∙ ap (λ (l : List Message). l ++ parcel.copies.items) c.in_ok-reserve_delivery.ensures.messages in
-    let entries = c.put_parcel.ensures.entries ∙ ap (λ (l : List Entry). l ++ option_to_list parcel.entry) c.in_ok-reserve_delivery.ensures.entries in
+    let messages = c.put_parcel.ensures.messages ∙ ap (λ (l : List Message). l ++ parcel.copies.items) c.in_ok-write_delivery.ensures.messages in
+    let entries = c.put_parcel.ensures.entries ∙ ap (λ (l : List Entry). l ++ option_to_list parcel.entry) c.in_ok-write_delivery.ensures.entries in
     record {
       indexes = AreIndexes-delivered (kept_of c.self.inside) (indexes_of c.self.inside) c.self.inside.message_max delivery parcel.copies.items entry.0 parcel.entry
           c.put_parcel.new.messages.items c.put_parcel.new.entries.items c.put_parcel.new.contents.items c.put_parcel.new.previous.items c.put_parcel.new.recipients
@@ -82,14 +83,15 @@ returns-clause-changes g c =
     let old = state_of c.self.inside in
     let deliverable = subst (λ s. IsDeliverable s delivery) (sym c.self.view_is) c.requires.deliverable in
     let them = AreRecords-delivered old (indexes_of c.self.inside) delivery c.self.invariant.indexes c.self.invariant.message_bound deliverable small in
-    let text = c.as_slice.ensures ∙ c.requires.text in
+    let text = c.requires.text in
+    let octets = delivery_text parcel.fronts.local.items parcel.fronts.remote delivery in
     let all = ap (λ s. delivered s.kept delivery) c.self.view_is in
     let copies = c.requires.copies ∙ ap (λ s. map (copied delivery.date delivery.local_octets) (inboxes_of s.kept delivery.local)) (sym c.self.view_is) in
-    let messages = c.put_parcel.ensures.messages ∙ ap (λ (l : List Message). l ++ parcel.copies.items) c.in_ok-reserve_delivery.ensures.messages in
-    let entries = c.put_parcel.ensures.entries ∙ ap (λ (l : List Entry). l ++ option_to_list parcel.entry) c.in_ok-reserve_delivery.ensures.entries in
+    let messages = c.put_parcel.ensures.messages ∙ ap (λ (l : List Message). l ++ parcel.copies.items) c.in_ok-write_delivery.ensures.messages in
+    let entries = c.put_parcel.ensures.entries ∙ ap (λ (l : List Entry). l ++ option_to_list parcel.entry) c.in_ok-write_delivery.ensures.entries in
     let kept = after-delivered old.kept delivery parcel.copies.items entry.0 parcel.entry c.put_parcel.new.messages.items c.put_parcel.new.entries.items
     copies entry.1 entry.2 messages entries in
-    let n = ap (λ k. let s : StoreState = record { kept = k; message_max = c.self.inside.message_max; failed = c.write.new.failed } in s) (kept ∙ ap (after_all old.kept) all) in
-    let written = c.in_ok-write.ensures.writes in
-    changes-written c.args.self.now old c.write.new.failed _ (g.J.Keeper.tells c.args.keeper.now).octets (g.J.Keeper.tells c.write.new.keeper).octets (delivered c.args.self.now.kept delivery)
-    c.as_slice.result.now c.self.view_is (subst (AreRecords old.kept) all them) text written.0 written.1 n
+    let n = ap (λ k. let s : StoreState = record { kept = k; message_max = c.self.inside.message_max; failed = c.write_delivery.new.failed } in s) (kept ∙ ap (after_all old.kept) all) in
+    let written = c.in_ok-write_delivery.ensures.writes in
+    changes-written c.args.self.now old c.write_delivery.new.failed _ (g.J.Keeper.tells c.args.keeper.now).octets (g.J.Keeper.tells c.write_delivery.new.keeper).octets (delivered c.args.self.now.kept delivery)
+    octets c.self.view_is (subst (AreRecords old.kept) all them) text written.0 written.1 n

@@ -1,9 +1,0 @@
-use Rattle.std.proofs.Common.{◌≡◌, map, take}
-use Rattle.std.specs.List.{flat_map}
-use Rattle.mail_store.specs.Changing.{copy_for, inboxes_of}
-use Rattle.journal_records.specs.Spelling.{record_text}
-use Rattle.mail_store.proofs.storing.Store.copies_text.Given as goal
-
-abbrev pub invariant-loop-account : goal.invariant-loop-account
-invariant-loop-account l =
-    l.text ≡ flat_map record_text (map (copy_for l.delivery.date l.delivery.local_octets) (inboxes_of l.self.kept (take l.account-index l.account-items)))
