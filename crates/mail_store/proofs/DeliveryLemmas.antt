@@ -18,7 +18,7 @@ use Rattle.journal_records.specs.Addresses.{IsSendable, path_text, IsAddress}
 use Rattle.journal_records.specs.Spelling.{IsWritable, record_text, octet_list, HasLength, number}
 use Rattle.mail_store.specs.Changing.{IsDeliverable, delivered, queued, copy_for, inboxes_of, has_large_octets, has_many_things, are_too_many, delivery_refusal}
 use Rattle.mail_store.specs.declared.changing.StoreFault.TheVariants as faults
-use Rattle.mail_store.specs.private.Delivering.{copied, IsFrontOf, fronts_text, delivery_text}
+use Rattle.mail_store.specs.private.Delivering.{copied, IsFrontOf, HasShortCopies, fronts_text, delivery_text}
 use Rattle.mail_store.specs.Kept.{Kept, after, after_all, inbox_of}
 use Rattle.journal_records.specs.Grammar.{IsDate}
 use Rattle.mail_store.specs.Records.{AreRecords, recipient_count}
@@ -230,8 +230,31 @@ AreRecords-delivered store i delivery x bound d small =
 one_is : (a b : Record) → a ∷ [] ≡ b ∷ [] → a ≡ b
 one_is a b e = cc
 
+-- the waiting message's record, where there is one, can be written
+pub queued-writable : (store : StoreState) (delivery : Delivery) → IsDeliverable store delivery → store.message_max ≤ MESSAGE_MAX
+    → (has_large_octets store.message_max delivery || has_many_things store.kept delivery) ≡ false → AllByRecursion IsWritable (queued delivery)
+queued-writable store delivery d bound small =
+    elim (cases_Bool (eqb (length delivery.remote) 0)) [
+      | inl none ↦ rw none tt
+      | inr some ↦
+          let octets = remote-small store.message_max delivery (or_parts (has_large_octets store.message_max delivery) (has_many_things store.kept delivery) small).0 some in
+          rw some (queue-writable delivery.path delivery.remote delivery.remote_octets d.path d.addresses d.few (omega (arith, octets, bound)), tt)
+    ]
+
+pub writable-some : (waiting : Option Record) (all : List Record) → option_to_list waiting ≡ all → AllByRecursion IsWritable all → IfSome waiting IsWritable
+writable-some None all is writable = tt
+writable-some (Some one) all is writable = (subst (AllByRecursion IsWritable) (sym is) writable).0
+
+-- where there are copies, their records are within the limit
+pub copies-short : (store : StoreState) (delivery : Delivery) → IsDeliverable store delivery → store.message_max ≤ MESSAGE_MAX
+    → (has_large_octets store.message_max delivery || has_many_things store.kept delivery) ≡ false → HasShortCopies delivery
+copies-short store delivery d bound small = λ some.
+    let large = (or_parts (has_large_octets store.message_max delivery) (has_many_things store.kept delivery) small).0 in
+    let octets = local-small store.message_max delivery large (ne_eqb (length delivery.local) 0 (λ e. omega (arith, e, some))) in
+    omega (arith, octets, bound, d.dated.len)
+
 -- what stands before the octets of the waiting message, and they, are its text
-queued-text : (delivery : Delivery) (waiting : Option Record) (front : Option (List ℕ)) → option_to_list waiting ≡ queued delivery → IsFrontOf front waiting
+pub queued-text : (delivery : Delivery) (waiting : Option Record) (front : Option (List ℕ)) → option_to_list waiting ≡ queued delivery → IsFrontOf front waiting
     → fronts_text (option_to_list front) delivery.remote_octets ≡ flat_map record_text (queued delivery)
 queued-text delivery None front is made = rw (made, ← is) refl
 queued-text delivery (Some one) front is made =
@@ -245,25 +268,13 @@ queued-text delivery (Some one) front is made =
     ]
 
 -- the text of a delivery, by what stands before the octets of its records
-pub delivered-text : (kept : Kept) (delivery : Delivery) (local : List (List ℕ)) (waiting : Option Record) (remote : Option (List ℕ))
+pub delivered-text : (kept : Kept) (delivery : Delivery) (local : List (List ℕ)) (remote : Option (List ℕ))
     → fronts_text local delivery.local_octets ≡ flat_map record_text (map (copy_for delivery.date delivery.local_octets) (inboxes_of kept delivery.local))
-    → option_to_list waiting ≡ queued delivery → IsFrontOf remote waiting → delivery_text local remote delivery ≡ flat_map record_text (delivered kept delivery)
-delivered-text kept delivery local waiting remote copied is made =
+    → fronts_text (option_to_list remote) delivery.remote_octets ≡ flat_map record_text (queued delivery)
+    → delivery_text local remote delivery ≡ flat_map record_text (delivered kept delivery)
+delivered-text kept delivery local remote copied waiting =
     let copies = map (copy_for delivery.date delivery.local_octets) (inboxes_of kept delivery.local) in
-    ap₂ (λ l m. l ++ m) copied (queued-text delivery waiting remote is made) ∙ sym (flat_map-append record_text copies (queued delivery))
-
--- the waiting message's record, where there is one, can be written
-pub queued-writable : (store : StoreState) (delivery : Delivery) (waiting : Option Record) → IsDeliverable store delivery → store.message_max ≤ MESSAGE_MAX
-    → (has_large_octets store.message_max delivery || has_many_things store.kept delivery) ≡ false → option_to_list waiting ≡ queued delivery → IfSome waiting IsWritable
-queued-writable store delivery None d bound small is = tt
-queued-writable store delivery (Some one) d bound small is =
-    elim (cases_Bool (eqb (length delivery.remote) 0)) [
-      | inl none ↦ (let empty : one ∷ [] ≡ [] = rw none at is in absurd cc)
-      | inr some ↦
-          let octets = remote-small store.message_max delivery (or_parts (has_large_octets store.message_max delivery) (has_many_things store.kept delivery) small).0 some in
-          let made : one ≡ records.Queue (path_text delivery.path) (map address_text delivery.remote) delivery.remote_octets = one_is one _ (rw some at is) in
-          subst IsWritable (sym made) (queue-writable delivery.path delivery.remote delivery.remote_octets d.path d.addresses d.few (omega (arith, octets, bound)))
-    ]
+    ap₂ (λ l m. l ++ m) copied waiting ∙ sym (flat_map-append record_text copies (queued delivery))
 
 -- ---- what isn't refused
 

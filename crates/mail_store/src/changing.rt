@@ -25,10 +25,7 @@ use crate::contents::{Content, EMPTY, push_reserved};
 use crate::delivery::Delivery;
 use crate::kept::{Account, Entry, Folder, Message};
 use crate::names::{number_of, put_first, take_back};
-use crate::parcels::{
-    Fronts, Parcel, entry_of, is_for_nobody, parts_of, put_parcel, queued, queued_front,
-    reserve_delivery,
-};
+use crate::parcels::{Parcel, is_for_nobody, parts_of, put_parcel, reserve_delivery, waiting_of};
 use crate::storing::{Store, take_away};
 use address_grammar::{Address, write_address};
 use journal_records::{
@@ -231,7 +228,7 @@ fn write_delivery<J: Keeper>(
     letter: Letter,
 ) -> Result<(), StoreFault>
     ensures writes { Writes failed.old failed.new (J.tells keeper.old).octets (J.tells keeper.new).octets result
-        (delivery_text letter.entry.parcel.now.fronts.local.items letter.entry.parcel.now.fronts.remote letter.entry.delivery.now) }
+        (delivery_text letter.entry.parcel.now.fronts.items letter.entry.parcel.now.waiting.front letter.entry.delivery.now) }
     ensures messages { messages.new.items ≡ messages.old.items }
     ensures previous { previous.new.items ≡ previous.old.items }
     ensures entries { entries.new.items ≡ entries.old.items }
@@ -241,7 +238,12 @@ fn write_delivery<J: Keeper>(
     ensures cause { HasKeeperCause (J.tells keeper.old) (J.tells keeper.new) result StoreFault.Keeper }
 {
     reserve_delivery(messages, previous, entries, letter.parcel.copies.len())?;
-    let parts = parts_of(letter.alloc, &letter.parcel.fronts, letter.delivery)?;
+    let parts = parts_of(
+        letter.alloc,
+        &letter.parcel.fronts,
+        &letter.parcel.waiting.front,
+        letter.delivery,
+    )?;
     write_parts(keeper, &parts, failed)
 }
 
@@ -472,20 +474,6 @@ impl Store {
         Ok(fronts)
     }
 
-    // What stands before the octets of the records of a delivery.
-    fn fronts(&self, delivery: &Delivery, queued: &Option<Record>) -> Result<Fronts, OutOfMemory>
-        requires known { All (λ account. account < length self.now.kept.accounts) delivery.now.local }
-        requires short { HasShortCopies delivery.now }
-        requires queued { IfSome queued.now IsWritable }
-        requires same { option_to_list queued.now ≡ queued_of delivery.now }
-        ensures { IfOk result (λ fronts. delivery_text fronts.local.items fronts.remote delivery.now
-            ≡ flat_map record_text (delivered self.now.kept delivery.now)) }
-    {
-        let local = self.copy_fronts(delivery)?;
-        let remote = queued_front(self.alloc, queued)?;
-        Ok(Fronts { local, remote })
-    }
-
     // Whether octets are more than the limit, or a kind of things would pass its limit.
     fn is_too_large(&self, delivery: &Delivery) -> bool
         ensures { result ≡ (has_large_octets_of self.now.message_max delivery.now || has_many_things self.now.kept delivery.now) }
@@ -527,11 +515,11 @@ impl Store {
     ) -> Result<(), StoreFault>
         requires deliverable { IsDeliverable self.old delivery.now }
         requires taken { delivery_refusal self.old delivery.now ≡ None }
-        requires text { delivery_text parcel.fronts.local.items parcel.fronts.remote delivery.now
+        requires text { delivery_text parcel.fronts.items parcel.waiting.front delivery.now
             ≡ flat_map record_text (delivered self.old.kept delivery.now) }
         requires copies { parcel.copies.items
             ≡ map (copied delivery.now.date delivery.now.local_octets) (inboxes_of self.old.kept delivery.now.local) }
-        requires entry { IsEntryOf parcel.entry (queued_of delivery.now) }
+        requires entry { IsEntryOf parcel.waiting.entry (queued_of delivery.now) }
         ensures changes { Changes self.old self.new (J.tells keeper.old).octets (J.tells keeper.new).octets result (delivered self.old.kept delivery.now) }
         ensures refusal { IsRefusedAs result None }
         ensures cause { HasKeeperCause (J.tells keeper.old) (J.tells keeper.new) result StoreFault.Keeper }
@@ -563,11 +551,11 @@ impl Store {
     // What is put last for a delivery, unless it is refused.
     fn parcel(&self, delivery: &Delivery) -> Result<Parcel, StoreFault>
         requires { IsDeliverable self.now delivery.now }
-        ensures text { IfOk result (λ parcel. delivery_text parcel.fronts.local.items parcel.fronts.remote delivery.now
+        ensures text { IfOk result (λ parcel. delivery_text parcel.fronts.items parcel.waiting.front delivery.now
             ≡ flat_map record_text (delivered self.now.kept delivery.now)) }
         ensures copies { IfOk result (λ parcel. parcel.copies.items
             ≡ map (copied delivery.now.date delivery.now.local_octets) (inboxes_of self.now.kept delivery.now.local)) }
-        ensures entry { IfOk result (λ parcel. IsEntryOf parcel.entry (queued_of delivery.now)) }
+        ensures entry { IfOk result (λ parcel. IsEntryOf parcel.waiting.entry (queued_of delivery.now)) }
         ensures refusal { IsRefusedAs result (delivery_refusal self.now delivery.now) }
         ensures no_keeper { result ≢ Err faults.Keeper }
     {
@@ -581,20 +569,20 @@ impl Store {
     fn made_parcel(&self, delivery: &Delivery) -> Result<Parcel, OutOfMemory>
         requires deliverable { IsDeliverable self.now delivery.now }
         requires taken { delivery_refusal self.now delivery.now ≡ None }
-        ensures text { IfOk result (λ parcel. delivery_text parcel.fronts.local.items parcel.fronts.remote delivery.now
+        ensures text { IfOk result (λ parcel. delivery_text parcel.fronts.items parcel.waiting.front delivery.now
             ≡ flat_map record_text (delivered self.now.kept delivery.now)) }
         ensures copies { IfOk result (λ parcel. parcel.copies.items
             ≡ map (copied delivery.now.date delivery.now.local_octets) (inboxes_of self.now.kept delivery.now.local)) }
-        ensures entry { IfOk result (λ parcel. IsEntryOf parcel.entry (queued_of delivery.now)) }
+        ensures entry { IfOk result (λ parcel. IsEntryOf parcel.waiting.entry (queued_of delivery.now)) }
     {
-        let queued = queued(self.alloc, delivery)?;
-        let fronts = self.fronts(delivery, &queued)?;
-        let entry = entry_of(self.alloc, queued)?;
+        let alloc = self.alloc;
+        let fronts = self.copy_fronts(delivery)?;
         let copies = self.copies(delivery)?;
+        let waiting = waiting_of(alloc, delivery)?;
         Ok(Parcel {
             fronts,
             copies,
-            entry,
+            waiting,
         })
     }
 

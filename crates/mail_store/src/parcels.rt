@@ -1,14 +1,14 @@
 //! What is written of a delivery, and what is put last for it.
 ghost use Rattle.std.specs.Prelude.{◌≡◌, ◌≤◌, ◌<◌, ◌+◌, ◌==◌, ◌&&◌, ◌++◌, length, vec_len, vec_capacity, IfOk, OnOk, IfSome, option_and_then};
-ghost use Rattle.std.specs.List.{All, flat_map};
+ghost use Rattle.std.specs.List.{All, AllByRecursion, flat_map};
 ghost use Rattle.std.specs.Option.{option_to_list};
 ghost use Rattle.address_grammar.specs.Paths.{ComesInPath};
-ghost use Rattle.journal_records.specs.Spelling.{IsWritable};
+ghost use Rattle.journal_records.specs.Spelling.{IsWritable, record_text};
 ghost use Rattle.mail_store.specs.declared.limits.TheConstants.{THINGS_MAX};
 ghost use Rattle.mail_store.specs.Changing.{queued as queued_of};
 ghost use Rattle.mail_store.specs.Records.{recipient_count};
 ghost use Rattle.mail_store.specs.private.Chains.{AreChained};
-ghost use Rattle.mail_store.specs.private.Delivering.{entry_of as entry_for, IsFrontOf, delivery_text};
+ghost use Rattle.mail_store.specs.private.Delivering.{entry_of as entry_for, IsEntryOf, IsFrontOf, fronts_text, delivery_text};
 
 use crate::contents::{Content, push_reserved, put_messages};
 use crate::delivery::Delivery;
@@ -17,8 +17,8 @@ use journal_records::{Record, address_texts, path_text, queue_front};
 use mail_wire::{Memory as OutOfMemory, Octets};
 use std::alloc::Global;
 
-/// The record of a message that waits for the remote recipients, where there are any.
-pub fn queued(alloc: Global, delivery: &Delivery) -> Result<Option<Record>, OutOfMemory>
+// The record of a message that waits for the remote recipients, where there are any.
+fn queued(alloc: Global, delivery: &Delivery) -> Result<Option<Record>, OutOfMemory>
     requires path { IfSome delivery.now.path ComesInPath }
     requires addresses { All ComesInPath delivery.now.remote }
     ensures { IfOk result (λ queued. option_to_list queued ≡ queued_of delivery.now) }
@@ -33,8 +33,8 @@ pub fn queued(alloc: Global, delivery: &Delivery) -> Result<Option<Record>, OutO
     }))
 }
 
-/// The entry of a record of the queue.
-pub fn entry_of(alloc: Global, queued: Option<Record>) -> Result<Option<Entry>, OutOfMemory>
+// The entry of a record of the queue.
+fn entry_of(alloc: Global, queued: Option<Record>) -> Result<Option<Entry>, OutOfMemory>
     ensures { IfOk result (λ entry. entry ≡ option_and_then entry_for queued) }
 {
     match queued {
@@ -49,8 +49,8 @@ pub fn entry_of(alloc: Global, queued: Option<Record>) -> Result<Option<Entry>, 
     }
 }
 
-/// What stands before the octets of a record of the queue.
-pub fn queued_front(alloc: Global, queued: &Option<Record>) -> Result<Option<Octets>, OutOfMemory>
+// What stands before the octets of a record of the queue.
+fn queued_front(alloc: Global, queued: &Option<Record>) -> Result<Option<Octets>, OutOfMemory>
     requires { IfSome queued.now IsWritable }
     ensures { IfOk result (λ front. IsFrontOf front queued.now) }
 {
@@ -71,11 +71,26 @@ pub fn queued_front(alloc: Global, queued: &Option<Record>) -> Result<Option<Oct
     }
 }
 
-/// What stands before the octets in the text of each record of a delivery.
+/// What waits for the remote recipients, where there are any: what stands before the octets in the text of its record, and its
+/// entry.
 #[derive(Drop)]
-pub struct Fronts {
-    pub local: Vec<Octets>,
-    pub remote: Option<Octets>,
+pub struct Waiting {
+    pub front: Option<Octets>,
+    pub entry: Option<Entry>,
+}
+
+/// What of a delivery waits for the remote recipients.
+pub fn waiting_of(alloc: Global, delivery: &Delivery) -> Result<Waiting, OutOfMemory>
+    requires path { IfSome delivery.now.path ComesInPath }
+    requires addresses { All ComesInPath delivery.now.remote }
+    requires writable { AllByRecursion IsWritable (queued_of delivery.now) }
+    ensures front { IfOk result (λ waiting. fronts_text (option_to_list waiting.front) delivery.now.remote_octets ≡ flat_map record_text (queued_of delivery.now)) }
+    ensures entry { IfOk result (λ waiting. IsEntryOf waiting.entry (queued_of delivery.now)) }
+{
+    let queued = queued(alloc, delivery)?;
+    let front = queued_front(alloc, &queued)?;
+    let entry = entry_of(alloc, queued)?;
+    Ok(Waiting { front, entry })
 }
 
 // Puts the text of a record last, in two parts.
@@ -94,16 +109,17 @@ fn push_text<'a>(
 /// The texts of a delivery's records, in parts: the octets are no copies.
 pub fn parts_of<'a>(
     alloc: Global,
-    fronts: &'a Fronts,
+    fronts: &'a [Octets],
+    waiting: &'a Option<Octets>,
     delivery: &'a Delivery,
 ) -> Result<Vec<&'a [u8]>, OutOfMemory>
-    ensures { IfOk result (λ parts. flat_map (λ part. part.now) parts.items ≡ delivery_text fronts.now.local.items fronts.now.remote delivery.now) }
+    ensures { IfOk result (λ parts. flat_map (λ part. part.now) parts.items ≡ delivery_text fronts.now waiting.now delivery.now) }
 {
     let mut parts = Vec::new(alloc);
-    for front in &fronts.local {
+    for front in fronts {
         push_text(&mut parts, front, &delivery.local_octets)?;
     }
-    if let Some(front) = &fronts.remote {
+    if let Some(front) = waiting {
         push_text(&mut parts, front, &delivery.remote_octets)?;
     }
     Ok(parts)
@@ -142,13 +158,13 @@ pub fn put_entry(entries: &mut Vec<Entry>, recipients: &mut usize, entry: Option
     }
 }
 
-/// What is put last for a delivery: what is written of its records beside the octets, the messages for the local accounts, and
-/// the entry of the queue.
+/// What is put last for a delivery: the messages for the local accounts, what stands before their octets in the texts of their
+/// records, and what waits.
 #[derive(Drop)]
 pub struct Parcel {
-    pub fronts: Fronts,
+    pub fronts: Vec<Octets>,
     pub copies: Vec<Message>,
-    pub entry: Option<Entry>,
+    pub waiting: Waiting,
 }
 
 /// Puts the messages and the entry of a delivery last, for which there is room.
@@ -166,15 +182,16 @@ pub fn put_parcel(
     requires room { vec_len messages.old + length parcel.copies.items ≤ vec_capacity messages.old }
     requires room_before { vec_len previous.old + length parcel.copies.items ≤ vec_capacity previous.old }
     requires entry_room { vec_len entries.old < vec_capacity entries.old }
-    requires few_recipients { recipients.old + recipient_count (option_to_list parcel.entry) ≤ THINGS_MAX }
+    requires few_recipients { recipients.old + recipient_count (option_to_list parcel.waiting.entry) ≤ THINGS_MAX }
     ensures messages { messages.new.items ≡ messages.old.items ++ parcel.copies.items }
     ensures chained { AreChained messages.new.items contents.new.items previous.new.items }
     ensures count { length contents.new.items ≡ length contents.old.items }
-    ensures entries { entries.new.items ≡ entries.old.items ++ option_to_list parcel.entry }
-    ensures recipients { recipients.new ≡ recipients.old + recipient_count (option_to_list parcel.entry) }
+    ensures entries { entries.new.items ≡ entries.old.items ++ option_to_list parcel.waiting.entry }
+    ensures recipients { recipients.new ≡ recipients.old + recipient_count (option_to_list parcel.waiting.entry) }
 {
+    let waiting = parcel.waiting;
     put_messages(contents, previous, messages, parcel.copies);
-    put_entry(entries, recipients, parcel.entry);
+    put_entry(entries, recipients, waiting.entry);
 }
 
 /// Whether the delivery is for nobody.

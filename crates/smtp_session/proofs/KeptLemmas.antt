@@ -1,5 +1,5 @@
 -- What is kept of a message.
-use Rattle.std.proofs.Common.{◌≡◌, ℕ, zero, suc, ◌+◌, ◌-◌, ◌/◌, ◌%◌, ◌<◌, ◌≤◌, ◌==◌, Bool, true, false, ◌&&◌, cond, List, [], ◌∷◌, ◌++◌, length, take, Option, Some, None, refl, sym, ◌∙◌, subst, arith, inl, inr}
+use Rattle.std.proofs.Common.{◌≡◌, ℕ, zero, suc, ◌+◌, ◌-◌, ◌/◌, ◌%◌, ◌<◌, ◌≤◌, ◌==◌, Bool, true, false, ◌&&◌, cond, List, [], ◌∷◌, ◌++◌, length, take, Option, Some, None, refl, sym, subst, arith, inl, inr}
 use Rattle.std.specs.Prelude.{nat_le, nat_lt, nat_eq, codes, not, slice_index_or, slice_range, IfSome}
 use Rattle.std.specs.List.{AllByRecursion, list_all, list_any}
 use Rattle.std.specs.Str.{IsAscii, IsUtf8}
@@ -7,9 +7,9 @@ use Rattle.std.proofs.lemmas.Bool.{and_parts, and_from}
 use Rattle.std.proofs.lemmas.Bool.Decides.{nat_tests}
 use Rattle.std.proofs.lemmas.List.{append-nil}
 use Rattle.std.proofs.lemmas.List.Elements.{All-from_recursion}
-use Rattle.std.proofs.lemmas.List.Folds.{list_all-append}
 use Rattle.std.proofs.lemmas.Str.{IsUtf8-append, IsUtf8-from_ascii}
 use Rattle.std.proofs.lemmas.Str.Ascii.{IsAscii-cons, IsAscii-nil}
+use Rattle.mail_wire.proofs.AllLemmas.{pass-append, pass-weaker, pass-take}
 use Rattle.mail_wire.specs.Dates.{IsDateText, IsInternalDate}
 use Rattle.mail_wire.specs.Lines.{crlf}
 use Rattle.mail_wire.specs.Octets.{is_line_end, same_name}
@@ -204,25 +204,6 @@ record IsPlain (text : List ℕ) : Type 0 where
   utf8 : IsUtf8 text
   octets : list_all is_plain text ≡ true
 
--- two texts of octets that pass a test
-both_pass : (p : ℕ → Bool) (xs ys : List ℕ) → list_all p xs ≡ true → list_all p ys ≡ true → list_all p (xs ++ ys) ≡ true
-both_pass p xs ys first second = list_all-append p xs ys ∙ and_from (list_all p xs) (list_all p ys) first second
-
--- octets that pass a test pass a weaker one
-weaker : (p q : ℕ → Bool) → ((x : ℕ) → p x ≡ true → q x ≡ true) → (xs : List ℕ) → list_all p xs ≡ true → list_all q xs ≡ true
-weaker p q each [] all = refl
-weaker p q each (x ∷ xs) all =
-    let parts = and_parts (p x) (list_all p xs) all in
-    and_from (q x) (list_all q xs) (each x parts.0) (weaker p q each xs parts.1)
-
--- the first of octets that pass a test
-first_pass : (p : ℕ → Bool) (n : ℕ) (xs : List ℕ) → list_all p xs ≡ true → list_all p (take n xs) ≡ true
-first_pass p zero xs all = refl
-first_pass p (suc n) [] all = refl
-first_pass p (suc n) (x ∷ xs) all =
-    let parts = and_parts (p x) (list_all p xs) all in
-    and_from (p x) (list_all p (take n xs)) parts.0 (first_pass p n xs parts.1)
-
 -- a printed octet is plain
 printed_plain : (x : ℕ) → is_printed x ≡ true → is_plain x ≡ true
 printed_plain x printed = grind (arith, nat_tests)
@@ -248,15 +229,15 @@ all_ascii (x ∷ text) printed =
 
 -- a printed text is plain
 plain_text : (text : List ℕ) → IsPrinted text → IsPlain text
-plain_text text is = record { utf8 = IsUtf8-from_ascii text (all_ascii text is.octets); octets = weaker is_printed is_plain printed_plain text is.octets }
+plain_text text is = record { utf8 = IsUtf8-from_ascii text (all_ascii text is.octets); octets = pass-weaker is_printed is_plain printed_plain text is.octets }
 
 -- texts that are printed, one behind another
 behind : {xs ys : List ℕ} → IsPrinted xs → IsPrinted ys → IsPrinted (xs ++ ys)
-behind {xs} {ys} first second = record { octets = both_pass is_printed xs ys first.octets second.octets }
+behind {xs} {ys} first second = record { octets = pass-append is_printed xs ys first.octets second.octets }
 
 -- the first octets of a printed text
 printed_first : {xs : List ℕ} → (n : ℕ) → IsPrinted xs → IsPrinted (take n xs)
-printed_first {xs} n all = record { octets = first_pass is_printed n xs all.octets }
+printed_first {xs} n all = record { octets = pass-take is_printed n xs all.octets }
 
 -- a text of which the test says it
 printed : (text : List ℕ) → list_all is_printed text ≡ true → IsPrinted text
@@ -285,14 +266,14 @@ other_field name body named plain = record {
     named = named.some;
     name = named.octets;
     white = refl;
-    body = IsFolded-plain body (weaker is_plain (λ x. not (is_line_end x)) plain_inside body plain.octets);
+    body = IsFolded-plain body (pass-weaker is_plain (λ x. not (is_line_end x)) plain_inside body plain.octets);
     utf8 = plain.utf8;
     ending = inr refl;
   };
   ending = refl;
   no_nul = no_nul_in_safe (name ++ 58 ∷ (body ++ crlf))
-      (both_pass is_safe name (58 ∷ (body ++ crlf)) (weaker is_plain is_safe plain_safe name (plain_text name named.printed).octets)
-      (both_pass is_safe body crlf (weaker is_plain is_safe plain_safe body plain.octets) refl));
+      (pass-append is_safe name (58 ∷ (body ++ crlf)) (pass-weaker is_plain is_safe plain_safe name (plain_text name named.printed).octets)
+      (pass-append is_safe body crlf (pass-weaker is_plain is_safe plain_safe body plain.octets) refl));
   no_type = named.no_type;
   no_encoding = named.no_encoding;
 }
@@ -328,7 +309,7 @@ client_octet x is = grind (arith, nat_tests)
 client_printed : (client : List ℕ) → is_client client ≡ true → IsPrinted client
 client_printed client is =
     let parts = and_parts (nat_lt 0 (length client) && nat_le (length client) 255) (list_all is_client_octet client) is in
-    record { octets = weaker is_client_octet is_printed client_octet client parts.1 }
+    record { octets = pass-weaker is_client_octet is_printed client_octet client parts.1 }
 
 -- an octet of a normal form is printed
 domain_octet : (x : ℕ) → is_domain_octet x ≡ true → is_printed x ≡ true
@@ -336,7 +317,7 @@ domain_octet x is = grind (arith, nat_tests)
 
 -- and so is a store's
 name_printed : (name : List ℕ) → IsName name → IsPrinted name
-name_printed name (inl form) = record { octets = weaker is_domain_octet is_printed domain_octet name (form_name name name form).octets }
+name_printed name (inl form) = record { octets = pass-weaker is_domain_octet is_printed domain_octet name (form_name name name form).octets }
 name_printed name (inr local) = subst IsPrinted (sym local) (printed (codes "localhost") refl)
 
 -- the protocol is printed

@@ -1,94 +1,96 @@
 -- What a line of a stream, as far as it is there, does.
-use Rattle.std.proofs.Common.{◌≡◌, ℕ, ◌≤◌, List, [], ◌∷◌, ◌++◌, length, refl, sym, ap, subst, ◌∙◌, Bool, true, false, Some, None, Option, Ok, Err, Result, append-nil}
-use Rattle.std.specs.Prelude.{nat_le, take, drop}
+use Rattle.std.proofs.Common.{◌≡◌, ℕ, List, [], ◌++◌, length, drop, refl, sym, ap, ◌∙◌, Some, None, Option, Ok, Err, append-nil}
 use Rattle.std.proofs.Math.Seq.{drop-length}
 use Rattle.std.proofs.lemmas.List.Elements.{All-nil}
-use Rattle.mail_wire.specs.Framing.{waiting, whole, too_long, next_line, framed_as}
-use Rattle.mail_wire.specs.Lines.{Cut, first_line}
-use Rattle.mail_wire.specs.Moves.{Gives, GivesOrFails, GivesPrefix}
-use Rattle.mail_wire.specs.Telling.{Telling}
-use Rattle.session_core.specs.Turns.{behind}
-use Rattle.mail_wire.specs.declared.framing.TheConstants.{LINE_MAX}
-use Rattle.mail_wire.specs.declared.framing.FoundLine.{FoundLine}
-use Rattle.mail_wire.specs.declared.framing.FoundLine.TheVariants as variant
+use Rattle.mail_wire.specs.Framing.{Framed, waiting, whole, too_long, next_line}
 use Rattle.mail_wire.specs.declared.outside.Fault.{Fault}
 use Rattle.mail_wire.specs.declared.outside.Fault.TheVariants as fault
-use Rattle.mail_wire.proofs.FirstLineLemmas.{first_line-cut}
-use Rattle.mail_wire.proofs.FramingLemmas.{next_line-line, next_line-long_line, next_line-waiting, next_line-long}
-use Rattle.mail_wire.proofs.Moving.{Gives-nil, GivesPrefix-so_far}
-use Rattle.session_core.proofs.TurnsLemmas.{all_turns-go}
-use Rattle.session_core.specs.Acts.{acts_of}
-use Rattle.session_core.specs.Done.{Does}
+use Rattle.mail_store.specs.Following.{records_of}
 use Rattle.mail_store.specs.Kept.{name_of}
-use Rattle.mail_store.specs.StoreState.{StoreState}
-use Rattle.session_core.proofs.FitLemmas.{fit_acts}
-use Rattle.session_core.proofs.DoneLemmas.{Does-err, Does-ok, Does-reply}
-use Rattle.mail_store.proofs.FollowLemmas.{Follows-nil}
+use Rattle.mail_store.specs.StoreState.{StoreState, with_records}
+use Rattle.session_core.specs.Acts.{acts_of}
+use Rattle.session_core.specs.Around.{Around}
+use Rattle.session_core.specs.Doing.{Does, DoesAll, Replies}
+use Rattle.session_core.specs.Meanings.{Meanings, WithMeanings}
+use Rattle.session_core.specs.Moments.{Moment, IsTold}
+use Rattle.session_core.specs.Steps.{Begins, StandsAfter, Steps}
+use Rattle.session_core.specs.declared.desk.Desk.{Desk}
+use Rattle.session_core.specs.declared.rows.Wants.TheVariants as wants
+use Rattle.session_core.proofs.DoingLemmas.{Does-replies, DoesFirst-none}
+use Rattle.session_core.proofs.DoneLemmas.{changes_in-acts}
+use Rattle.session_core.proofs.FramedSteps.{none_kept}
+use Rattle.session_core.proofs.StepLemmas.{StepsBy-turn, StepsBy-fails, StepsBy-waits}
 use Rattle.smtp_grammar.specs.Commands.{command_of}
-use Rattle.smtp_grammar.specs.Data.{end_cut}
-use Rattle.smtp_session.specs.declared.session.Came.{Came}
-use Rattle.smtp_session.specs.declared.states.Data.{Data}
-use Rattle.smtp_session.specs.declared.states.Smtp.{Smtp}
+use Rattle.smtp_grammar.specs.Reading.{HasRead}
+use Rattle.smtp_session.specs.declared.session.SmtpMachine.{SmtpMachine}
 use Rattle.smtp_session.specs.declared.states.SmtpState.{SmtpState}
 use Rattle.smtp_session.specs.declared.states.SmtpState.TheVariants as smtp
-use Rattle.smtp_session.specs.Machine.{State, ended, Step, acts_in, step}
-use Rattle.session_core.specs.Meanings.{Meanings, WithMeanings}
-use Rattle.smtp_session.specs.Session.{HasRestIn, IsFit, IsUnfinished, KnowsState, Machine, ReadsLines, after_step, line_octets, line_too_long, line_turn, next_turn, reply_octets, state_of, state_or_ended, turns_of}
-use Rattle.session_core.specs.Desks.{IsName}
-use Rattle.session_core.specs.Moments.{IsTold, Moment}
-use Rattle.smtp_session.specs.private.Steps.{HasRestAfter, Steps}
-use Rattle.smtp_session.proofs.FeedLemmas.{err_is, machine_at, next_turn-framed, store_behind, waiting-nil}
-use Rattle.smtp_session.proofs.FitLemmas.{step_fit}
-use Rattle.smtp_session.proofs.RowLemmas.{step-changes}
+use Rattle.smtp_session.specs.Machine.{Step, acts_in, ended}
+use Rattle.smtp_session.specs.Session.{HasRest, IsReady, IsUnfinished, KnowsState, Machine, SmtpStands, after_step, greeting, line_octets, line_too_long, line_turn, machine_of, next_turn, reply_octets, smtp_protocol, state_of, state_or_ended}
+use Rattle.smtp_session.specs.SmtpLaws.{framed_by, step-changes}
+use Rattle.smtp_session.specs.private.Steps.{IsFirst, IsFirstNext, ReadsLines, state_behind, stepped}
 
--- ---- a line has its CRLF
+-- ---- states that read lines
 
-whole_line : (a b c d : List ℕ) → whole a b ≡ whole c d → a ≡ c
-whole_line a b c d h = cc
+-- the rest of such a state is what is kept
+rest_is : (session : SmtpMachine) (state : SmtpState) (kept rest : List ℕ) → ReadsLines state → HasRest session state kept rest → rest ≡ kept
+rest_is session (smtp.Fresh s) kept rest lines has = has
+rest_is session (smtp.Greeted s) kept rest lines has = has
+rest_is session (smtp.Mail s) kept rest lines has = has
+rest_is session (smtp.Data s) kept rest lines has = absurd lines
 
-never_whole : (a b c : List ℕ) → too_long a ≡ whole b c → ⊥
-never_whole a b c h = cc
+-- what is kept is its rest
+has_kept : (session : SmtpMachine) (state : SmtpState) (kept : List ℕ) → ReadsLines state → HasRest session state kept kept
+has_kept session (smtp.Fresh s) kept lines = refl
+has_kept session (smtp.Greeted s) kept lines = refl
+has_kept session (smtp.Mail s) kept lines = refl
+has_kept session (smtp.Data s) kept lines = absurd lines
 
-ends_some : (octets line rest : List ℕ) (cut : Cut) → first_line octets ≡ Some cut → next_line octets ≡ whole line rest → (b : Bool) → nat_le (length cut.line) LINE_MAX ≡ b → 2 ≤ length line
-ends_some octets line rest cut found is true short =
-    subst (λ (l : List ℕ). 2 ≤ length l) (whole_line cut.line cut.rest line rest (sym (next_line-line octets cut found short) ∙ is)) (first_line-cut octets cut found).some
-ends_some octets line rest cut found is false long = absurd (never_whole _ line rest (sym (next_line-long_line octets cut found long) ∙ is))
+-- what was kept has no whole line
+pub waits_in : (session : SmtpMachine) (state : SmtpState) (kept : List ℕ) (desk : Desk) → ReadsLines state → IsUnfinished session state kept desk → next_line kept ≡ waiting
+waits_in session (smtp.Fresh s) kept desk lines waits = waits
+waits_in session (smtp.Greeted s) kept desk lines waits = waits
+waits_in session (smtp.Mail s) kept desk lines waits = waits
+waits_in session (smtp.Data s) kept desk lines waits = absurd lines
 
-ends_none : (octets line rest : List ℕ) → first_line octets ≡ None → next_line octets ≡ whole line rest → (b : Bool) → nat_le (length octets) LINE_MAX ≡ b → 2 ≤ length line
-ends_none octets line rest none is true short = absurd (never (sym (next_line-waiting octets none short) ∙ is))
-  where
-    never : waiting ≡ whole line rest → ⊥
-    never h = cc
-ends_none octets line rest none is false long = absurd (never_whole _ line rest (sym (next_line-long octets none long) ∙ is))
+-- ---- a session that begins
 
-ends_by : (octets line rest : List ℕ) (found : Option Cut) → first_line octets ≡ found → next_line octets ≡ whole line rest → 2 ≤ length line
-ends_by octets line rest None found is = ends_none octets line rest found is (nat_le (length octets) LINE_MAX) refl
-ends_by octets line rest (Some cut) found is = ends_some octets line rest cut found is (nat_le (length cut.line) LINE_MAX) refl
+-- nothing was read
+has_nothing : (session : SmtpMachine) (state : SmtpState) → HasRead session.reader [] → HasRest session state [] []
+has_nothing session (smtp.Fresh s) read = refl
+has_nothing session (smtp.Greeted s) read = refl
+has_nothing session (smtp.Mail s) read = refl
+has_nothing session (smtp.Data s) read = read
 
--- a whole line has two octets at least
-pub line_has_end : (octets line rest : List ℕ) → next_line octets ≡ whole line rest → 2 ≤ length line
-line_has_end octets line rest is = ends_by octets line rest (first_line octets) refl is
+-- and nothing is kept
+unfinished_nothing : (session : SmtpMachine) (state : SmtpState) (desk : Desk) → HasRead session.reader [] → session.reader.limit ≡ desk.store.message_max → IsUnfinished session state [] desk
+unfinished_nothing session (smtp.Fresh s) desk read limit = none_kept wants.Line
+unfinished_nothing session (smtp.Greeted s) desk read limit = none_kept wants.Line
+unfinished_nothing session (smtp.Mail s) desk read limit = none_kept wants.Line
+unfinished_nothing session (smtp.Data s) desk read limit = record { octets = []; read = read; limit = limit; nothing_kept = refl }
 
--- the line that was found of the octets that were kept and a piece
-pub found_line : (found : FoundLine) (slice kept rest front full : List ℕ) (n : ℕ) → next_line (slice ++ rest) ≡ framed_as found slice rest → found ≡ variant.Whole n → slice ≡ kept
-    → front ≡ take n rest → full ≡ kept ++ front → next_line (kept ++ rest) ≡ whole full (drop n rest)
-found_line found slice kept rest front full n framed is same front_is full_is =
-    rw (full_is, front_is, ← same) (framed ∙ ap (λ (f : FoundLine). framed_as f slice rest) is)
+pub first_of : (session : SmtpMachine) (desk : Desk) → HasRead session.reader [] → session.reader.limit ≡ desk.store.message_max → KnowsState desk.store (state_of session.state) → IsFirst session desk
+first_of session desk read limit known = record {
+  has = has_nothing session session.state read;
+  ready = record { unfinished = unfinished_nothing session session.state desk read limit; known = known };
+}
 
--- more octets than a line may have were found
-pub found_long : (found : FoundLine) (slice kept rest : List ℕ) → next_line (slice ++ rest) ≡ framed_as found slice rest → found ≡ variant.TooLong → slice ≡ kept
-    → next_line (kept ++ rest) ≡ too_long (drop LINE_MAX (kept ++ rest))
-found_long found slice kept rest framed is same = rw (← same) (framed ∙ ap (λ (f : FoundLine). framed_as f slice rest) is)
+-- want of memory before the greeting
+pub Begins-stop : (a : Around) → Begins smtp_protocol SmtpStands a a (Err fault.Memory)
+Begins-stop a = record { does = λ meanings are. DoesFirst-none line_octets a fault.Memory (acts_of [] (greeting (name_of a.desk.store.kept))) (λ bad. cc); stands_for = tt }
 
--- no whole line was found
-pub found_waiting : (found : FoundLine) (slice kept rest : List ℕ) → next_line (slice ++ rest) ≡ framed_as found slice rest → found ≡ variant.Waiting → slice ≡ kept
-    → next_line (kept ++ rest) ≡ waiting
-found_waiting found slice kept rest framed is same = rw (← same) (framed ∙ ap (λ (f : FoundLine). framed_as f slice rest) is)
+-- the greeting wasn't given whole
+pub Begins-fails : (a b : Around) (met : Fault) (octets : List ℕ) → octets ≡ reply_octets (greeting (name_of a.desk.store.kept)) → Replies a b (Some met) octets
+    → Begins smtp_protocol SmtpStands a b (Err met)
+Begins-fails a b met octets is replies =
+    record { does = λ meanings are. Does-replies line_octets a b (Some met) (greeting (name_of a.desk.store.kept)) (rw (← is) replies); stands_for = tt }
 
 -- ---- the turn of a line
 
--- in a state that reads lines
-reads : (meanings : Meanings) (state : SmtpState) (store : StoreState) (moments : List Moment) (octets : List ℕ) → ReadsLines (state_of state)
+abbrev machine_at : SmtpState → StoreState → List Moment → Machine
+machine_at state store moments = record { state = state_of state; store = store; moments = moments }
+
+reads : (meanings : Meanings) (state : SmtpState) (store : StoreState) (moments : List Moment) (octets : List ℕ) → ReadsLines state
     → next_turn meanings (machine_at state store moments) octets ≡ line_turn meanings (machine_at state store moments) (next_line octets)
 unfolding next_turn
 reads meanings (smtp.Fresh s) store moments octets lines = refl
@@ -96,206 +98,104 @@ reads meanings (smtp.Greeted s) store moments octets lines = refl
 reads meanings (smtp.Mail s) store moments octets lines = refl
 reads meanings (smtp.Data s) store moments octets lines = absurd lines
 
--- the rest of a state that reads lines is what is kept
-rest_is : (state : SmtpState) (message_max : ℕ) (kept rest : List ℕ) → ReadsLines (state_of state) → HasRestIn state message_max kept rest → rest ≡ kept
-rest_is (smtp.Fresh s) message_max kept rest lines has = has
-rest_is (smtp.Greeted s) message_max kept rest lines has = has
-rest_is (smtp.Mail s) message_max kept rest lines has = has
-rest_is (smtp.Data s) message_max kept rest lines has = absurd lines
+-- the turn at the head of what was kept and the piece
+head_turn : (meanings : Meanings) (session : SmtpMachine) (desk : Desk) (moments : List Moment) (machine : Machine) (kept piece rest : List ℕ) (framed : Framed) → ReadsLines session.state
+    → SmtpStands moments session kept desk machine rest → next_line (kept ++ piece) ≡ framed → next_turn meanings machine (rest ++ piece) ≡ line_turn meanings (machine_of session desk moments) framed
+head_turn meanings session desk moments machine kept piece rest framed lines stands is =
+    rw (stands.machine_is, rest_is session session.state kept rest lines stands.has)
+    (reads meanings session.state desk.store moments (kept ++ piece) lines ∙ ap (line_turn meanings (machine_of session desk moments)) is)
 
--- what is kept, and more, is the rest of a state that reads lines
-has_more : (state : SmtpState) (message_max : ℕ) (kept : List ℕ) → ReadsLines (state_of state) → HasRestIn state message_max kept kept
-has_more (smtp.Fresh s) message_max kept lines = refl
-has_more (smtp.Greeted s) message_max kept lines = refl
-has_more (smtp.Mail s) message_max kept lines = refl
-has_more (smtp.Data s) message_max kept lines = absurd lines
+-- a reply that was given, or a prefix of it
+does_by : (a b : Around) (met : Option Fault) (taken : Step) (octets : List ℕ) → taken.changes ≡ [] → octets ≡ reply_octets taken.reply → Replies a b met octets → Does line_octets a b met (acts_in taken)
+does_by a b met taken octets none is replies = rw none (Does-replies line_octets a b met taken.reply (rw (← is) replies))
 
--- what was kept has no whole line
-pub waits_in : (state : SmtpState) (kept : List ℕ) → ReadsLines (state_of state) → IsUnfinished state kept → next_line kept ≡ waiting
-waits_in (smtp.Fresh s) kept lines waits = waits
-waits_in (smtp.Greeted s) kept lines waits = waits
-waits_in (smtp.Mail s) kept lines waits = waits
-waits_in (smtp.Data s) kept lines waits = absurd lines
+-- the same of a line's reply
+pub Does-line : (a b : Around) (met : Option Fault) (state : SmtpState) (line octets : List ℕ) → WithMeanings (λ meanings. octets ≡ reply_octets (stepped meanings state a.desk.store line).reply)
+    → Replies a b met octets → WithMeanings (λ meanings. Does line_octets a b met (acts_in (stepped meanings state a.desk.store line)))
+Does-line a b met state line octets reply replies = λ meanings are.
+    let command = command_of line in
+    does_by a b met (stepped meanings state a.desk.store line) octets (step-changes meanings (state_of state) a.desk.store command.verb command.argument) (reply meanings are) replies
 
--- octets without a whole line are unfinished in a state that reads lines
-pub unfinished_in : (state : SmtpState) (kept : List ℕ) → ReadsLines (state_of state) → next_line kept ≡ waiting → IsUnfinished state kept
-unfinished_in (smtp.Fresh s) kept lines waits = waits
-unfinished_in (smtp.Greeted s) kept lines waits = waits
-unfinished_in (smtp.Mail s) kept lines waits = waits
-unfinished_in (smtp.Data s) kept lines waits = absurd lines
+-- nothing of it was done
+pub DoesFirst-no_line : (a : Around) (met : Fault) (state : SmtpState) (line : List ℕ) → (met ≡ fault.Keeper → ⊥)
+    → WithMeanings (λ meanings. Does line_octets a a (Some met) (acts_in (stepped meanings state a.desk.store line)))
+DoesFirst-no_line a met state line fine = λ meanings are. DoesFirst-none line_octets a met (acts_in (stepped meanings state a.desk.store line)) fine
 
--- what a line brings
-abbrev pub stepped : Meanings → SmtpState → StoreState → List ℕ → Step
-stepped meanings state store line = step meanings (state_of state) store (command_of line).verb (command_of line).argument
+-- the store behind acts that were done
+pub store_behind : (a b : Around) (taken : Step) → DoesAll line_octets a b (acts_in taken) → b.desk.store ≡ with_records a.desk.store (records_of taken.changes)
+store_behind a b taken does = rw (changes_in-acts {P = List ℕ} taken.changes taken.reply) at does.follows.store
 
-turns_of-line : (meanings : Meanings) (state : SmtpState) (store : StoreState) (moments : List Moment) (octets line rest : List ℕ) → ReadsLines (state_of state) → next_line octets ≡ whole line rest
-    → turns_of meanings (machine_at state store moments) octets
-    ≡ behind (acts_in (stepped meanings state store line)) (turns_of meanings (after_step store moments (stepped meanings state store line)) rest)
-turns_of-line meanings state store moments octets line rest lines is =
-    all_turns-go (next_turn meanings) (next_turn-framed meanings) (machine_at state store moments) octets _
-    (reads meanings state store moments octets lines ∙ ap (line_turn meanings (machine_at state store moments)) is)
-
-turns_of-long : (meanings : Meanings) (state : SmtpState) (store : StoreState) (moments : List Moment) (octets rest : List ℕ) → ReadsLines (state_of state) → next_line octets ≡ too_long rest
-    → turns_of meanings (machine_at state store moments) octets ≡ behind (acts_of [] line_too_long) (turns_of meanings (record { state = ended; store = store; moments = moments }) rest)
-turns_of-long meanings state store moments octets rest lines is =
-    all_turns-go (next_turn meanings) (next_turn-framed meanings) (machine_at state store moments) octets _
-    (reads meanings state store moments octets lines ∙ ap (line_turn meanings (machine_at state store moments)) is)
+-- what is left stands for the state behind a step
+stands_behind : (a b : Around) (next : Option SmtpMachine) (taken : Step) (more : List Moment) → state_or_ended (state_behind next) ≡ taken.state → IsFirstNext next b.desk
+    → b.desk.store ≡ with_records a.desk.store (records_of taken.changes) → StandsAfter smtp_protocol SmtpStands more next [] b.desk (after_step a.desk.store more taken) []
+stands_behind a b None taken more next_is first store = sym next_is
+stands_behind a b (Some session) taken more next_is first store = record { machine_is = rw (next_is, store) refl; has = first.has }
 
 -- ---- steps
 
 -- a whole line whose step was carried out
-pub Steps-line : (reading : Option ℕ) (a b : Telling) (store : StoreState) (had : Option (List ℕ)) (state : SmtpState) (kept keeps piece line : List ℕ) (n : ℕ) (next : Option SmtpState)
-    → ReadsLines (state_of state) → IsName (name_of store.kept) → next_line (kept ++ piece) ≡ whole line (drop n piece)
-    → WithMeanings (λ meanings. Does line_octets a b store store had had (Ok next) (acts_in (stepped meanings state store line)))
-    → WithMeanings (λ meanings. state_or_ended next ≡ (stepped meanings state store line).state) → HasRestAfter next store.message_max keeps []
-    → Steps reading a b store store had had state kept keeps piece (Ok (record { next = next; used = n }))
-Steps-line reading a b store had state kept keeps piece line n next lines named is does next_is has = record {
-  moments = [];
-  told = All-nil (IsTold reading);
-  steps = λ meanings are rest at more.
-      let taken = stepped meanings state store line in
-      let command = command_of line in
-      let done = does meanings are in
-      record {
-        acts = acts_in taken;
-        turn = turns_of meanings (after_step store more taken) (drop n piece);
-        turns_are = rw (rest_is state store.message_max kept rest lines at) (turns_of-line meanings state store more (kept ++ piece) line (drop n piece) lines is);
-        does = Does-ok line_octets a b store store had had next _ (acts_in taken) done;
-        fit = fit_acts IsFit taken.changes taken.reply (step_fit meanings (state_of state) store command.verb command.argument named);
-        stands = record {
-          rest = [];
-          has = has;
-          turn_is = ap (λ (s : State). turns_of meanings (record { state = s; store = (after_step store more taken).store; moments = more }) (drop n piece)) (sym (next_is meanings are))
-              ∙ ap (λ (s : StoreState). turns_of meanings (record { state = state_or_ended next; store = s; moments = more }) (drop n piece)) (store_behind a b store store had had next taken done);
-        };
-      };
-}
+pub Steps-line : (a b : Around) (session : SmtpMachine) (kept keeps piece line : List ℕ) (n : ℕ) (next : Option SmtpMachine) → ReadsLines session.state → next_line (kept ++ piece) ≡ whole line (drop n piece)
+    → WithMeanings (λ meanings. Does line_octets a b None (acts_in (stepped meanings session.state a.desk.store line)))
+    → WithMeanings (λ meanings. state_or_ended (state_behind next) ≡ (stepped meanings session.state a.desk.store line).state) → IsFirstNext next b.desk → keeps ≡ []
+    → Steps smtp_protocol SmtpStands a b session kept keeps piece (Ok (record { next = next; used = n }))
+Steps-line a b session kept keeps piece line n next lines is does next_is first nothing = rw nothing (record {
+  told = [];
+  are_told = All-nil (IsTold a.clock);
+  steps = λ meanings are more machine rest has.
+      let taken = stepped meanings session.state a.desk.store line in
+      StepsBy-turn smtp_protocol SmtpStands meanings (framed_by meanings) a b (record { next = next; used = n }) [] piece more [] machine (rest ++ piece)
+      (record { parts = acts_in taken; after = after_step a.desk.store more taken; rest = drop n piece })
+      (head_turn meanings session a.desk more machine kept piece rest (whole line (drop n piece)) lines has is) (does meanings are)
+      (stands_behind a b next taken more (next_is meanings are) first (store_behind a b taken (does meanings are))) refl;
+})
 
 -- a whole line in whose step a fault was met
-pub Steps-line_fails : (reading : Option ℕ) (a b : Telling) (store : StoreState) (had : Option (List ℕ)) (state : SmtpState) (kept keeps piece line : List ℕ) (n : ℕ) (met : Fault)
-    → ReadsLines (state_of state) → next_line (kept ++ piece) ≡ whole line (drop n piece)
-    → WithMeanings (λ meanings. Does {T = Option SmtpState} line_octets a b store store had had (Err met) (acts_in (stepped meanings state store line)))
-    → Steps reading a b store store had had state kept keeps piece (Err met)
-Steps-line_fails reading a b store had state kept keeps piece line n met lines is does = record {
-  moments = [];
-  told = All-nil (IsTold reading);
-  steps = λ meanings are rest at more.
-      let taken = stepped meanings state store line in
-      record {
-        acts = acts_in taken;
-        turn = turns_of meanings (after_step store more taken) (drop n piece);
-        turns_are = rw (rest_is state store.message_max kept rest lines at) (turns_of-line meanings state store more (kept ++ piece) line (drop n piece) lines is);
-        does = Does-err (Option SmtpState) Came line_octets a b store store had had met (acts_in taken) (does meanings are);
-        fit = tt;
-        stands = tt;
-      };
+pub Steps-line_fails : (a b : Around) (session : SmtpMachine) (kept keeps piece line : List ℕ) (n : ℕ) (met : Fault) → ReadsLines session.state → next_line (kept ++ piece) ≡ whole line (drop n piece)
+    → WithMeanings (λ meanings. Does line_octets a b (Some met) (acts_in (stepped meanings session.state a.desk.store line)))
+    → Steps smtp_protocol SmtpStands a b session kept keeps piece (Err met)
+Steps-line_fails a b session kept keeps piece line n met lines is does = record {
+  told = [];
+  are_told = All-nil (IsTold a.clock);
+  steps = λ meanings are more machine rest has.
+      let taken = stepped meanings session.state a.desk.store line in
+      StepsBy-fails smtp_protocol SmtpStands meanings (framed_by meanings) a b keeps piece more met machine (rest ++ piece)
+      (record { parts = acts_in taken; after = after_step a.desk.store more taken; rest = drop n piece })
+      (head_turn meanings session a.desk more machine kept piece rest (whole line (drop n piece)) lines has is) (does meanings are);
 }
 
 -- a line that is too long
-pub Steps-long : (reading : Option ℕ) (a b : Telling) (store : StoreState) (had : Option (List ℕ)) (state : SmtpState) (kept keeps piece over : List ℕ)
-    → ReadsLines (state_of state) → next_line (kept ++ piece) ≡ too_long over → Gives a b (reply_octets line_too_long)
-    → Steps reading a b store store had had state kept keeps piece (Ok (record { next = None; used = length piece }))
-Steps-long reading a b store had state kept keeps piece over lines is gives = record {
-  moments = [];
-  told = All-nil (IsTold reading);
-  steps = λ meanings are rest at more.
-      let last : Machine = record { state = ended; store = store; moments = more } in
-      record {
-        acts = acts_of [] line_too_long;
-        turn = turns_of meanings last over;
-        turns_are = rw (rest_is state store.message_max kept rest lines at) (turns_of-long meanings state store more (kept ++ piece) over lines is);
-        does = Does-reply line_octets a b store had (Ok _) [] line_too_long refl gives (λ bad. cc);
-        fit = (refl, tt);
-        stands = record { rest = over; has = tt; turn_is = ap (turns_of meanings last) (sym (append-nil over) ∙ ap (λ l. over ++ l) (sym (drop-length piece))) };
-      };
+pub Steps-long : (a b : Around) (session : SmtpMachine) (kept keeps piece over : List ℕ) → ReadsLines session.state → next_line (kept ++ piece) ≡ too_long over → Replies a b None (reply_octets line_too_long)
+    → Steps smtp_protocol SmtpStands a b session kept keeps piece (Ok (record { next = None; used = length piece }))
+Steps-long a b session kept keeps piece over lines is replies = record {
+  told = [];
+  are_told = All-nil (IsTold a.clock);
+  steps = λ meanings are more machine rest has.
+      StepsBy-turn smtp_protocol SmtpStands meanings (framed_by meanings) a b (record { next = None; used = length piece }) keeps piece more over machine (rest ++ piece)
+      (record { parts = acts_of [] line_too_long; after = record { state = ended; store = a.desk.store; moments = more }; rest = over })
+      (head_turn meanings session a.desk more machine kept piece rest (too_long over) lines has is) (Does-replies line_octets a b None line_too_long replies)
+      refl (rw (drop-length piece, append-nil over) refl);
 }
 
 -- a line that is too long, where the reply wasn't given
-pub Steps-long_fails : (reading : Option ℕ) (a b : Telling) (store : StoreState) (had : Option (List ℕ)) (state : SmtpState) (kept keeps piece over : List ℕ) (met : Fault)
-    → ReadsLines (state_of state) → next_line (kept ++ piece) ≡ too_long over → (met ≡ fault.Keeper → ⊥) → GivesPrefix a b (reply_octets line_too_long)
-    → Steps reading a b store store had had state kept keeps piece (Err met)
-Steps-long_fails reading a b store had state kept keeps piece over met lines is fine gives = record {
-  moments = [];
-  told = All-nil (IsTold reading);
-  steps = λ meanings are rest at more.
-      let last : Machine = record { state = ended; store = store; moments = more } in
-      record {
-        acts = acts_of [] line_too_long;
-        turn = turns_of meanings last over;
-        turns_are = rw (rest_is state store.message_max kept rest lines at) (turns_of-long meanings state store more (kept ++ piece) over lines is);
-        does = Does-reply {T = Came} line_octets a b store had (Err met) [] line_too_long refl gives (λ bad. fine (err_is bad));
-        fit = tt;
-        stands = tt;
-      };
+pub Steps-long_fails : (a b : Around) (session : SmtpMachine) (kept keeps piece over : List ℕ) (met : Fault) → ReadsLines session.state → next_line (kept ++ piece) ≡ too_long over
+    → Replies a b (Some met) (reply_octets line_too_long) → Steps smtp_protocol SmtpStands a b session kept keeps piece (Err met)
+Steps-long_fails a b session kept keeps piece over met lines is replies = record {
+  told = [];
+  are_told = All-nil (IsTold a.clock);
+  steps = λ meanings are more machine rest has.
+      StepsBy-fails smtp_protocol SmtpStands meanings (framed_by meanings) a b keeps piece more met machine (rest ++ piece)
+      (record { parts = acts_of [] line_too_long; after = record { state = ended; store = a.desk.store; moments = more }; rest = over })
+      (head_turn meanings session a.desk more machine kept piece rest (too_long over) lines has is) (Does-replies line_octets a b (Some met) line_too_long replies);
 }
 
 -- no whole line: all octets are kept
-pub Steps-wait : (reading : Option ℕ) (a : Telling) (store : StoreState) (had : Option (List ℕ)) (state : SmtpState) (kept piece : List ℕ) → ReadsLines (state_of state)
-    → Steps reading a a store store had had state kept (kept ++ piece) piece (Ok (record { next = Some state; used = length piece }))
-Steps-wait reading a store had state kept piece lines = record {
-  moments = [];
-  told = All-nil (IsTold reading);
-  steps = λ meanings are rest at more. record {
-    acts = [];
-    turn = turns_of meanings (machine_at state store more) (rest ++ piece);
-    turns_are = refl;
-    does = record { given = []; gives = Gives-nil a; done = (refl, Follows-nil store had) };
-    fit = tt;
-    stands = record {
-      rest = kept ++ piece;
-      has = has_more state store.message_max (kept ++ piece) lines;
-      turn_is = rw (rest_is state store.message_max kept rest lines at)
-          (ap (turns_of meanings (machine_at state store more)) (sym (append-nil (kept ++ piece)) ∙ ap (λ l. (kept ++ piece) ++ l) (sym (drop-length piece))));
-    };
-  };
+pub Steps-wait : (a : Around) (session : SmtpMachine) (kept keeps piece : List ℕ) → ReadsLines session.state → keeps ≡ kept ++ piece
+    → Steps smtp_protocol SmtpStands a a session kept keeps piece (Ok (record { next = Some session; used = length piece }))
+Steps-wait a session kept keeps piece lines same = record {
+  told = [];
+  are_told = All-nil (IsTold a.clock);
+  steps = λ meanings are more machine rest has.
+      let is = rest_is session session.state kept rest lines has.has in
+      StepsBy-waits smtp_protocol SmtpStands meanings a (record { next = Some session; used = length piece }) keeps piece more keeps machine (rest ++ piece)
+      (record { machine_is = has.machine_is; has = has_kept session session.state keeps lines }) (rw (drop-length piece, append-nil keeps, is, same) refl);
 }
-
--- no end stands in the CRLF of a command
-pub no_end : end_cut (13 ∷ 10 ∷ []) ≡ None
-unfolding end_cut
-no_end = refl
-
--- lines are read in a state that doesn't take data
-pub reads_lines : (state : SmtpState) → ((session : Smtp Data) → state ≡ smtp.Data session → ⊥) → ReadsLines (state_of state)
-reads_lines (smtp.Fresh s) other = tt
-reads_lines (smtp.Greeted s) other = tt
-reads_lines (smtp.Mail s) other = tt
-reads_lines (smtp.Data s) other = other s refl
-
--- nothing is unfinished in a state that reads lines
-pub nothing_unfinished : (state : SmtpState) → ReadsLines (state_of state) → IsUnfinished state []
-nothing_unfinished state lines = unfinished_in state [] lines waiting-nil
-
--- the rest is nothing in a state that reads lines
-pub nothing_rests : (state : SmtpState) (message_max : ℕ) → ReadsLines (state_of state) → HasRestIn state message_max [] []
-nothing_rests state message_max lines = has_more state message_max [] lines
-
--- what is known of a state that is there
-pub known_by : (store : StoreState) (next : Option SmtpState) (state : SmtpState) → next ≡ Some state → KnowsState store (state_or_ended next) → KnowsState store (state_of state)
-known_by store next state is known = subst (λ (o : Option SmtpState). KnowsState store (state_or_ended o)) is known
-
--- ---- a line that was answered
-
--- what is done of a line's step is done of it where it is kept
-of_line : {T : Type 0} (a b : Telling) (store : StoreState) (had : Option (List ℕ)) (result : Result T Fault) (state : SmtpState) (line kept : List ℕ) → line ≡ kept
-    → WithMeanings (λ meanings. Does line_octets a b store store had had result (acts_in (stepped meanings state store line)))
-    → WithMeanings (λ meanings. Does line_octets a b store store had had result (acts_in (stepped meanings state store kept)))
-of_line a b store had result state line kept same does =
-    subst (λ (l : List ℕ). WithMeanings (λ meanings. Does line_octets a b store store had had result (acts_in (stepped meanings state store l)))) same does
-
--- its reply was given, or a prefix of it
-pub Does-answered : {T : Type 0} (a b : Telling) (store : StoreState) (had : Option (List ℕ)) (result : Result T Fault) (state : SmtpState) (line kept octets : List ℕ) → line ≡ kept
-    → WithMeanings (λ meanings. octets ≡ reply_octets (stepped meanings state store line).reply) → GivesOrFails a b result octets → (result ≡ Err fault.Keeper → ⊥)
-    → WithMeanings (λ meanings. Does line_octets a b store store had had result (acts_in (stepped meanings state store kept)))
-Does-answered a b store had result state line kept octets same reply gives fine = of_line a b store had result state line kept same (λ meanings are.
-    let taken = stepped meanings state store line in
-    let command = command_of line in
-    Does-reply line_octets a b store had result taken.changes taken.reply (step-changes meanings (state_of state) store command.verb command.argument)
-    (subst (GivesOrFails a b result) (reply meanings are) gives) fine)
-
--- its reply was given, and then memory was wanting
-pub Does-wanting : {T : Type 0} (a b : Telling) (store : StoreState) (had : Option (List ℕ)) (state : SmtpState) (line kept octets : List ℕ) → line ≡ kept
-    → WithMeanings (λ meanings. octets ≡ reply_octets (stepped meanings state store line).reply) → Gives a b octets
-    → WithMeanings (λ meanings. Does {T = T} line_octets a b store store had had (Err fault.Memory) (acts_in (stepped meanings state store kept)))
-Does-wanting {T = T} a b store had state line kept octets same reply gives =
-    Does-answered {T = T} a b store had (Err fault.Memory) state line kept octets same reply (rw (append-nil octets) at (GivesPrefix-so_far a b octets [] gives)) (λ bad. cc)

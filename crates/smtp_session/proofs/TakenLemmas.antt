@@ -20,7 +20,8 @@ use Rattle.mail_store.specs.StoreState.{StoreState, with_records}
 use Rattle.journal_records.specs.Stored.{IsStored}
 use Rattle.smtp_grammar.specs.declared.command.Verb.TheVariants as verb
 use Rattle.smtp_grammar.specs.Data.{data_cut, sent}
-use Rattle.smtp_grammar.proofs.SentLines.{sent_found, unstuffed_back}
+use Rattle.smtp_grammar.proofs.SentLines.{sent_found}
+use Rattle.mail_wire.proofs.DotLemmas.{unstuffed_back}
 use Rattle.smtp_session.specs.declared.states.Client.{Client}
 use Rattle.smtp_session.specs.declared.states.Envelope.{Envelope}
 use Rattle.smtp_session.specs.Intake.{acceptance, stored_line}

@@ -155,9 +155,16 @@ KnowsState store (mail client envelope) = (is_client client.name ≡ true) × Kn
 KnowsState store (collecting client envelope) = (is_client client.name ≡ true) × Knows store envelope × (0 < recipient_count envelope)
 KnowsState store ended = Unit {0}
 
--- What was kept is no whole command. Data are read up to the store's limit, and nothing of them is kept beside.
+-- Data were read, up to the store's limit, and nothing of them is kept beside.
+pub record ReadsData (session : SmtpMachine) (kept : List ℕ) (desk : Desk) : Type 0 where
+  pub octets : List ℕ
+  pub read : HasRead session.reader octets
+  pub limit : session.reader.limit ≡ desk.store.message_max
+  pub nothing_kept : kept ≡ []
+
+-- what was kept is no whole command
 abbrev pub IsUnfinished : SmtpMachine → SmtpState → List ℕ → Desk → Type 0
-IsUnfinished session (smtp.Data taking) kept desk = (kept ≡ []) × (session.reader.limit ≡ desk.store.message_max)
+IsUnfinished session (smtp.Data taking) kept desk = ReadsData session kept desk
 IsUnfinished session state kept desk = next_line kept ≡ waiting
 
 -- what a session needs

@@ -1,17 +1,18 @@
 -- What the driver takes of SMTP: a turn doesn't depend on what comes later, and whatever is asked for, the replies are ASCII.
-use Rattle.std.proofs.Common.{◌≡◌, List, [], ℕ, refl, sym, ap, subst, ◌∙◌, Some, None, Option, zero, suc, ◌+◌, ◌/◌, ◌%◌, ◌<◌, ◌∷◌, ◌++◌, Bool, true, false, arith, ◌&&◌, ◌==◌, codes, cond, not, inl, inr, append-nil, map, length, if◌then◌else◌}
+use Rattle.std.proofs.Common.{◌≡◌, List, [], ℕ, refl, sym, ap, subst, ◌∙◌, Some, None, Option, suc, ◌+◌, ◌<◌, ◌∷◌, ◌++◌, Bool, true, false, arith, ◌==◌, codes, cond, not, inl, inr, append-nil, map, length, if◌then◌else◌}
 use Rattle.std.specs.Option.{option_map}
 use Rattle.std.specs.Prelude.{is_some, nat_lt, slice_index_or, sum_by}
 use Rattle.std.specs.Str.{IsAscii}
 use Rattle.std.specs.List.{list_all, list_any}
-use Rattle.std.specs.Fmt.{decimal, digits, digits_onto, digit_glyph}
+use Rattle.std.specs.Fmt.{decimal}
 use Rattle.std.proofs.lemmas.Bool.{cond_both}
 use Rattle.std.proofs.lemmas.Bool.Decides.{nat_tests}
-use Rattle.std.proofs.lemmas.List.Folds.{list_all-append}
 use Rattle.mail_wire.specs.Dots.{unstuffed}
 use Rattle.mail_wire.specs.Framing.{Framed, waiting, whole, too_long, next_line}
 use Rattle.mail_wire.specs.Lines.{Cut}
 use Rattle.mail_wire.specs.Octets.{is_ascii}
+use Rattle.mail_wire.proofs.AllLemmas.{pass-append}
+use Rattle.mail_wire.proofs.NumberLemmas.{ascii-decimal}
 use Rattle.mail_wire.proofs.FramingLemmas.{IsSteady, steady}
 use Rattle.ace_domains.proofs.FormLemmas.{form_ascii}
 use Rattle.address_grammar.specs.declared.Address.{Address}
@@ -212,39 +213,6 @@ step-changes meanings state store verb.Other argument = refl
 
 -- ---- each line is ASCII
 
-both : (b c : Bool) → b ≡ true → c ≡ true → (b && c) ≡ true
-both b c p q = rw (p, q) refl
-
-ascii-append : (xs ys : List ℕ) → list_all is_ascii xs ≡ true → list_all is_ascii ys ≡ true → list_all is_ascii (xs ++ ys) ≡ true
-ascii-append xs ys first second = list_all-append is_ascii xs ys ∙ both (list_all is_ascii xs) (list_all is_ascii ys) first second
-
--- ---- numbers
-
-below_ten : (n : ℕ) → n % 10 < 10
-below_ten n = omega arith
-
-ascii-digit : (n : ℕ) (acc : List ℕ) → list_all is_ascii acc ≡ true → list_all is_ascii (digit_glyph false (n % 10) ∷ acc) ≡ true
-ascii-digit n acc ascii =
-    let low = below_ten n in
-    let small : nat_lt (n % 10) 10 ≡ true = grind (arith, nat_tests) in
-    let fits : nat_lt (48 + n % 10) 128 ≡ true = grind (arith, nat_tests) in
-    rw (small, fits) ascii
-
-onto_by : (k n : ℕ) (acc : List ℕ) → list_all is_ascii acc ≡ true
-    → ((more : List ℕ) → list_all is_ascii more ≡ true → list_all is_ascii (digits_onto k 10 false (n / 10) more) ≡ true) → (b : Bool) → (n / 10 == 0) ≡ b
-    → list_all is_ascii (digits_onto (suc k) 10 false n acc) ≡ true
-onto_by k n acc ascii others true is = rw is (ascii-digit n acc ascii)
-onto_by k n acc ascii others false is = rw is (others (digit_glyph false (n % 10) ∷ acc) (ascii-digit n acc ascii))
-
-ascii-onto : (k n : ℕ) (acc : List ℕ) → list_all is_ascii acc ≡ true → list_all is_ascii (digits_onto k 10 false n acc) ≡ true
-ascii-onto zero n acc ascii = ascii
-ascii-onto (suc k) n acc ascii = onto_by k n acc ascii (λ more m. ascii-onto k (n / 10) more m) (n / 10 == 0) refl
-
--- a number is written in ASCII
-ascii-decimal : (n : ℕ) → list_all is_ascii (decimal n) ≡ true
-unfolding digits
-ascii-decimal n = ascii-onto 64 n [] refl
-
 -- ---- names
 
 -- by recursion, as a test
@@ -265,10 +233,10 @@ ascii-name name (inr local) = subst (λ n. list_all is_ascii n ≡ true) (sym lo
 -- each line of a command's reply
 ascii-lines : (store : StoreState) → IsName (name_of store.kept) → SaidLines IsFit store
 ascii-lines store named = record {
-  greeting = ascii-append (codes "250 ") (name_of store.kept) refl (ascii-name (name_of store.kept) named);
-  first_offer = ascii-append (codes "250-") (name_of store.kept) refl (ascii-name (name_of store.kept) named);
+  greeting = pass-append is_ascii (codes "250 ") (name_of store.kept) refl (ascii-name (name_of store.kept) named);
+  first_offer = pass-append is_ascii (codes "250-") (name_of store.kept) refl (ascii-name (name_of store.kept) named);
   eight_bits = refl;
-  size = ascii-append (codes "250-SIZE ") (decimal store.message_max) refl (ascii-decimal store.message_max);
+  size = pass-append is_ascii (codes "250-SIZE ") (decimal store.message_max) refl (ascii-decimal store.message_max);
   smtputf8 = refl;
   codes_offered = refl;
   fine = refl;
@@ -307,7 +275,7 @@ end_by_fit is_message store client delivery =
 
 -- of the beginning
 greeting_fit : (name : List ℕ) → IsName name → AreFit (greeting name)
-greeting_fit name named = (ascii-append (codes "220 ") (name ++ codes " ESMTP") refl (ascii-append name (codes " ESMTP") (ascii-name name named) refl), tt)
+greeting_fit name named = (pass-append is_ascii (codes "220 ") (name ++ codes " ESMTP") refl (pass-append is_ascii name (codes " ESMTP") (ascii-name name named) refl), tt)
 
 -- ---- the name of the store behind a step
 

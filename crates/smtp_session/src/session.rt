@@ -15,13 +15,12 @@ ghost use Rattle.session_core.specs.Served.{met_of};
 ghost use Rattle.session_core.specs.Serving.{ServesBy};
 ghost use Rattle.session_core.specs.Steps.{IsReadyAfter, Steps};
 ghost use Rattle.session_core.specs.declared.desk.Desk.{Desk};
-ghost use Rattle.smtp_grammar.specs.Commands.{command_of};
 ghost use Rattle.smtp_grammar.specs.Reading.{HasEnded};
-ghost use Rattle.smtp_session.specs.Machine.{acts_in, delivery_of, end_by, end_data as end_of, step};
+ghost use Rattle.smtp_session.specs.Machine.{acts_in, delivery_of, end_by, end_data as end_of};
 ghost use Rattle.smtp_session.specs.Session.{IsReady, KnowsState, SmtpStands, greeting, line_octets, next_turn, reply_octets, smtp_protocol, state_of, state_or_ended};
 ghost use Rattle.smtp_session.specs.SmtpLaws.{begins_fit_by, fits_by, framed_by, goes_on_by, quiet_by, waits_by};
 ghost use Rattle.smtp_session.specs.Trace.{protocol as protocol_of, received, return_path};
-ghost use Rattle.smtp_session.specs.private.Steps.{DoesBy, IsFirst, IsFirstNext, ReadsLines, content_of, state_behind};
+ghost use Rattle.smtp_session.specs.private.Steps.{DoesBy, IsFirst, IsFirstNext, ReadsLines, content_of, state_behind, stepped};
 
 use crate::rows::{Reply, TOO_LARGE, answer};
 use crate::states::{Client, Data, Envelope, Fresh, Greeted, Smtp, SmtpState};
@@ -238,41 +237,40 @@ fn finish_data<W: Wire, J: Keeper, C: Clock>(
     reply_to_data(client, reply, outside)
 }
 
-// Data that are whole, and the moment at which they ended.
+// Data that are whole.
 #[derive(Debug, Drop)]
 struct WholeData {
     session: Smtp<Data>,
     reader: DataReader,
-    stamp: Stamp,
 }
 
-// The end of data.
+// The end of data, which came at this moment.
 fn end_data<W: Wire, J: Keeper, C: Clock>(
     whole: WholeData,
+    stamp: Stamp,
     outside: &mut Outside<W, J, C>,
 ) -> Result<Smtp<Greeted>, Fault>
-    requires moment { (seconds : ℕ) × IsMoment seconds (moment_of whole.stamp) }
+    requires moment { (seconds : ℕ) × IsMoment seconds (moment_of stamp) }
     requires opens { IsOpen outside.old.desk }
     requires limit { whole.reader.limit ≡ outside.old.desk.store.message_max }
     requires known { KnowsState outside.old.desk.store (state_of (SmtpState.Data whole.session)) }
     ensures does { WithMeanings (λ meanings. (lines : List ℕ) → HasEnded whole.reader lines
         → Does line_octets outside.old outside.new (fault_of result)
-        (acts_in (end_of meanings outside.old.desk.store whole.session.state.client whole.session.state.envelope (moment_of whole.stamp) (unstuffed lines)))) }
+        (acts_in (end_of meanings outside.old.desk.store whole.session.state.client whole.session.state.envelope (moment_of stamp) (unstuffed lines)))) }
     ensures client { IfOk result (λ next. next.state.client ≡ whole.session.state.client) }
     ensures keeps { Keeps outside.old outside.new (fault_of result) }
 {
-    let WholeData {
-        session,
-        reader,
-        stamp,
-    } = whole;
+    let WholeData { session, reader } = whole;
     let Data { client, envelope } = session.state;
     let Some(content) = reader.into_content() else {
+        drop(envelope);
+        drop(stamp);
         return reply_to_data(client, TOO_LARGE, outside);
     };
     let name = outside.store().name().as_bytes();
-    let accepted = accept_data(outside.alloc(), &client, envelope, name, content.as_slice(), stamp)?;
+    let made = accept_data(outside.alloc(), &client, envelope, name, content.as_slice(), stamp);
     drop(content);
+    let accepted = made?;
     finish_data(client, accepted, outside)
 }
 
@@ -303,27 +301,44 @@ fn take_data<W: Wire, J: Keeper, C: Clock>(
     ensures ready { IfOk result (λ came. IsReadyAfter IsReady came kept.new outside.new.desk) }
     ensures keeps { Keeps outside.old outside.new (fault_of result) }
 {
-    let Some(used) = reader.take(piece)? else {
-        return Ok(Came {
+    let taken = reader.take(piece);
+    let whole = WholeData { session, reader };
+    let Ok(found) = taken else {
+        drop(whole);
+        return Err(Fault::Memory);
+    };
+    match found {
+        Some(used) => {
+            let Ok(stamp) = outside.now() else {
+                drop(whole);
+                return Err(Fault::Memory);
+            };
+            let greeted = end_data(whole, stamp, outside)?;
+            let (alloc, max) = (outside.alloc(), outside.store().message_max());
+            Ok(Came {
+                next: Some(begun(alloc, max, SmtpState::Greeted(greeted))),
+                used,
+            })
+        }
+        None => Ok(Came {
             next: Some(SmtpMachine {
-                state: SmtpState::Data(session),
-                reader,
+                state: SmtpState::Data(whole.session),
+                reader: whole.reader,
             }),
             used: piece.len(),
-        });
-    };
-    let stamp = outside.now()?;
-    let whole = WholeData {
-        session,
-        reader,
-        stamp,
-    };
-    let greeted = end_data(whole, outside)?;
-    let (alloc, max) = (outside.alloc(), outside.store().message_max());
-    Ok(Came {
-        next: Some(begun(alloc, max, SmtpState::Greeted(greeted))),
-        used,
-    })
+        }),
+    }
+}
+
+// What is left behind a line: a session in this state, with nothing read of data.
+fn begun_next(alloc: Global, max: u32, next: Option<SmtpState>) -> Option<SmtpMachine>
+    ensures state { state_behind result ≡ next }
+    ensures first { (desk : Desk) → desk.store.message_max ≡ max → KnowsState desk.store (state_or_ended next) → IsFirstNext result desk }
+{
+    match next {
+        Some(state) => Some(begun(alloc, max, state)),
+        None => None,
+    }
 }
 
 // A whole line: its reply is given.
@@ -336,20 +351,53 @@ fn answer_line<W: Wire, J: Keeper, C: Clock>(
     requires opens { IsOpen outside.old.desk }
     requires known { KnowsState outside.old.desk.store (state_of state) }
     ensures does { WithMeanings (λ meanings. Does line_octets outside.old outside.new (fault_of result)
-        (acts_in (step meanings (state_of state) outside.old.desk.store (command_of line.now).verb (command_of line.now).argument))) }
+        (acts_in (stepped meanings state outside.old.desk.store line.now))) }
     ensures next { IfOk result (λ next. WithMeanings (λ meanings. state_or_ended (state_behind next)
-        ≡ (step meanings (state_of state) outside.old.desk.store (command_of line.now).verb (command_of line.now).argument).state)) }
+        ≡ (stepped meanings state outside.old.desk.store line.now).state)) }
     ensures first { IfOk result (λ next. IsFirstNext next outside.new.desk) }
     ensures keeps { Keeps outside.old outside.new (fault_of result) }
 {
     let alloc = outside.alloc();
     let Reply { octets, next } = answer(alloc, state, line, outside.store())?;
-    outside.give(octets.as_slice())?;
+    let given = outside.give(octets.as_slice());
+    drop(octets);
     let max = outside.store().message_max();
-    match next {
-        Some(state) => Ok(Some(begun(alloc, max, state))),
-        None => Ok(None),
+    match given {
+        Ok(()) => Ok(begun_next(alloc, max, next)),
+        Err(met) => {
+            drop(next);
+            Err(met)
+        }
     }
+}
+
+// The rest of a whole line: its reply is given.
+fn take_whole<W: Wire, J: Keeper, C: Clock>(
+    machine: SmtpMachine,
+    kept: &mut Octets,
+    front: &[u8],
+    outside: &mut Outside<W, J, C>,
+) -> Result<Option<SmtpMachine>, Fault>
+    requires line { 2 ≤ length (kept.old ++ front.now) }
+    requires opens { IsOpen outside.old.desk }
+    requires known { KnowsState outside.old.desk.store (state_of machine.state) }
+    ensures does { WithMeanings (λ meanings. Does line_octets outside.old outside.new (fault_of result)
+        (acts_in (stepped meanings machine.state outside.old.desk.store (kept.old ++ front.now)))) }
+    ensures next { IfOk result (λ next. WithMeanings (λ meanings. state_or_ended (state_behind next)
+        ≡ (stepped meanings machine.state outside.old.desk.store (kept.old ++ front.now)).state)) }
+    ensures first { IfOk result (λ next. IsFirstNext next outside.new.desk) }
+    ensures kept { IfOk result (λ next. kept.new ≡ []) }
+    ensures keeps { Keeps outside.old outside.new (fault_of result) }
+{
+    let SmtpMachine { state, reader } = machine;
+    drop(reader);
+    let Ok(()) = kept.push_slice(front) else {
+        drop(state);
+        return Err(Fault::Memory);
+    };
+    let next = answer_line(state, kept.as_slice(), outside)?;
+    kept.clear();
+    Ok(next)
 }
 
 // A line, as far as it is in the piece.
@@ -371,12 +419,11 @@ fn take_line<W: Wire, J: Keeper, C: Clock>(
     match find_line(kept.as_slice(), piece) {
         FoundLine::Whole(used) => {
             let (front, _) = piece.split_at(used);
-            kept.push_slice(front)?;
-            let next = answer_line(machine.state, kept.as_slice(), outside)?;
-            kept.clear();
+            let next = take_whole(machine, kept, front, outside)?;
             Ok(Came { next, used })
         }
         FoundLine::TooLong => {
+            drop(machine);
             outside.give(TOO_LONG)?;
             Ok(Came {
                 next: None,
@@ -384,7 +431,10 @@ fn take_line<W: Wire, J: Keeper, C: Clock>(
             })
         }
         FoundLine::Waiting => {
-            kept.push_slice(piece)?;
+            let Ok(()) = kept.push_slice(piece) else {
+                drop(machine);
+                return Err(Fault::Memory);
+            };
             Ok(Came {
                 next: Some(machine),
                 used: piece.len(),

@@ -1,12 +1,14 @@
 -- What the private functions of a session do.
 use Rattle.std.specs.Prelude.{◌≡◌, ℕ, drop, List, [], Bool, Option, None, Some}
 use Rattle.mail_wire.specs.declared.outside.Fault.{Fault}
+use Rattle.mail_store.specs.StoreState.{StoreState}
 use Rattle.session_core.specs.Around.{Around}
 use Rattle.session_core.specs.Doing.{Does}
-use Rattle.session_core.specs.Meanings.{TellsTrees}
+use Rattle.session_core.specs.Meanings.{Meanings, TellsTrees}
 use Rattle.session_core.specs.declared.desk.Desk.{Desk}
-use Rattle.smtp_session.specs.Machine.{Step, acts_in}
-use Rattle.smtp_session.specs.Session.{HasRest, IsReady, line_octets, state_or_ended}
+use Rattle.smtp_grammar.specs.Commands.{command_of}
+use Rattle.smtp_session.specs.Machine.{Step, acts_in, step}
+use Rattle.smtp_session.specs.Session.{HasRest, IsReady, line_octets, state_of}
 use Rattle.smtp_session.specs.declared.session.Accepted.{Accepted}
 use Rattle.smtp_session.specs.declared.session.SmtpMachine.{SmtpMachine}
 use Rattle.smtp_session.specs.declared.states.SmtpState.{SmtpState}
@@ -32,6 +34,10 @@ state_behind (Some session) = Some session.state
 abbrev pub IsFirstNext : Option SmtpMachine → Desk → Type 0
 IsFirstNext None desk = Unit {0}
 IsFirstNext (Some session) desk = IsFirst session desk
+
+-- what a line brings
+abbrev pub stepped : Meanings → SmtpState → StoreState → List ℕ → Step
+stepped meanings state store line = step meanings (state_of state) store (command_of line).verb (command_of line).argument
 
 -- lines are read in this state
 abbrev pub ReadsLines : SmtpState → Type 0

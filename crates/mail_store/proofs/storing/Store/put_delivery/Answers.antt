@@ -25,7 +25,7 @@ returns-in_err-write_delivery-clause-changes g c =
     let deliverable = subst (λ s. IsDeliverable s delivery) (sym c.self.view_is) c.requires.deliverable in
     let them = AreRecords-delivered old (indexes_of c.self.inside) delivery c.self.invariant.indexes c.self.invariant.message_bound deliverable small in
     let text = c.requires.text in
-    let octets = delivery_text parcel.fronts.local.items parcel.fronts.remote delivery in
+    let octets = delivery_text parcel.fronts.items parcel.waiting.front delivery in
     let all = ap (λ s. delivered s.kept delivery) c.self.view_is in
     let n = ap₂ (λ m e. let s : StoreState = record { kept = record (kept_of c.self.inside) { messages = m; entries = e }; message_max = c.self.inside.message_max; failed = c.write_delivery.new.failed } in s)
     c.in_err-write_delivery.ensures.messages c.in_err-write_delivery.ensures.entries in
@@ -55,7 +55,7 @@ put_parcel-requires-clause-few_recipients g c =
     let parcel = c.args.parcel in
     let small = delivery_free (state_of c.self.inside) delivery (subst (λ s. delivery_refusal s delivery ≡ None) (sym c.self.view_is) c.requires.taken) in
     let entry = c.requires.entry in
-    entry-few (kept_of c.self.inside) (indexes_of c.self.inside) c.self.inside.message_max delivery entry.0 parcel.entry c.self.invariant.indexes small entry.1 entry.2
+    entry-few (kept_of c.self.inside) (indexes_of c.self.inside) c.self.inside.message_max delivery entry.0 parcel.waiting.entry c.self.invariant.indexes small entry.1 entry.2
 
 pub invariant_of-self-2 : goal.invariant_of-self-2
 invariant_of-self-2 g c =
@@ -65,9 +65,9 @@ invariant_of-self-2 g c =
     let entry = c.requires.entry in
     let copies = c.requires.copies ∙ ap (λ s. map (copied delivery.date delivery.local_octets) (inboxes_of s.kept delivery.local)) (sym c.self.view_is) in
     let messages = c.put_parcel.ensures.messages ∙ ap (λ (l : List Message). l ++ parcel.copies.items) c.in_ok-write_delivery.ensures.messages in
-    let entries = c.put_parcel.ensures.entries ∙ ap (λ (l : List Entry). l ++ option_to_list parcel.entry) c.in_ok-write_delivery.ensures.entries in
+    let entries = c.put_parcel.ensures.entries ∙ ap (λ (l : List Entry). l ++ option_to_list parcel.waiting.entry) c.in_ok-write_delivery.ensures.entries in
     record {
-      indexes = AreIndexes-delivered (kept_of c.self.inside) (indexes_of c.self.inside) c.self.inside.message_max delivery parcel.copies.items entry.0 parcel.entry
+      indexes = AreIndexes-delivered (kept_of c.self.inside) (indexes_of c.self.inside) c.self.inside.message_max delivery parcel.copies.items entry.0 parcel.waiting.entry
           c.put_parcel.new.messages.items c.put_parcel.new.entries.items c.put_parcel.new.contents.items c.put_parcel.new.previous.items c.put_parcel.new.recipients
           c.self.invariant.indexes c.requires.deliverable.local_tree small copies entry.1 entry.2 messages entries
           c.put_parcel.ensures.chained c.put_parcel.ensures.count c.put_parcel.ensures.recipients;
@@ -84,12 +84,12 @@ returns-clause-changes g c =
     let deliverable = subst (λ s. IsDeliverable s delivery) (sym c.self.view_is) c.requires.deliverable in
     let them = AreRecords-delivered old (indexes_of c.self.inside) delivery c.self.invariant.indexes c.self.invariant.message_bound deliverable small in
     let text = c.requires.text in
-    let octets = delivery_text parcel.fronts.local.items parcel.fronts.remote delivery in
+    let octets = delivery_text parcel.fronts.items parcel.waiting.front delivery in
     let all = ap (λ s. delivered s.kept delivery) c.self.view_is in
     let copies = c.requires.copies ∙ ap (λ s. map (copied delivery.date delivery.local_octets) (inboxes_of s.kept delivery.local)) (sym c.self.view_is) in
     let messages = c.put_parcel.ensures.messages ∙ ap (λ (l : List Message). l ++ parcel.copies.items) c.in_ok-write_delivery.ensures.messages in
-    let entries = c.put_parcel.ensures.entries ∙ ap (λ (l : List Entry). l ++ option_to_list parcel.entry) c.in_ok-write_delivery.ensures.entries in
-    let kept = after-delivered old.kept delivery parcel.copies.items entry.0 parcel.entry c.put_parcel.new.messages.items c.put_parcel.new.entries.items
+    let entries = c.put_parcel.ensures.entries ∙ ap (λ (l : List Entry). l ++ option_to_list parcel.waiting.entry) c.in_ok-write_delivery.ensures.entries in
+    let kept = after-delivered old.kept delivery parcel.copies.items entry.0 parcel.waiting.entry c.put_parcel.new.messages.items c.put_parcel.new.entries.items
     copies entry.1 entry.2 messages entries in
     let n = ap (λ k. let s : StoreState = record { kept = k; message_max = c.self.inside.message_max; failed = c.write_delivery.new.failed } in s) (kept ∙ ap (after_all old.kept) all) in
     let written = c.in_ok-write_delivery.ensures.writes in
