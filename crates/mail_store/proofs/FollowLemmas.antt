@@ -29,7 +29,7 @@ with_last-twice (Some octets) a b = ap (λ (l : List ℕ). Some l) (append_assoc
 pub Follows-nil : (old : StoreState) (had : Option (List ℕ)) → Follows old old had had []
 Follows-nil old had = record { records = tt; store = refl; journal = with_nothing had }
 
-with_records-append : (old : StoreState) (all more : List Record) → with_records (with_records old all) more ≡ with_records old (all ++ more)
+pub with_records-append : (old : StoreState) (all more : List Record) → with_records (with_records old all) more ≡ with_records old (all ++ more)
 with_records-append old all more = ap (λ (kept : Kept). (let new : StoreState = record old { kept = kept } in new)) (sym (after_all-append old.kept all more))
 
 records_on : (old mid : StoreState) (all more : List Record) → mid ≡ with_records old all → AreRecords old.kept all → AreRecords mid.kept more → AreRecords old.kept (all ++ more)

@@ -10,3 +10,4 @@ pub mod TakenLemmas
 pub mod ManyLines
 pub mod ModeLemmas
 pub mod MarkLemmas
+pub mod StoreLemmas

@@ -1,10 +1,12 @@
-//! Laws of what is sent of a message, of the mode of a session, and of what QUIT takes out.
+//! Laws of what is sent of a message, of the mode of a session, of what QUIT takes out, and of the store behind a stream.
 ghost use Rattle.std.specs.Prelude.{◌≡◌, ◌≢◌, ◌++◌, ◌∷◌, ◌↔◌, [], ℕ, List, Option, None, Some, codes, IsTrue};
 ghost use Rattle.std.specs.List.{All, flat_map};
 ghost use Rattle.mail_wire.specs.Lines.{lines_of};
 ghost use Rattle.mail_store.specs.declared.kept.Listed.{Listed};
-ghost use Rattle.mail_store.specs.StoreState.{StoreState};
+ghost use Rattle.mail_store.specs.Following.{records_of};
+ghost use Rattle.mail_store.specs.StoreState.{StoreState, with_records};
 ghost use Rattle.surrogate_cache.specs.Served.{Mode, legacy};
+ghost use Rattle.session_core.specs.Acts.{changes_in};
 ghost use Rattle.session_core.specs.Meanings.{Meanings};
 ghost use Rattle.pop_session.specs.Commands.{Command};
 ghost use Rattle.mail_wire.specs.Numbers.{number_of};
@@ -56,4 +58,10 @@ pub fn quit_takes_out_what_is_marked()
         → (step meanings state store command).changes ≡ [] }
     ensures stream { (meanings : Meanings) (machine : Machine) (octets : List ℕ) → (turns_of meanings machine octets).after.state ≢ ended
         → (turns_of meanings machine octets).after.store ≡ machine.store }
+{}
+
+/// Behind a stream the machine's store is the one before it with the changes that its commands make.
+pub fn the_store_has_the_changes()
+    ensures { (meanings : Meanings) (machine : Machine) (octets : List ℕ) → let turn = turns_of meanings machine octets in
+        turn.after.store ≡ with_records machine.store (records_of (changes_in turn.parts)) }
 {}

@@ -2,7 +2,7 @@
 use Rattle.std.proofs.Common.{◌≡◌, ℕ, zero, suc, List, [], ◌∷◌, length, Option, Some, None, refl}
 use Rattle.session_core.specs.Turns.{Turn, turns, all_turns}
 use Rattle.mail_wire.proofs.AllLemmas.{all-append}
-use Rattle.session_core.proofs.TurnsLemmas.{turns-stop, turns-go}
+use Rattle.session_core.proofs.TurnsLemmas.{turns-zero, turns-stop, turns-go}
 use Rattle.std.specs.List.{AllByRecursion}
 use Rattle.journal_records.specs.declared.records.Record.{Record}
 use Rattle.session_core.specs.Acts.{Act, acts_of, IsFitAct}
@@ -17,10 +17,6 @@ fit_reply Fits (part ∷ reply) fit = (fit.0, fit_reply Fits reply fit.1)
 pub fit_acts : {P : Type 0} (Fits : P → Type 0) (made : List (List Record)) (reply : List P) → AllByRecursion Fits reply → AllByRecursion (IsFitAct Fits) (acts_of made reply)
 fit_acts Fits [] reply fit = fit_reply Fits reply fit
 fit_acts Fits (records ∷ made) reply fit = (tt, fit_acts Fits made reply fit)
-
-turns-zero : {S P : Type 0} (next : S → List ℕ → Option (Turn S P)) (s : S) (octets : List ℕ) → turns next zero s octets ≡ record { parts = []; after = s; rest = octets }
-unfolding turns
-turns-zero next s octets = refl
 
 -- each turn of a sound state may be sent
 abbrev pub TurnsFit : Protocol → Meanings → Type 0

@@ -12,3 +12,4 @@ pub mod FramedSteps
 pub mod AnswerLemmas
 pub mod TranscriptLemmas
 pub mod ServingLemmas
+pub mod StoreTurns

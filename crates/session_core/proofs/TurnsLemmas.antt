@@ -1,5 +1,5 @@
 -- All turns of octets: one turn first, no turn, and octets that come later.
-use Rattle.std.proofs.Common.{◌≡◌, ◌≤◌, ℕ, zero, suc, List, ◌++◌, length, Option, Some, None, refl, sym, ap, ◌∙◌, arith, append_assoc}
+use Rattle.std.proofs.Common.{◌≡◌, ◌≤◌, ℕ, zero, suc, List, [], ◌++◌, length, Option, Some, None, refl, sym, ap, ◌∙◌, arith, append_assoc}
 use Rattle.session_core.specs.Turns.{Turn, stay, behind, turns, all_turns, IsFramed}
 
 -- a state and octets that begin with no whole command
@@ -7,6 +7,10 @@ pub turns-stop : {S P : Type 0} (next : S → List ℕ → Option (Turn S P)) (n
 unfolding turns
 turns-stop next zero s octets none = refl
 turns-stop next (suc n) s octets none = rw (none, turns) refl
+
+pub turns-zero : {S P : Type 0} (next : S → List ℕ → Option (Turn S P)) (s : S) (octets : List ℕ) → turns next zero s octets ≡ record { parts = []; after = s; rest = octets }
+unfolding turns
+turns-zero next s octets = refl
 
 pub turns-go : {S P : Type 0} (next : S → List ℕ → Option (Turn S P)) (n : ℕ) (s : S) (octets : List ℕ) (turn : Turn S P) → next s octets ≡ Some turn
     → turns next (suc n) s octets ≡ behind turn.parts (turns next n turn.after turn.rest)

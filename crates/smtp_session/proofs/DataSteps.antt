@@ -1,5 +1,5 @@
 -- What the data of a stream, as far as they are there, do.
-use Rattle.std.proofs.Common.{◌≡◌, ℕ, List, [], ◌∷◌, ◌++◌, length, drop, refl, sym, ap, ◌∙◌, Bool, true, false, Some, None, Option, Ok, Err, subst, if◌then◌else◌, append-nil}
+use Rattle.std.proofs.Common.{◌≡◌, ℕ, List, [], ◌∷◌, ◌++◌, length, drop, refl, ap, Bool, true, false, Some, None, Option, Ok, Err, subst, if◌then◌else◌, append-nil}
 use Rattle.std.specs.Prelude.{not, codes}
 use Rattle.std.specs.Option.{option_map, is_some}
 use Rattle.std.proofs.Math.Seq.{drop-length}

@@ -11,3 +11,4 @@ pub mod KnownRecipients
 pub mod StreamLemmas
 pub mod TransactionLemmas
 pub mod TakenLemmas
+pub mod StoreLemmas

@@ -1,14 +1,15 @@
-//! Laws of which data are taken, of written paths, of transactions, and of what is kept.
+//! Laws of which data are taken, of written paths, of transactions, of what is kept, and of the store behind a stream.
 ghost use Rattle.std.specs.Prelude.{◌≡◌, ◌≢◌, ◌<◌, ◌++◌, ◌∷◌, ℕ, List, [], Option, Some, IfSome, true, codes};
 ghost use Rattle.mail_wire.specs.Message.{IsEnded};
 ghost use Rattle.session_core.specs.Turns.{behind};
 ghost use Rattle.address_grammar.specs.declared.Address.{Address};
 ghost use Rattle.address_grammar.specs.Paths.{ComesInPath, in_angles};
-ghost use Rattle.session_core.specs.Acts.{gives, changes};
+ghost use Rattle.session_core.specs.Acts.{gives, changes, changes_in};
 ghost use Rattle.mail_store.specs.Answers.{IsFold};
 ghost use Rattle.journal_records.specs.Addresses.{path_text};
 ghost use Rattle.mail_store.specs.Changing.{delivered};
 ghost use Rattle.mail_store.specs.Kept.{Kept, name_of};
+ghost use Rattle.mail_store.specs.Following.{records_of};
 ghost use Rattle.mail_store.specs.StoreState.{StoreState, with_records};
 ghost use Rattle.journal_records.specs.Stored.{IsStored};
 ghost use Rattle.smtp_grammar.specs.Commands.{path_behind, stands_apart};
@@ -19,7 +20,7 @@ ghost use Rattle.smtp_session.specs.Intake.{AreRecipients, IsKeptOnce, KeepsAcce
 ghost use Rattle.smtp_session.specs.Machine.{State, collecting, fresh, greeted, mail, recipient_count, says, step, delivery_of, end_data};
 ghost use Rattle.session_core.specs.Meanings.{Meanings, TellsTrees};
 ghost use Rattle.smtp_session.specs.Room.{IsWithinLimits};
-ghost use Rattle.smtp_session.specs.Session.{later, next_moment, start_of, turns_of};
+ghost use Rattle.smtp_session.specs.Session.{Machine, later, next_moment, start_of, turns_of};
 ghost use Rattle.session_core.specs.Desks.{IsName};
 ghost use Rattle.session_core.specs.Moments.{Moment};
 ghost use Rattle.smtp_session.specs.Transaction.{GoesOn, IsTransactionKept, TakesData, TakesRecipient, TakesSender, go_ahead, recipient_ok, sender_ok};
@@ -89,4 +90,10 @@ pub fn accepted_mail_is_kept_once()
         → (end_data meanings store client envelope moment octets).state ≡ greeted client }
     ensures stream { (meanings : Meanings) (store : StoreState) (moments : List Moment) (octets : List ℕ) → IsFold store.kept → IsName (name_of store.kept)
         → KeepsAccepted store (turns_of meanings (start_of store moments) octets).parts }
+{}
+
+/// Behind a stream the machine's store is the one before it with the changes that its commands and its data make.
+pub fn the_store_has_the_changes()
+    ensures { (meanings : Meanings) (machine : Machine) (octets : List ℕ) → let turn = turns_of meanings machine octets in
+        turn.after.store ≡ with_records machine.store (records_of (changes_in turn.parts)) }
 {}

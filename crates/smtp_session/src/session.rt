@@ -17,7 +17,7 @@ ghost use Rattle.session_core.specs.Steps.{IsReadyAfter, Steps};
 ghost use Rattle.session_core.specs.declared.desk.Desk.{Desk};
 ghost use Rattle.smtp_grammar.specs.Reading.{HasEnded};
 ghost use Rattle.smtp_session.specs.Machine.{acts_in, delivery_of, end_by, end_data as end_of};
-ghost use Rattle.smtp_session.specs.Session.{IsReady, KnowsState, SmtpStands, greeting, line_octets, next_turn, reply_octets, smtp_protocol, state_of, state_or_ended};
+ghost use Rattle.smtp_session.specs.Session.{IsReady, KnowsState, SmtpStands, greeting, line_octets, reply_octets, smtp_protocol, state_of, state_or_ended};
 ghost use Rattle.smtp_session.specs.SmtpLaws.{begins_fit_by, fits_by, framed_by, goes_on_by, quiet_by, waits_by};
 ghost use Rattle.smtp_session.specs.Trace.{protocol as protocol_of, received, return_path};
 ghost use Rattle.smtp_session.specs.private.Steps.{DoesBy, IsFirst, IsFirstNext, ReadsLines, content_of, state_behind, stepped};
@@ -237,16 +237,16 @@ fn finish_data<W: Wire, J: Keeper, C: Clock>(
     reply_to_data(client, reply, outside)
 }
 
-// Data that are whole.
+// A session that takes data, and what was read of them.
 #[derive(Debug, Drop)]
-struct WholeData {
+struct TakenData {
     session: Smtp<Data>,
     reader: DataReader,
 }
 
 // The end of data, which came at this moment.
 fn end_data<W: Wire, J: Keeper, C: Clock>(
-    whole: WholeData,
+    whole: TakenData,
     stamp: Stamp,
     outside: &mut Outside<W, J, C>,
 ) -> Result<Smtp<Greeted>, Fault>
@@ -260,7 +260,7 @@ fn end_data<W: Wire, J: Keeper, C: Clock>(
     ensures client { IfOk result (λ next. next.state.client ≡ whole.session.state.client) }
     ensures keeps { Keeps outside.old outside.new (fault_of result) }
 {
-    let WholeData { session, reader } = whole;
+    let TakenData { session, reader } = whole;
     let Data { client, envelope } = session.state;
     let Some(content) = reader.into_content() else {
         drop(envelope);
@@ -268,7 +268,14 @@ fn end_data<W: Wire, J: Keeper, C: Clock>(
         return reply_to_data(client, TOO_LARGE, outside);
     };
     let name = outside.store().name().as_bytes();
-    let made = accept_data(outside.alloc(), &client, envelope, name, content.as_slice(), stamp);
+    let made = accept_data(
+        outside.alloc(),
+        &client,
+        envelope,
+        name,
+        content.as_slice(),
+        stamp,
+    );
     drop(content);
     let accepted = made?;
     finish_data(client, accepted, outside)
@@ -302,18 +309,18 @@ fn take_data<W: Wire, J: Keeper, C: Clock>(
     ensures keeps { Keeps outside.old outside.new (fault_of result) }
 {
     let taken = reader.take(piece);
-    let whole = WholeData { session, reader };
+    let data = TakenData { session, reader };
     let Ok(found) = taken else {
-        drop(whole);
+        drop(data);
         return Err(Fault::Memory);
     };
     match found {
         Some(used) => {
             let Ok(stamp) = outside.now() else {
-                drop(whole);
+                drop(data);
                 return Err(Fault::Memory);
             };
-            let greeted = end_data(whole, stamp, outside)?;
+            let greeted = end_data(data, stamp, outside)?;
             let (alloc, max) = (outside.alloc(), outside.store().message_max());
             Ok(Came {
                 next: Some(begun(alloc, max, SmtpState::Greeted(greeted))),
@@ -322,8 +329,8 @@ fn take_data<W: Wire, J: Keeper, C: Clock>(
         }
         None => Ok(Came {
             next: Some(SmtpMachine {
-                state: SmtpState::Data(whole.session),
-                reader: whole.reader,
+                state: SmtpState::Data(data.session),
+                reader: data.reader,
             }),
             used: piece.len(),
         }),

@@ -1,5 +1,5 @@
 -- What the private functions of a session do.
-use Rattle.std.specs.Prelude.{◌≡◌, ℕ, drop, List, [], Bool, Option, None, Some}
+use Rattle.std.specs.Prelude.{ℕ, drop, List, [], Bool, Option, None, Some}
 use Rattle.mail_wire.specs.declared.outside.Fault.{Fault}
 use Rattle.mail_store.specs.StoreState.{StoreState}
 use Rattle.session_core.specs.Around.{Around}

@@ -1,0 +1,59 @@
+-- The store behind the turns of a stream has their changes.
+use Rattle.std.proofs.Common.{◌≡◌, List, [], ℕ, Option, Some, None, sym, ap, subst}
+use Rattle.std.specs.Option.{option_map}
+use Rattle.journal_records.specs.declared.records.Record.{Record}
+use Rattle.mail_store.specs.Following.{records_of}
+use Rattle.mail_store.specs.StoreState.{StoreState, with_records}
+use Rattle.mail_wire.specs.Dots.{unstuffed}
+use Rattle.mail_wire.specs.Framing.{Framed, waiting, whole, too_long, next_line}
+use Rattle.mail_wire.specs.Lines.{Cut}
+use Rattle.smtp_grammar.specs.Commands.{command_of}
+use Rattle.smtp_grammar.specs.Data.{data_cut}
+use Rattle.session_core.specs.Acts.{Act, acts_of, changes_in}
+use Rattle.session_core.specs.Meanings.{Meanings}
+use Rattle.session_core.specs.Turns.{Turn}
+use Rattle.session_core.proofs.DoneLemmas.{changes_in-acts}
+use Rattle.session_core.proofs.StoreTurns.{Tracks, all_track}
+use Rattle.smtp_session.specs.Machine.{State, collecting, end_data, ended, fresh, greeted, mail, step}
+use Rattle.smtp_session.specs.Session.{Machine, data_turn, line_too_long, line_turn, next_moment, next_turn, turn_in, turns_of}
+use Rattle.smtp_session.specs.declared.states.Client.{Client}
+use Rattle.smtp_session.specs.declared.states.Envelope.{Envelope}
+
+unsome : {a b : Turn Machine (Act (List ℕ))} → Some a ≡ Some b → a ≡ b
+unsome h = cc
+
+-- the changes of a step are those of its acts
+with_changes : (store : StoreState) (made : List (List Record)) (reply : List (List ℕ)) → with_records store (records_of made) ≡ with_records store (records_of (changes_in (acts_of made reply)))
+with_changes store made reply = ap (λ (changes : List (List Record)). with_records store (records_of changes)) (sym (changes_in-acts made reply))
+
+abbrev TracksStore : Machine → Turn Machine (Act (List ℕ)) → Type 0
+TracksStore machine turn = Tracks (λ (m : Machine). m.store) machine turn
+
+line_tracks : (meanings : Meanings) (machine : Machine) (framed : Framed) (turn : Turn Machine (Act (List ℕ))) → line_turn meanings machine framed ≡ Some turn → TracksStore machine turn
+line_tracks meanings machine waiting turn is = cc
+line_tracks meanings machine (whole text rest) turn is =
+    let taken = step meanings machine.state machine.store (command_of text).verb (command_of text).argument in
+    subst (TracksStore machine) (unsome is) (with_changes machine.store taken.changes taken.reply)
+line_tracks meanings machine (too_long rest) turn is = subst (TracksStore machine) (unsome is) (with_changes machine.store [] line_too_long)
+
+data_tracks : (meanings : Meanings) (machine : Machine) (client : Client) (envelope : Envelope) (found : Option Cut) (turn : Turn Machine (Act (List ℕ)))
+    → option_map (data_turn meanings machine client envelope) found ≡ Some turn → TracksStore machine turn
+data_tracks meanings machine client envelope None turn is = cc
+data_tracks meanings machine client envelope (Some cut) turn is =
+    let taken = end_data meanings machine.store client envelope (next_moment machine.moments) (unstuffed cut.line) in
+    subst (TracksStore machine) (unsome is) (with_changes machine.store taken.changes taken.reply)
+
+turn_tracks : (meanings : Meanings) (state : State) (machine : Machine) (octets : List ℕ) (turn : Turn Machine (Act (List ℕ))) → turn_in meanings state machine octets ≡ Some turn → TracksStore machine turn
+turn_tracks meanings fresh machine octets turn is = line_tracks meanings machine (next_line octets) turn is
+turn_tracks meanings (greeted client) machine octets turn is = line_tracks meanings machine (next_line octets) turn is
+turn_tracks meanings (mail client envelope) machine octets turn is = line_tracks meanings machine (next_line octets) turn is
+turn_tracks meanings (collecting client envelope) machine octets turn is = data_tracks meanings machine client envelope (data_cut octets) turn is
+turn_tracks meanings ended machine octets turn is = cc
+
+next_tracks : (meanings : Meanings) (machine : Machine) (octets : List ℕ) (turn : Turn Machine (Act (List ℕ))) → next_turn meanings machine octets ≡ Some turn → TracksStore machine turn
+unfolding next_turn
+next_tracks meanings machine octets turn is = turn_tracks meanings machine.state machine octets turn is
+
+pub stream_store : (meanings : Meanings) (machine : Machine) (octets : List ℕ)
+    → (turns_of meanings machine octets).after.store ≡ with_records machine.store (records_of (changes_in (turns_of meanings machine octets).parts))
+stream_store meanings machine octets = all_track (next_turn meanings) (λ (m : Machine). m.store) (next_tracks meanings) machine octets

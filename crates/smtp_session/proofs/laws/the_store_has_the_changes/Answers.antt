@@ -1,0 +1,5 @@
+use Rattle.smtp_session.proofs.StoreLemmas.{stream_store}
+use Rattle.smtp_session.proofs.laws.the_store_has_the_changes.Goals as goal
+
+pub returns : goal.returns
+returns c = stream_store
