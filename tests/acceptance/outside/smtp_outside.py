@@ -4,7 +4,7 @@ are too long."""
 import resource
 import signal
 
-from journal import message, queue
+from journal import account, domain, journal, message, queue
 from outside.pop_outside import SESSION_MAX, is_slow, of_the_outside, of_words, run_long
 from rows.smtp_rows import (
     ANN, GREETED, JOSE, JOSE_KEPT, MESSAGE_MAX, OK, READY_FOR_DATA, RECIPIENT_OK, SENDER_OK, STORED, TAKES_DATA, TOO_LARGE, kept, octets_of, trace,
@@ -20,6 +20,7 @@ HEADER = b"A: b\r\n\r\n"
 LINE = b"x" * 65_534 + b"\r\n"
 # octets of memory and of address space that are enough for a message, and not for a session
 ENOUGH = 512 << 20
+RECIPIENTS, SHARED = 20, 4 << 20
 
 
 def data_of(size):
@@ -65,6 +66,24 @@ def little_room(size):
     return limit
 
 
+def little_more_than_is_kept():
+    """An address space of 1.3 times what is kept of a message to many."""
+    octets = RECIPIENTS * SHARED * 13 // 10
+    resource.setrlimit(resource.RLIMIT_AS, (octets, octets))
+
+
+def of_many_recipients(program, tally):
+    """A message to twenty accounts needs little more memory than what is kept of it."""
+    users = [f"u{number}@example.org" for number in range(RECIPIENTS)]
+    old = journal(domain(b"example.org"), *(account(user.encode(), b"pw") for user in users))
+    data, moments = data_of(SHARED), Moments(old, 0)
+    given = octets_of([*READY_FOR_DATA[:2], *(f"RCPT TO:<{user}>" for user in users), "DATA"]) + data + END
+    replies = octets_of([*GREETED, SENDER_OK, *[RECIPIENT_OK] * RECIPIENTS, "354 go ahead", STORED])
+    records = b"".join(message(folder, kept("a@b", data)) for folder in range(RECIPIENTS))
+    status, heard, after = run_whole(program, old, given, SMTP, preexec=little_more_than_is_kept)
+    tally.note("SMTP: a message to many in little memory", answer_faults((status, heard, moments.seen(after)), (0, replies, old + records)))
+
+
 def of_a_full_journal(program, tally):
     """A journal without room for a message has a prefix of its record, which the next session cuts off."""
     record, moments = message(0, JOSE_KEPT), Moments(ANN, 0)
@@ -107,4 +126,5 @@ def check(program, tally):
         return
     of_sizes(program, tally)
     of_refusals(program, tally)
+    of_many_recipients(program, tally)
     of_the_limit(program, tally)

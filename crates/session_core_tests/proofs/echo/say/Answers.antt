@@ -50,3 +50,8 @@ returns-clause-answers g c =
     echo_answers c.args.outside.now c.give-2.new.self (echo.Saying c.args.said) c.args.line.now (Ok (Some (echo.Saying c.clear.new.self))) c.as_slice-2.result.now (saying [])
     (echo_row c.args.said c.args.line.now c.as_slice-2.result.now (sym c.in_default.is ∙ c.literal_len.ensures) (c.as_slice-2.ensures ∙ c.in_ok-push_slice.ensures.ok) other) c.in_ok-give-3.ensures.replies
     (λ more. rw c.clear.ensures refl)
+
+pub returns-in-Some-clause-answers : goal.returns-in-Some-clause-answers
+returns-in-Some-clause-answers g c =
+    echo_answers c.args.outside.now c.give.new.self (echo.Saying c.args.said) c.args.line.now (Ok (Some (echo.Literal c.push_slice.new.self c.in-Some.n))) (codes "+ go" ++ crlf) (literal c.push_slice.new.self c.in-Some.n)
+    (go_row c.args.said c.args.line.now c.push_slice.new.self c.in-Some.n (sym c.in-Some.is ∙ c.literal_len.ensures) c.in_ok-push_slice.ensures.ok) c.in_ok-give.ensures.replies (λ more. refl)
