@@ -18,7 +18,7 @@ word_kind Special h = cc h
 word_kind Gap h = cc h
 word_kind Comment h = cc h
 
-atom_kind : (k : TokenKind) → is_atom_kind k ≡ true → is_special_kind k ≡ false
+pub atom_kind : (k : TokenKind) → is_atom_kind k ≡ true → is_special_kind k ≡ false
 atom_kind Atom h = refl
 atom_kind Quoted h = cc h
 atom_kind Literal h = cc h

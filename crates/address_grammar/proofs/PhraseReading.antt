@@ -1,13 +1,13 @@
 -- The units of a phrase are read token by token.
 use Rattle.std.proofs.Common.{◌≡◌, ℕ, Bool, true, false, not, ◌&&◌, ◌||◌, cond, List, [], ◌∷◌, ◌++◌, is_some, None, refl, ◌∙◌}
+use Rattle.std.proofs.lemmas.Bool.{or_right}
 use Rattle.std.proofs.lemmas.Slice.Eq.{bytes_eq-Decides}
 use Rattle.encoded_words.specs.declared.units.Merging.{Merging}
 use Rattle.encoded_words.specs.Words.{UnitValue, Text}
 use Rattle.encoded_words.specs.Units.{Place, with_text, word_unit, merged, raw_units, begins_encoded, run_text}
 use Rattle.encoded_words.specs.private.Merging.{IsMerging, TakesWord, done_values, units_then, onto}
 use Rattle.encoded_words.specs.PhraseUnits.{PhraseItem, Separator, word_before, gap_before, begins_free, has_word, phrase_words, IsPhrasePlace, ArePhrasePlaces, HasPhraseUnits}
-use Rattle.encoded_words.proofs.WithText.{with_text-append}
-use Rattle.encoded_words.proofs.Reading.{merged-onto, and_false}
+use Rattle.encoded_words.proofs.Reading.{merged-onto, and_false, then_text, and_true}
 use Rattle.field_tokens.specs.declared.TokenKind.{TokenKind}
 use Rattle.field_tokens.specs.declared.TokenKind.TheVariants.{Atom, Quoted, Literal, Special, Gap, Comment}
 use Rattle.address_grammar.specs.declared.phrases.PhraseReader.{PhraseReader}
@@ -19,9 +19,6 @@ use Rattle.address_grammar.specs.private.PhraseSteps.{TakesPart, IsFreshReader, 
 
 pub part_encoded : (old new : Merging) (run word : List ℕ) (was encoded : Bool) → TakesWord old new run was word encoded → TakesPart old new run was word true encoded
 part_encoded old new run word was encoded t = record { says = t.says; says_is = t.says_is; encoded_is = t.encoded_is; units = t.units }
-
-then_text : (old new : Merging) (text : List ℕ) (us : List UnitValue) → IsMerging new (done_values old) (old.text.items ++ text) → units_then new us ≡ units_then old (with_text text us)
-then_text old new text us is = rw (is.done_is, is.text_is, ← with_text-append old.text.items text us) refl
 
 pub part_plain : (old mid new : Merging) (run word : List ℕ) (was : Bool) → IsMerging mid (done_values old) (old.text.items ++ run) → IsMerging new (done_values mid) (mid.text.items ++ word)
     → TakesPart old new run was word false false
@@ -39,12 +36,8 @@ abbrev pub SoFar : List PhraseItem → Merging → Bool → Bool → Bool → Li
 SoFar phrase m first free encoded items = (places : List Place) → ArePhrasePlaces (phrase_words free items) places
     → HasPhraseUnits phrase (units_then m (with_text (cond (encoded && begins_encoded places) [] (cond (not first && ((free || begins_free items) && has_word items)) (32 ∷ []) [])) (merged (raw_units places))))
 
-or_true : (b : Bool) → (b || true) ≡ true
-or_true true = refl
-or_true false = refl
-
 pub separator : (phrase items : List PhraseItem) (m : Merging) (first free encoded : Bool) → SoFar phrase m first free encoded (Separator ∷ items) → SoFar phrase m first true encoded items
-separator phrase items m first free encoded reads = λ places are. rw (or_true free) at (reads places are)
+separator phrase items m first free encoded reads = λ places are. rw (or_right free true refl) at (reads places are)
 
 run_is : (first free : Bool) → (free && not first) ≡ (not first && ((free || false) && true))
 run_is true true = refl
@@ -68,24 +61,16 @@ word_turn phrase items octets old new first free was may encoded t reads = λ pl
 dot_octets : (octets : List ℕ) → is_mark 46 (record { kind = Special; octets = octets }) ≡ true → octets ≡ 46 ∷ []
 dot_octets octets h = (bytes_eq-Decides octets (46 ∷ [])).0 h
 
-and_no : (b : Bool) → (b && false) ≡ false
-and_no true = refl
-and_no false = refl
-
-and_yes : (b : Bool) → (b && true) ≡ b
-and_yes true = refl
-and_yes false = refl
-
 pub token_turn : (kind : TokenKind) (octets : List ℕ) (phrase items : List PhraseItem) (old new : Merging) (first free was next encoded : Bool)
     → may_stand_in_phrase (record { kind = kind; octets = octets }) ≡ true → is_blank_token (record { kind = kind; octets = octets }) ≡ false
     → TakesPart old new (cond (free && not first) (32 ∷ []) []) was (content_of kind octets) ((free && next) && is_atom_kind kind) encoded
     → begins_free items ≡ next → SoFar phrase old first free was (item_of kind octets ∷ items) → SoFar phrase new false false encoded items
 token_turn Atom octets phrase items old new first free was next encoded may word t free_behind reads =
-    word_turn phrase items octets old new first free was (free && begins_free items) encoded (rw (free_behind) (rw (and_yes (free && next)) at t)) (λ p places is are. reads (p ∷ places) (is, are))
+    word_turn phrase items octets old new first free was (free && begins_free items) encoded (rw (free_behind) (rw (and_true (free && next)) at t)) (λ p places is are. reads (p ∷ places) (is, are))
 token_turn Quoted octets phrase items old new first free was next encoded may word t free_behind reads =
-    word_turn phrase items (content_of Quoted octets) old new first free was false encoded (rw (and_no (free && next)) at t) (λ p places is are. reads (p ∷ places) (is, are))
+    word_turn phrase items (content_of Quoted octets) old new first free was false encoded (rw (and_false (free && next)) at t) (λ p places is are. reads (p ∷ places) (is, are))
 token_turn Special octets phrase items old new first free was next encoded may word t free_behind reads =
-    word_turn phrase items (46 ∷ []) old new first free was false encoded (rw (and_no (free && next), dot_octets octets may) at t) (λ p places is are. reads (p ∷ places) (is, are))
+    word_turn phrase items (46 ∷ []) old new first free was false encoded (rw (and_false (free && next), dot_octets octets may) at t) (λ p places is are. reads (p ∷ places) (is, are))
 token_turn Literal octets phrase items old new first free was next encoded may word t free_behind reads = cc may
 token_turn Gap octets phrase items old new first free was next encoded may word t free_behind reads = cc word
 token_turn Comment octets phrase items old new first free was next encoded may word t free_behind reads = cc word
@@ -108,4 +93,4 @@ pub end_reads : (phrase : List PhraseItem) (r : PhraseReader) → ReadsSoFar phr
 end_reads phrase r reads = rw (no_run r.is_first r.is_free r.after_encoded) at (reads [] tt)
   where
     no_run : (first free encoded : Bool) → cond {A = List ℕ} (encoded && false) [] (cond {A = List ℕ} (not first && ((free || true) && false)) (32 ∷ []) []) ≡ []
-    no_run first free encoded = rw (and_no encoded, or_true free, and_no (not first)) refl
+    no_run first free encoded = rw (and_false encoded, or_right free true refl, and_false (not first)) refl

@@ -6,6 +6,7 @@ use Rattle.std.proofs.lemmas.List.Folds.{list_all-append}
 use Rattle.std.proofs.lemmas.Str.{IsUtf8-nil, IsUtf8-append}
 use Rattle.std.specs.List.{AllByRecursion, list_all}
 use Rattle.std.specs.Str.{IsUtf8}
+use Rattle.encoded_words.proofs.WritableUnits.{behind_ascii, before_ascii}
 use Rattle.field_tokens.specs.declared.Style.TheVariants.{Mail}
 use Rattle.field_tokens.specs.declared.TokenKind.{TokenKind}
 use Rattle.field_tokens.specs.declared.TokenKind.TheVariants.{Atom, Quoted, Literal, Special, Gap, Comment}
@@ -13,7 +14,7 @@ use Rattle.field_tokens.specs.Groups.{IsGroup, inside_octets}
 use Rattle.field_tokens.specs.TokenOctets.{is_atom_octet, is_line_octet}
 use Rattle.field_tokens.specs.Tokens.{TokenValue, AreTokens, IsToken, IsLine, quoted_marks, literal_marks}
 use Rattle.address_grammar.specs.private.Lexemes.{is_blank_token, words_of, unquoted, inner_octets, content_of, content, contents}
-use Rattle.field_tokens.proofs.TokenLines.{before_ascii, behind_ascii, token_utf8}
+use Rattle.field_tokens.proofs.TokenLines.{token_utf8}
 use Rattle.address_grammar.proofs.Utf8Lemmas.{unquoted_utf8}
 
 -- what an atom or a literal is, whatever follows

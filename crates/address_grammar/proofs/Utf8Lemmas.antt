@@ -6,7 +6,7 @@ use Rattle.std.proofs.lemmas.List.{append_assoc}
 use Rattle.std.proofs.lemmas.Str.{IsUtf8-append}
 use Rattle.std.specs.List.{flat_map}
 use Rattle.std.specs.Str.{IsUtf8}
-use Rattle.field_tokens.proofs.TokenLines.{before_ascii, behind_ascii, one_ascii}
+use Rattle.encoded_words.proofs.WritableUnits.{one_ascii, behind_ascii, before_ascii}
 use Rattle.address_grammar.specs.private.Lexemes.{unquoted}
 use Rattle.address_grammar.specs.Addresses.{quoted_octet}
 

@@ -2,13 +2,12 @@
 use Rattle.std.proofs.Common.{◌≡◌, ◌≢◌, ℕ, ◌<◌, true, false, ◌&&◌, ◌||◌, eqb, cond, inl, inr, List, [], ◌∷◌, ◌++◌, length, Some, refl, sym, ap, ◌∙◌, arith}
 use Rattle.std.proofs.lemmas.Bool.{and_parts, and_from, cases_Bool, or_cases, or_parts}
 use Rattle.std.proofs.lemmas.List.{append_assoc, append-nil}
-use Rattle.std.proofs.lemmas.List.Folds.{list_all-append}
 use Rattle.std.proofs.lemmas.List.Splits.{join_with_byte-slice_split, length-slice_split}
 use Rattle.std.proofs.lemmas.Slice.Eq.{bytes_eq-Decides}
-use Rattle.std.proofs.lemmas.Str.{IsUtf8-append}
 use Rattle.std.specs.List.{AllByRecursion, flat_map, list_all, slice_split, join_with_byte}
 use Rattle.std.specs.Str.{bytes_eq}
 use Rattle.mail_wire.specs.Spans.{Stops}
+use Rattle.encoded_words.proofs.WritableUnits.{one_ascii}
 use Rattle.field_tokens.specs.declared.Style.TheVariants.{Mail}
 use Rattle.field_tokens.specs.declared.TokenKind.{TokenKind}
 use Rattle.field_tokens.specs.declared.TokenKind.TheVariants.{Atom, Quoted, Literal, Special, Gap, Comment}
@@ -19,7 +18,7 @@ use Rattle.address_grammar.specs.declared.Address.{Address}
 use Rattle.address_grammar.specs.private.Lexemes.{is_blank_token, words_of, is_special_kind, is_mark, is_atom_kind, is_word_kind, is_literal_kind, is_part, unquoted, content_of, contents, are_dotted}
 use Rattle.address_grammar.specs.Addresses.{IsLocal, is_one_literal, is_domain, IsAddress, is_some_atom, is_dot_atom, quoted_octet, quoted_string, local_text, address_text}
 use Rattle.address_grammar.specs.Paths.{HasPath, ComesInPath, in_angles}
-use Rattle.field_tokens.proofs.TokenLines.{one_ascii}
+use Rattle.field_tokens.proofs.TokenLines.{line_append}
 use Rattle.address_grammar.proofs.Utf8Lemmas.{quoted_utf8}
 use Rattle.address_grammar.proofs.SoundLemmas.{Shape, IsSound, inner-group, tokens_sound, sound_front, sound_rest, sound_words, contents_utf8, contents_line, contents-words}
 
@@ -58,7 +57,7 @@ atom_content Special octets h = cc h
 atom_content Gap octets h = cc h
 atom_content Comment octets h = cc h
 
-special_is : (kind : TokenKind) → is_special_kind kind ≡ true → kind ≡ Special
+pub special_is : (kind : TokenKind) → is_special_kind kind ≡ true → kind ≡ Special
 special_is Atom h = cc h
 special_is Quoted h = cc h
 special_is Literal h = cc h
@@ -282,12 +281,6 @@ quoted_line (x ∷ octets) h =
       | inr other ↦ rw (other) (and_from (is_line_octet x) (list_all is_line_octet (flat_map quoted_octet octets)) parts.0 (quoted_line octets parts.1))
     ]
 
-pub line-append : (a b : List ℕ) → IsLine a → IsLine b → IsLine (a ++ b)
-line-append a b p q = record {
-  utf8 = IsUtf8-append a b p.utf8 q.utf8;
-  plain = list_all-append is_line_octet a b ∙ and_from (list_all is_line_octet a) (list_all is_line_octet b) p.plain q.plain;
-}
-
 one_line : (x : ℕ) → x < 128 → is_line_octet x ≡ true → IsLine (x ∷ [])
 one_line x small plain = record { utf8 = one_ascii x small; plain = and_from (is_line_octet x) true plain refl }
 
@@ -297,8 +290,8 @@ quote_line = one_line 34 (omega arith) refl
 pub local_line : (local : List ℕ) → IsLine local → IsLine (local_text local)
 local_line local l = elim (cases_Bool (is_dot_atom local)) [
   | inl dotted ↦ rw (dotted) l
-  | inr other ↦ rw (other) (line-append (34 ∷ []) (flat_map quoted_octet local ++ 34 ∷ []) quote_line
-      (line-append (flat_map quoted_octet local) (34 ∷ []) (record { utf8 = quoted_utf8 local l.utf8; plain = quoted_line local l.plain }) quote_line))
+  | inr other ↦ rw (other) (line_append (34 ∷ []) (flat_map quoted_octet local ++ 34 ∷ []) quote_line
+      (line_append (flat_map quoted_octet local) (34 ∷ []) (record { utf8 = quoted_utf8 local l.utf8; plain = quoted_line local l.plain }) quote_line))
 ]
 
 contents_is_line : (ts : List TokenValue) → AllByRecursion IsSound ts → IsLine (contents ts)
@@ -324,10 +317,10 @@ address_again ts a s is =
     written.1.writes.are_tokens (mark 64 ∷ (domain ++ mark 62 ∷ [])) (64 ∷ (a.domain ++ 62 ∷ [])) refl (a.domain ++ 62 ∷ [], refl, (64, refl, refl), behind) in
     let text : address_text a ++ 62 ∷ [] ≡ local_text a.local ++ 64 ∷ (a.domain ++ 62 ∷ []) = append_assoc (local_text a.local) (64 ∷ a.domain) (62 ∷ []) in
     let line : IsLine (in_angles (address_text a)) =
-    line-append (60 ∷ []) (address_text a ++ 62 ∷ []) (one_line 60 (omega arith) refl)
-    (line-append (address_text a) (62 ∷ [])
-    (line-append (local_text a.local) (64 ∷ a.domain) (local_line a.local (rw (is.local_says) (contents_is_line is.local local_sound)))
-    (line-append (64 ∷ []) a.domain (one_line 64 (omega arith) refl) (rw (is.domain_says) (contents_is_line is.domain domain_sound))))
+    line_append (60 ∷ []) (address_text a ++ 62 ∷ []) (one_line 60 (omega arith) refl)
+    (line_append (address_text a) (62 ∷ [])
+    (line_append (local_text a.local) (64 ∷ a.domain) (local_line a.local (rw (is.local_says) (contents_is_line is.local local_sound)))
+    (line_append (64 ∷ []) a.domain (one_line 64 (omega arith) refl) (rw (is.domain_says) (contents_is_line is.domain domain_sound))))
     (one_line 62 (omega arith) refl)) in
     record {
       tokens = mark 60 ∷ (tokens ++ mark 64 ∷ (domain ++ mark 62 ∷ []));

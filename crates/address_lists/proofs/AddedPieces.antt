@@ -3,6 +3,7 @@ use Rattle.std.proofs.Common.{◌≡◌, ◌≢◌, ℕ, ◌+◌, ◌<◌, List,
 use Rattle.std.proofs.lemmas.List.{append_assoc, append-nil, map-append, take-append-drop, drop_more, take_more}
 use Rattle.std.specs.List.{AllByRecursion}
 use Rattle.std.specs.Option.{option_to_list}
+use Rattle.mail_wire.proofs.AllLemmas.{all-back}
 use Rattle.encoded_words.specs.Words.{UnitValue}
 use Rattle.encoded_words.specs.Written.{AddsUnits}
 use Rattle.field_tokens.specs.Tokens.{TokenValue}
@@ -10,7 +11,6 @@ use Rattle.field_tokens.specs.Squeezed.{comments_of}
 use Rattle.field_tokens.specs.Comments.{CommentsPieces, AddsPieces}
 use Rattle.address_lists.specs.ListPieces.{no_members, with_comma}
 use Rattle.address_lists.specs.private.ListWriting.{EmptiedPieces}
-use Rattle.address_lists.proofs.PhraseListLemmas.{all_rest}
 
 pub weaker_pieces : (P Q : List (List ℕ) → Type 0) (old new : List (List ℕ)) → ((p : List (List ℕ)) → P p → Q p) → AddsPieces P old new → AddsPieces Q old new
 weaker_pieces P Q old new f a = record { pieces = a.pieces; holds = f a.pieces a.holds; added = a.added }
@@ -42,7 +42,7 @@ all_at : {X Y : Type 0} (P : Y → Type 0) (f : X → Y) (xs : List X) (i : ℕ)
 all_at {X = X} {Y = Y} P f xs i d all h =
     let parts : xs ≡ take i xs ++ get_or xs i d ∷ drop (i + 1) xs = sym (take-append-drop i xs) ∙ ap (λ r. take i xs ++ r) (drop_more xs i d h) in
     let whole : map f xs ≡ map f (take i xs) ++ f (get_or xs i d) ∷ map f (drop (i + 1) xs) = ap (map f) parts ∙ map-append f (take i xs) (get_or xs i d ∷ drop (i + 1) xs) in
-    (all_rest P (map f (take i xs)) (f (get_or xs i d) ∷ map f (drop (i + 1) xs)) (subst (AllByRecursion P) whole all)).0
+    (all-back P (map f (take i xs)) (f (get_or xs i d) ∷ map f (drop (i + 1) xs)) (subst (AllByRecursion P) whole all)).0
 
 -- what holds of the element at a place
 pub item_at : {X Y : Type 0} (P : Y → Type 0) (f : X → Y) (xs : List X) (i : ℕ) (x : X) → x ≡ get_or xs i x → AllByRecursion P (map f xs) → i < length xs → P (f x)

@@ -1,18 +1,18 @@
 -- An element that is ASCII stands for itself.
-use Rattle.std.proofs.Common.{◌≡◌, ℕ, ◌-◌, Bool, true, false, inl, inr, List, [], ◌∷◌, ◌++◌, length, take, drop, is_some, Some, refl, sym, ap, ◌∙◌, subst, arith}
-use Rattle.std.proofs.lemmas.Bool.{and_parts, and_from}
-use Rattle.std.proofs.lemmas.List.{append-nil, take-append-drop}
+use Rattle.std.proofs.Common.{◌≡◌, ℕ, ◌-◌, Bool, true, false, inl, inr, List, [], ◌∷◌, ◌++◌, length, drop, is_some, Some, refl, ap, ◌∙◌, subst, arith}
+use Rattle.std.proofs.lemmas.Bool.{and_from}
+use Rattle.std.proofs.lemmas.List.{append-nil}
 use Rattle.std.proofs.lemmas.List.Folds.{list_all-append}
 use Rattle.std.specs.List.{AllByRecursion, AllZip, list_all}
 use Rattle.mail_wire.specs.Octets.{is_ascii}
-use Rattle.mail_wire.proofs.AllLemmas.{all-append}
+use Rattle.mail_wire.proofs.AllLemmas.{all-append, pass-parts, pass-front, pass-back, pass-take, pass-drop}
 use Rattle.field_tokens.specs.declared.Style.TheVariants.{Mail}
 use Rattle.field_tokens.specs.declared.TokenKind.{TokenKind}
 use Rattle.field_tokens.specs.declared.TokenKind.TheVariants.{Atom, Quoted, Literal, Special, Gap, Comment}
 use Rattle.field_tokens.specs.Tokens.{TokenValue, AreTokens}
 use Rattle.field_tokens.specs.Squeezed.{octets_of, comments_of}
 use Rattle.field_tokens.specs.Comments.{CommentValue, CommentsSay}
-use Rattle.field_tokens.proofs.Parts.{EndsNoGap-append, tokens_some, comments_of-append}
+use Rattle.field_tokens.proofs.Parts.{EndsNoGap-append, tokens_some, comments_of-append, octets_of-append}
 use Rattle.address_grammar.specs.declared.Address.{Address}
 use Rattle.address_grammar.specs.private.Lexemes.{HasTokenValues, inner_octets, content_of, content, contents}
 use Rattle.address_grammar.specs.Addresses.{IsAddress}
@@ -20,7 +20,7 @@ use Rattle.address_grammar.specs.AddressLists.{Divided, MailboxValue, IsRoutedOr
 use Rattle.address_lists.specs.ListPieces.{served_address, is_plain, HasText}
 use Rattle.address_lists.specs.ListReadBack.{IsServedMailbox, StandsForElement}
 use Rattle.address_grammar.proofs.SoundLemmas.{unquoted_all}
-use Rattle.address_lists.proofs.PlaceTokens.{octets-append, HasTokenValues-part}
+use Rattle.address_lists.proofs.PlaceTokens.{HasTokenValues-part}
 use Rattle.address_lists.proofs.PhraseWriting.{gaps_blank, gaps_no_comments}
 use Rattle.address_lists.proofs.ServedLemmas.{served_ascii}
 use Rattle.address_lists.proofs.MadeTokens.{AreMade}
@@ -32,23 +32,14 @@ use Rattle.address_lists.proofs.MailboxesAgain.{IsMailboxAgain, IsElementAgain, 
 abbrev pub AreAscii : List TokenValue → Type 0
 AreAscii ts = list_all is_ascii (octets_of ts) ≡ true
 
-all_parts : (q : ℕ → Bool) (a b : List ℕ) → list_all q (a ++ b) ≡ true → (list_all q a ≡ true) × (list_all q b ≡ true)
-all_parts q a b h = and_parts (list_all q a) (list_all q b) (sym (list_all-append q a b) ∙ h)
-
 pub ascii_front : (a b : List TokenValue) → AreAscii (a ++ b) → AreAscii a
-ascii_front a b h = (all_parts is_ascii (octets_of a) (octets_of b) (rw (octets-append a b) at h)).0
+ascii_front a b h = pass-front is_ascii (octets_of a) (octets_of b) (rw (octets_of-append a b) at h)
 
 pub ascii_rest : (a b : List TokenValue) → AreAscii (a ++ b) → AreAscii b
-ascii_rest a b h = (all_parts is_ascii (octets_of a) (octets_of b) (rw (octets-append a b) at h)).1
+ascii_rest a b h = pass-back is_ascii (octets_of a) (octets_of b) (rw (octets_of-append a b) at h)
 
 ascii_tail : (t : TokenValue) (ts : List TokenValue) → AreAscii (t ∷ ts) → AreAscii ts
-ascii_tail t ts h = (all_parts is_ascii t.octets (octets_of ts) h).1
-
-all_take : (q : ℕ → Bool) (n : ℕ) (xs : List ℕ) → list_all q xs ≡ true → list_all q (take n xs) ≡ true
-all_take q n xs h = (all_parts q (take n xs) (drop n xs) (rw (take-append-drop n xs) h)).0
-
-all_drop : (q : ℕ → Bool) (n : ℕ) (xs : List ℕ) → list_all q xs ≡ true → list_all q (drop n xs) ≡ true
-all_drop q n xs h = (all_parts q (take n xs) (drop n xs) (rw (take-append-drop n xs) h)).1
+ascii_tail t ts h = pass-back is_ascii t.octets (octets_of ts) h
 
 content_all : (q : ℕ → Bool) (kind : TokenKind) (octets : List ℕ) → list_all q octets ≡ true → list_all q (content_of kind octets) ≡ true
 content_all q Atom octets h = h
@@ -56,12 +47,12 @@ content_all q Literal octets h = h
 content_all q Special octets h = h
 content_all q Gap octets h = refl
 content_all q Comment octets h = refl
-content_all q Quoted octets h = unquoted_all q false (inner_octets octets) (all_take q (length octets - 2) (drop 1 octets) (all_drop q 1 octets h))
+content_all q Quoted octets h = unquoted_all q false (inner_octets octets) (pass-take q (length octets - 2) (drop 1 octets) (pass-drop q 1 octets h))
 
 contents_ascii : (ts : List TokenValue) → AreAscii ts → list_all is_ascii (contents ts) ≡ true
 contents_ascii [] h = refl
 contents_ascii (t ∷ ts) h =
-    let parts = all_parts is_ascii t.octets (octets_of ts) h in
+    let parts = pass-parts is_ascii t.octets (octets_of ts) h in
     list_all-append is_ascii (content t) (contents ts) ∙ and_from (list_all is_ascii (content t)) (list_all is_ascii (contents ts)) (content_all is_ascii t.kind t.octets parts.0) (contents_ascii ts parts.1)
 
 -- ---- what is ASCII is served as it stands

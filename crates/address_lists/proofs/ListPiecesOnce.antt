@@ -177,7 +177,7 @@ GroupPieces-once ts ps qs (Emptied us ms xs cs g none p c w) (Emptied vs ns ys d
 
 -- ---- lists
 
-mailbox_pieces : (ts : List TokenValue) (ps : List (List ℕ)) → MailboxPieces ts ps → (m : MailboxValue) × IsMailbox ts m
+pub mailbox_pieces : (ts : List TokenValue) (ps : List (List ℕ)) → MailboxPieces ts ps → (m : MailboxValue) × IsMailbox ts m
 mailbox_pieces ts ps (Bare m s cs is e c w) = (m, inl is)
 mailbox_pieces ts ps (Angled m s before inner cs a is none e c w) = (m, inr (named_by ts before inner m a is))
 mailbox_pieces ts ps (Named m s before inner core trail first cs a is some has phrase e c w) = (m, inr (named_by ts before inner m a is))

@@ -2,7 +2,7 @@
 use Rattle.std.proofs.Common.{◌≡◌, ℕ, Bool, true, false, if◌then◌else◌, ◌⊎◌, inl, inr, List, [], ◌∷◌, ◌++◌, Option, Some, None, codes, refl, sym, ap, ◌∙◌, subst, arith}
 use Rattle.std.proofs.lemmas.Bool.{cases_Bool, and_from, both_ways}
 use Rattle.std.proofs.lemmas.Str.{IsUtf8-append, IsUtf8-from_ascii}
-use Rattle.std.specs.List.{AllByRecursion, list_all, flat_map}
+use Rattle.std.specs.List.{AllByRecursion, list_all}
 use Rattle.std.specs.Str.{IsUtf8}
 use Rattle.mail_wire.specs.Octets.{is_ascii}
 use Rattle.mail_wire.proofs.AllLemmas.{all-append}
@@ -10,27 +10,27 @@ use Rattle.encoded_words.specs.Words.{UnitValue, Text}
 use Rattle.encoded_words.specs.Written.{IsWritable, AreWritable}
 use Rattle.encoded_words.proofs.BWords.{ascii_literal}
 use Rattle.encoded_words.proofs.AddedUnits.{WriteAll-some}
-use Rattle.encoded_words.proofs.WritableUnits.{merged_writable, HasPhraseUnits-writable}
+use Rattle.encoded_words.proofs.WritableUnits.{merged_writable, HasPhraseUnits-writable, one_ascii}
 use Rattle.field_tokens.specs.Tokens.{TokenValue}
 use Rattle.field_tokens.specs.Squeezed.{is_gap, octets_of, comments_of}
 use Rattle.field_tokens.specs.Comments.{CommentValue, CommentsPieces, AreWritableComments}
 use Rattle.field_tokens.proofs.CommentValues.{CommentsPieces-some}
-use Rattle.field_tokens.proofs.TokenLines.{one_ascii}
+use Rattle.field_tokens.proofs.Parts.{comments_of-append}
 use Rattle.address_grammar.specs.declared.Address.{Address}
 use Rattle.address_grammar.specs.private.Lexemes.{are_blank}
-use Rattle.address_grammar.specs.Addresses.{IsAddress, is_dot_atom, quoted_octet, local_text, address_text}
+use Rattle.address_grammar.specs.Addresses.{IsAddress, local_text, address_text}
 use Rattle.address_grammar.specs.Paths.{IsAngled, in_angles}
 use Rattle.address_grammar.specs.Phrases.{IsPhrase, phrase_items, SaysPhrase}
 use Rattle.address_lists.specs.PhrasePieces.{HasCore}
 use Rattle.address_grammar.specs.private.PhraseSteps.{BeginsNoGap}
 use Rattle.address_grammar.specs.AddressLists.{Divided, MailboxValue, IsRoutedOrNot, IsNamedBy, IsMailbox, SayParts, IsOneMailbox, AreMembers, ElementValue, One, Group, IsGroup, IsElement, SaysPlace}
 use Rattle.address_lists.specs.ListPieces.{served_address, is_plain, mailbox_units, member_units, members_units, group_units, no_members, MailboxPieces, Bare, Angled, Named, Emptied, HasText, MemberPieces, with_comma, MembersPieces, InnerPieces, GroupPieces, Kept, ElementPieces, PlaceOfListPieces, followed_by, PlacesPieces, SaysAddresses, AddressesPieces}
-use Rattle.address_grammar.proofs.Utf8Lemmas.{quoted_utf8}
 use Rattle.address_grammar.proofs.SoundLemmas.{IsSound, tokens_sound, sound_front, sound_rest, contents_utf8}
 use Rattle.address_lists.proofs.SoundPhrases.{sound_items, text_comments}
-use Rattle.address_lists.proofs.PhraseWriting.{gaps_blank, blank-append, core_utf8, core_writable, trail_writable, comments_of-append, CommentsPieces-append, writable_front, writable_rest}
+use Rattle.address_lists.proofs.PhraseWriting.{gaps_blank, blank-append, core_utf8, core_writable, trail_writable, CommentsPieces-append, writable_front, writable_rest}
 use Rattle.address_lists.proofs.WrittenPhrases.{skips_some, HasCore-some, PhrasePieces-some, PlacePieces-some}
 use Rattle.address_grammar.proofs.ListLemmas.{one_not_blank, members_not_blank, element_not_blank}
+use Rattle.address_lists.proofs.WritableTokens.{local_utf8}
 
 -- ---- what can be written
 
@@ -53,13 +53,6 @@ serves_both : (ts a : List TokenValue) (t : TokenValue) (b : List TokenValue) �
 serves_both ts a t b e can =
     let whole : CanServe (a ++ t ∷ b) = subst CanServe e can in
     record { front = serve_front a (t ∷ b) whole; rest = serve_rest (t ∷ []) b (serve_rest a (t ∷ b) whole) }
-
-local_utf8 : (local : List ℕ) → IsUtf8 local → IsUtf8 (local_text local)
-local_utf8 local u = elim (cases_Bool (is_dot_atom local)) [
-  | inl dotted ↦ rw (dotted) u
-  | inr other ↦ rw (other) (IsUtf8-append (34 ∷ []) (flat_map quoted_octet local ++ 34 ∷ []) (one_ascii 34 (omega arith))
-      (IsUtf8-append (flat_map quoted_octet local) (34 ∷ []) (quoted_utf8 local u) (one_ascii 34 (omega arith))))
-]
 
 address_utf8 : (ts : List TokenValue) (a : Address) → CanServe ts → IsAddress ts a → IsUtf8 (address_text a)
 address_utf8 ts a can is =

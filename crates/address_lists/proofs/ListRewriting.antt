@@ -1,6 +1,6 @@
 -- Lists are written place by place.
 use Rattle.std.proofs.Common.{◌≡◌, ◌≢◌, ℕ, Bool, true, false, not, ◌&&◌, ◌||◌, cond, inl, inr, List, [], ◌∷◌, ◌++◌, map, Option, Some, None, refl, sym, ap, ◌∙◌, subst}
-use Rattle.std.proofs.lemmas.Bool.{cases_Bool, and_parts, not-true}
+use Rattle.std.proofs.lemmas.Bool.{cases_Bool, and_parts, not-true, or_right}
 use Rattle.std.proofs.lemmas.List.{append_assoc, append-nil}
 use Rattle.std.proofs.lemmas.List.Folds.{list_any-append}
 use Rattle.std.specs.List.{list_all, list_any}
@@ -9,14 +9,13 @@ use Rattle.field_tokens.specs.declared.TokenKind.{TokenKind}
 use Rattle.field_tokens.specs.declared.TokenKind.TheVariants.{Atom, Quoted, Literal, Special, Gap, Comment}
 use Rattle.field_tokens.specs.Tokens.{TokenValue}
 use Rattle.field_tokens.specs.Squeezed.{octets_of, comments_of}
-use Rattle.field_tokens.specs.Comments.{CommentValue, CommentsPieces, AddsPieces}
+use Rattle.field_tokens.specs.Comments.{CommentsPieces, AddsPieces}
 use Rattle.address_grammar.specs.private.Lexemes.{HasTokenValues, is_special_kind, is_mark, is_blank_token, are_blank}
 use Rattle.address_grammar.specs.AddressLists.{Divided, SayParts, AreDivided, ElementValue, IsElement, SaysPlace}
 use Rattle.address_grammar.specs.private.Walks.{awaited_behind, and_then, walk, SplitsPlace, IsLastPlace}
-use Rattle.address_lists.specs.ListPieces.{MailboxPieces, GroupPieces, with_comma, ElementPieces, PlaceOfListPieces, followed_by, PlacesPieces, SaysAddresses, AddressesPieces}
+use Rattle.address_lists.specs.ListPieces.{MailboxPieces, GroupPieces, with_comma, ElementPieces, PlaceOfListPieces, followed_by, PlacesPieces, AddressesPieces}
 use Rattle.address_lists.specs.private.ListWriting.{CanBeWritten, AsciiPieces, is_element_token, GivesPlace, GivesFollowed, GivesPlaces}
 use Rattle.address_grammar.proofs.LexemeLemmas.{no_mark}
-use Rattle.address_grammar.proofs.PathLemmas.{HasTokenValues-once}
 use Rattle.address_grammar.proofs.DividedLemmas.{ReadsParts, parts_start, parts_turn, parts_stuck, parts_stuck_last}
 use Rattle.address_grammar.proofs.ListLemmas.{place_walked, element_not_blank}
 use Rattle.address_lists.proofs.AddedPieces.{comma_behind, some_behind}
@@ -103,12 +102,8 @@ one_part (t ∷ ts) w = elim (cases_Bool (is_blank_token t)) [
   ]
 ]
 
-or_true : (b : Bool) → (b || true) ≡ true
-or_true true = refl
-or_true false = refl
-
 comma_token : (t : TokenValue) → is_mark 44 t ≡ true → is_element_token t ≡ false
-comma_token t h = rw (h, or_true (is_blank_token t)) refl
+comma_token t h = rw (h, or_right (is_blank_token t) true refl) refl
 
 later : (parts : List (List TokenValue)) (ts : List TokenValue) (es : List ElementValue) → Divided 44 parts ts → SayParts SaysPlace parts es → list_any (λ p. not (are_blank p)) parts ≡ list_any is_element_token ts
 later [] ts es d say = absurd d
@@ -184,6 +179,3 @@ places_stuck_last ts rest pieces w last none = parts_stuck_last SaysPlace place_
 
 pub list_pieces : (text : List ℕ) (ts : List TokenValue) (ps : List (List ℕ)) → HasTokenValues text ts → GivesPlaces ts ps → AddressesPieces text ps
 list_pieces text ts ps has g = record { tokens = ts; has = has; elements = g.elements; are_elements = g.are_elements; pieces_are = g.pieces_are }
-
-pub says_elements : (text : List ℕ) (ts : List TokenValue) (es : List ElementValue) (cs : List CommentValue) → HasTokenValues text ts → SaysAddresses text es cs → AreDivided SaysPlace ts es
-says_elements text ts es cs has says = rw (HasTokenValues-once text ts says.tokens has says.has) says.are_elements

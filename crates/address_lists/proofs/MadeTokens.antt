@@ -14,19 +14,20 @@ use Rattle.field_tokens.specs.declared.TokenKind.TheVariants.{Atom, Quoted, Lite
 use Rattle.field_tokens.specs.TokenOctets.{is_line_octet}
 use Rattle.field_tokens.specs.Groups.{IsGroup}
 use Rattle.field_tokens.specs.Tokens.{comment_marks, TokenValue, AreTokens, IsLine}
-use Rattle.field_tokens.specs.Squeezed.{octets_of, is_gap, is_comment, comments_of, space, apart, IsPart}
+use Rattle.field_tokens.specs.Squeezed.{octets_of, is_comment, comments_of, space, apart, IsPart}
 use Rattle.field_tokens.specs.Comments.{CommentValue, CommentsSay, CommentsPieces, AreWritableComments, AreLineComments, IsLinePiece, AreWritten}
 use Rattle.field_tokens.proofs.Parts.{BeginsNoGap, EndsNoGap, EndsNoGap-append, AreTokens-append, AreTokens-space, apart_begins, apart_some, apart_ends, AreTokens-apart, comments_of-apart, comment_part, comment_parts, comments_are_parts, comment_parts-comments, comment_parts-octets}
 use Rattle.field_tokens.proofs.TokenLines.{comments_are_comments, comments_are_lines}
 use Rattle.field_tokens.proofs.LinePieces.{CommentsPieces-line, CommentsPieces-there}
 use Rattle.field_tokens.proofs.WrittenComments.{CommentsPieces-written}
+use Rattle.field_tokens.proofs.PieceLemmas.{join_two, comments_groups as groups, join_more}
 use Rattle.address_grammar.specs.private.Lexemes.{HasTokenValues, is_blank_token, are_blank}
 use Rattle.address_grammar.specs.Phrases.{IsPhrase, phrase_items}
 use Rattle.address_lists.specs.private.PhraseReadBack.{IsPhraseAgain}
 use Rattle.address_lists.specs.ListPieces.{with_comma}
 use Rattle.address_grammar.specs.declared.Address.{Address}
 use Rattle.address_grammar.specs.Addresses.{local_text, address_text}
-use Rattle.address_lists.proofs.PhrasesAgain.{IsHead, groups, join_two}
+use Rattle.address_lists.proofs.PhrasesAgain.{IsHead, word_no_gap}
 use Rattle.address_lists.proofs.PhraseListsAgain.{comma, again_some}
 use Rattle.address_lists.proofs.ServedLemmas.{HasNoBlank, WritesAddress}
 use Rattle.address_grammar.proofs.WritingLemmas.{mark}
@@ -65,10 +66,6 @@ made_two a b ps qs one two = record {
 comma_there : (p : List ℕ) (ps : List (List ℕ)) → 0 < length (with_comma (p ∷ ps))
 comma_there p [] = omega arith
 comma_there p (q ∷ ps) = omega arith
-
-join_more : (p : List ℕ) (ps : List (List ℕ)) → 0 < length ps → join_with_byte 32 (p ∷ ps) ≡ p ++ 32 ∷ join_with_byte 32 ps
-join_more p [] some = absurd (omega (arith, some))
-join_more p (q ∷ ps) some = refl
 
 join_comma : (p : List ℕ) (ps : List (List ℕ)) → join_with_byte 32 (with_comma (p ∷ ps)) ≡ join_with_byte 32 (p ∷ ps) ++ 44 ∷ []
 join_comma p [] = refl
@@ -124,14 +121,6 @@ made_none = record {
   some = omega arith;
   each = (record { some = omega arith; ascii = refl; line = refl }, tt);
 }
-
-word_no_gap : (k : TokenKind) (octets : List ℕ) → is_blank_token (record { kind = k; octets = octets }) ≡ false → is_gap k ≡ false
-word_no_gap Gap octets h = cc h
-word_no_gap Comment octets h = refl
-word_no_gap Atom octets h = refl
-word_no_gap Quoted octets h = refl
-word_no_gap Literal octets h = refl
-word_no_gap Special octets h = refl
 
 word_no_comment : (k : TokenKind) (octets : List ℕ) → is_blank_token (record { kind = k; octets = octets }) ≡ false → is_comment k ≡ false
 word_no_comment Gap octets h = refl

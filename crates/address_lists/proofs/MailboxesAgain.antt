@@ -9,11 +9,9 @@ use Rattle.mail_wire.specs.Octets.{is_ascii}
 use Rattle.encoded_words.specs.Words.{UnitValue}
 use Rattle.encoded_words.specs.PhraseUnits.{HasPhraseUnits}
 use Rattle.encoded_words.specs.Written.{WriteAll}
-use Rattle.field_tokens.specs.declared.TokenKind.{TokenKind}
-use Rattle.field_tokens.specs.declared.TokenKind.TheVariants.{Atom, Quoted, Literal, Special, Gap, Comment}
 use Rattle.field_tokens.specs.TokenOctets.{is_line_octet}
 use Rattle.field_tokens.specs.Tokens.{TokenValue}
-use Rattle.field_tokens.specs.Squeezed.{octets_of, is_comment, comments_of, space}
+use Rattle.field_tokens.specs.Squeezed.{octets_of, comments_of, space}
 use Rattle.field_tokens.specs.Comments.{CommentValue, CommentsSay, CommentsPieces}
 use Rattle.field_tokens.proofs.Parts.{EndsNoGap-append, comments_of-append}
 use Rattle.address_grammar.specs.declared.Address.{Address}
@@ -36,6 +34,7 @@ use Rattle.address_lists.proofs.ServedLemmas.{WritesAddress, address_served}
 use Rattle.address_lists.proofs.MadeTokens.{AreMade, made_two, made_address, no_blank_comments, again_phrase, AreCommentsOfLine, text_line_comments, comments_behind}
 use Rattle.address_lists.proofs.AmongBlanks.{before_blanks, mailbox_among}
 use Rattle.address_lists.proofs.EmptiedGroups.{mailbox_sound, mailbox_stands, emptied_again}
+use Rattle.address_lists.proofs.PhraseListsAgain.{special_no_comment}
 
 -- the pieces are a mailbox whose address is served
 pub record IsMailboxAgain (m : MailboxValue) (values : List CommentValue) (pieces : List (List ℕ)) : Type 0 where
@@ -181,14 +180,6 @@ core_again ts core trail us values first has p units is say pieces =
       comments = refl;
       pieces_are = sym (append-nil first);
     })
-
-special_no_comment : (kind : TokenKind) → is_special_kind kind ≡ true → is_comment kind ≡ false
-special_no_comment Special h = refl
-special_no_comment Atom h = refl
-special_no_comment Quoted h = refl
-special_no_comment Literal h = refl
-special_no_comment Gap h = refl
-special_no_comment Comment h = sym h
 
 -- a mark is no comment
 pub mark_comments : (n : ℕ) (a b : List TokenValue) (t : TokenValue) → is_mark n t ≡ true → comments_of (a ++ t ∷ b) ≡ comments_of a ++ comments_of b

@@ -8,6 +8,7 @@ use Rattle.field_tokens.specs.Squeezed.{comments_of}
 use Rattle.field_tokens.specs.Comments.{CommentValue, CommentsSay, CommentsPieces}
 use Rattle.field_tokens.proofs.Parts.{AreTokens-begin, AreTokens-end, comments_of-append}
 use Rattle.field_tokens.proofs.TokenLines.{joined_line}
+use Rattle.field_tokens.proofs.PieceLemmas.{pieces_lines}
 use Rattle.address_grammar.specs.declared.Address.{Address}
 use Rattle.address_grammar.specs.private.Lexemes.{HasTokenValues, are_blank}
 use Rattle.address_grammar.specs.Addresses.{address_text}
@@ -17,7 +18,6 @@ use Rattle.address_lists.specs.PathPieces.{SaysPath, PathPieces, IsPathAgain}
 use Rattle.address_grammar.proofs.PathLemmas.{HasTokenValues-once, IsPath-once}
 use Rattle.address_grammar.proofs.SoundLemmas.{IsSound, tokens_sound, sound_front, sound_rest}
 use Rattle.address_grammar.proofs.WritingLemmas.{mark}
-use Rattle.address_lists.proofs.PhraseListsAgain.{lines_of}
 use Rattle.address_lists.proofs.ServedLemmas.{WritesAddress, address_served}
 use Rattle.address_lists.proofs.MadeTokens.{AreMade, text_line_comments, comments_behind}
 use Rattle.address_lists.proofs.MailboxesAgain.{bracketed, made_angles, brackets_no_comments}
@@ -52,7 +52,7 @@ made_path : (served : Address) (ts : List TokenValue) (values : List CommentValu
     → SaysPath (join_with_byte 32 pieces) (Some served) values
 made_path served ts values pieces is say made = record {
   tokens = ts;
-  has = record { is_line = joined_line pieces (lines_of pieces made.each); are_tokens = made.are_tokens };
+  has = record { is_line = joined_line pieces (pieces_lines pieces made.each); are_tokens = made.are_tokens };
   is_path = is;
   comments_say = say;
 }

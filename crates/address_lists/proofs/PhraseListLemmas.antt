@@ -2,6 +2,7 @@
 use Rattle.std.proofs.Common.{◌≡◌, ℕ, List, [], ◌∷◌, ◌++◌, Some, None, refl, sym, ap, ◌∙◌, subst, arith}
 use Rattle.std.proofs.lemmas.List.{append_assoc, append-nil, flat_map_more}
 use Rattle.std.specs.List.{AllByRecursion, flat_map}
+use Rattle.mail_wire.proofs.AllLemmas.{all-front, all-back}
 use Rattle.encoded_words.specs.Words.{UnitValue}
 use Rattle.encoded_words.specs.PhraseUnits.{IsUtf8Item}
 use Rattle.encoded_words.proofs.AllUnits.{HasPhraseUnits-some}
@@ -10,6 +11,7 @@ use Rattle.field_tokens.specs.Tokens.{TokenValue}
 use Rattle.field_tokens.specs.Squeezed.{comments_of}
 use Rattle.field_tokens.specs.Comments.{CommentValue, AreWritableComments}
 use Rattle.field_tokens.proofs.CommentValues.{CommentsSay-once}
+use Rattle.field_tokens.proofs.Parts.{comments_of-append}
 use Rattle.address_grammar.specs.private.Lexemes.{HasTokenValues}
 use Rattle.address_grammar.specs.Phrases.{IsPhrase, phrase_items}
 use Rattle.address_lists.specs.PhraseLists.{IsOnePhrase, SaysPhrases, GivesOnePhrase, with_commas, PhrasesPieces}
@@ -21,7 +23,7 @@ use Rattle.address_grammar.proofs.MailboxLemmas.{phrase_lacks}
 use Rattle.address_grammar.proofs.DividedLemmas.{Walked, SaysOnce, ReadsParts, parts_start, parts_turn, parts_end, parts_stuck, parts_stuck_last, divided_once}
 use Rattle.address_grammar.proofs.ListLemmas.{walk_plain}
 use Rattle.address_lists.proofs.WrittenPhrases.{PlacePieces-once}
-use Rattle.address_lists.proofs.PhraseWriting.{phrase_items-append, comments_of-append, writable_front, writable_rest}
+use Rattle.address_lists.proofs.PhraseWriting.{phrase_items-append, writable_front, writable_rest}
 
 -- ---- one phrase
 
@@ -63,14 +65,6 @@ with_commas-last (p ∷ q ∷ places) last =
     ap (λ r. p ++ (44 ∷ []) ∷ r) (with_commas-last (q ∷ places) last) ∙ sym (append_assoc p ((44 ∷ []) ∷ []) (commas_behind (q ∷ places) ++ last))
     ∙ sym (append_assoc (p ++ (44 ∷ []) ∷ []) (commas_behind (q ∷ places)) last)
 
-pub all_front : {X : Type 0} (P : X → Type 0) (a b : List X) → AllByRecursion P (a ++ b) → AllByRecursion P a
-all_front P [] b all = tt
-all_front P (x ∷ a) b all = (all.0, all_front P a b all.1)
-
-pub all_rest : {X : Type 0} (P : X → Type 0) (a b : List X) → AllByRecursion P (a ++ b) → AllByRecursion P b
-all_rest P [] b all = all
-all_rest P (x ∷ a) b all = all_rest P a b all.1
-
 -- what can be written
 pub record CanWrite (ts : List TokenValue) : Type 0 where
   pub utf8 : AllByRecursion IsUtf8Item (phrase_items ts)
@@ -78,13 +72,13 @@ pub record CanWrite (ts : List TokenValue) : Type 0 where
 
 pub can_front : (a b : List TokenValue) → CanWrite (a ++ b) → CanWrite a
 can_front a b can = record {
-  utf8 = all_front IsUtf8Item (phrase_items a) (phrase_items b) (subst (AllByRecursion IsUtf8Item) (phrase_items-append a b) can.utf8);
+  utf8 = all-front IsUtf8Item (phrase_items a) (phrase_items b) (subst (AllByRecursion IsUtf8Item) (phrase_items-append a b) can.utf8);
   comments = writable_front (comments_of a) (comments_of b) (subst AreWritableComments (comments_of-append a b) can.comments);
 }
 
 pub can_rest : (a b : List TokenValue) → CanWrite (a ++ b) → CanWrite b
 can_rest a b can = record {
-  utf8 = all_rest IsUtf8Item (phrase_items a) (phrase_items b) (subst (AllByRecursion IsUtf8Item) (phrase_items-append a b) can.utf8);
+  utf8 = all-back IsUtf8Item (phrase_items a) (phrase_items b) (subst (AllByRecursion IsUtf8Item) (phrase_items-append a b) can.utf8);
   comments = writable_rest (comments_of a) (comments_of b) (subst AreWritableComments (comments_of-append a b) can.comments);
 }
 

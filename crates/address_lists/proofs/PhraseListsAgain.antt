@@ -11,11 +11,12 @@ use Rattle.encoded_words.proofs.AllUnits.{HasPhraseUnits-some}
 use Rattle.field_tokens.specs.declared.Style.TheVariants.{Mail}
 use Rattle.field_tokens.specs.declared.TokenKind.{TokenKind}
 use Rattle.field_tokens.specs.declared.TokenKind.TheVariants.{Atom, Quoted, Literal, Special, Gap, Comment}
-use Rattle.field_tokens.specs.Tokens.{TokenValue, AreTokens, IsLine}
+use Rattle.field_tokens.specs.Tokens.{TokenValue, AreTokens}
 use Rattle.field_tokens.specs.Squeezed.{octets_of, is_comment, comments_of, space, apart, IsPart}
 use Rattle.field_tokens.specs.Comments.{CommentValue, CommentsSay, IsLinePiece}
 use Rattle.field_tokens.proofs.Parts.{tokens_some, AreTokens-begin, AreTokens-end, apart_begins, apart_some, apart_ends, AreTokens-apart, octets_of-tokens, comments_of-append}
-use Rattle.field_tokens.proofs.TokenLines.{ascii_line, joined_line}
+use Rattle.field_tokens.proofs.TokenLines.{joined_line}
+use Rattle.field_tokens.proofs.PieceLemmas.{join_same, pieces_lines}
 use Rattle.address_grammar.specs.private.Lexemes.{HasTokenValues, is_special_kind, is_mark}
 use Rattle.address_grammar.specs.Phrases.{IsPhrase, phrase_items}
 use Rattle.address_lists.specs.PhrasePieces.{PlacePieces}
@@ -27,7 +28,7 @@ use Rattle.address_grammar.specs.private.Walks.{SplitsPlace}
 use Rattle.address_grammar.proofs.DividedLemmas.{divided_more, divided_one, divided_once}
 use Rattle.address_grammar.proofs.PathLemmas.{HasTokenValues-once}
 use Rattle.address_lists.proofs.PlaceTokens.{HasTokenValues-part}
-use Rattle.address_lists.proofs.PhrasesAgain.{CommentsSay-append, say_both, join_same, phrase_before, units_before, PlacePieces-read}
+use Rattle.address_lists.proofs.PhrasesAgain.{CommentsSay-append, say_both, phrase_before, units_before, PlacePieces-read}
 use Rattle.address_lists.proofs.PhraseListLemmas.{phrase_walked, says_phrase_walked, says_phrase_once, phrases_of}
 
 -- ---- places
@@ -97,7 +98,7 @@ apart-comma : (a b : List (List TokenValue)) → 0 < length a → 0 < length b �
 apart-comma a [] sa sb = absurd (omega (arith, sb))
 apart-comma a (q ∷ b) sa sb = apart-append a ((comma ∷ []) ∷ q ∷ b) sa (omega arith) ∙ sym (append_assoc (apart a) (space ∷ []) (comma ∷ (space ∷ apart (q ∷ b))))
 
-special_no_comment : (kind : TokenKind) → is_special_kind kind ≡ true → is_comment kind ≡ false
+pub special_no_comment : (kind : TokenKind) → is_special_kind kind ≡ true → is_comment kind ≡ false
 special_no_comment Special h = refl
 special_no_comment Atom h = refl
 special_no_comment Quoted h = refl
@@ -194,17 +195,13 @@ more_parts us phrases front behind first others one more =
     mapped [] some = absurd (omega (arith, some))
     mapped (p ∷ parts) some = omega arith
 
-place_again : (ts : List TokenValue) (us : List UnitValue) (values : List CommentValue) (pieces : List (List ℕ)) → HasTokenValues (octets_of ts) ts → IsPhrase ts → HasPhraseUnits (phrase_items ts) us → CommentsSay (comments_of ts) values
-    → PlacePieces ts pieces → IsPhraseAgain us values pieces
-place_again ts us values pieces has is units say gives = PlacePieces-read ts us values pieces has is units say gives
-
 parts_again : (parts : List (List TokenValue)) (phrases : List (List UnitValue)) (places : List (List (List ℕ))) (ts : List TokenValue) (values : List CommentValue) → Divided 44 parts ts → EachPlace parts phrases places
     → HasTokenValues (octets_of ts) ts → CommentsSay (comments_of ts) values → PhraseParts phrases values (with_commas places)
 parts_again [] phrases places ts values d each has say = absurd d
 parts_again (part ∷ parts) [] places ts values d each has say = absurd each
 parts_again (part ∷ parts) (us ∷ phrases) [] ts values d each has say = absurd each
 parts_again (part ∷ []) (us ∷ []) (ps ∷ []) ts values d each has say =
-    last_parts us values ps (place_again part us values ps (subst (λ r. HasTokenValues (octets_of r) r) d has) each.0 each.1 (subst (λ r. CommentsSay (comments_of r) values) d say) each.2)
+    last_parts us values ps (PlacePieces-read part us values ps (subst (λ r. HasTokenValues (octets_of r) r) d has) each.0 each.1 (subst (λ r. CommentsSay (comments_of r) values) d say) each.2)
 parts_again (part ∷ []) (us ∷ []) (ps ∷ qs ∷ places) ts values d each has say = absurd each.3
 parts_again (part ∷ []) (us ∷ vs ∷ phrases) (ps ∷ places) ts values d each has say = absurd each.3
 parts_again (part ∷ next ∷ parts) (us ∷ []) (ps ∷ places) ts values d each has say = absurd each.3
@@ -215,15 +212,11 @@ parts_again (part ∷ next ∷ parts) (us ∷ vs ∷ phrases) (ps ∷ qs ∷ pla
     let behind : HasTokenValues (octets_of d.1) d.1 = HasTokenValues-part (octets_of ts) (part ++ d.0 ∷ []) d.1 [] (subst (HasTokenValues (octets_of ts)) whole has) in
     let comments : comments_of ts ≡ comments_of part ++ comments_of d.1 = ap comments_of d.2 ∙ comma_comments part d.1 d.0 d.3 in
     let both = say_both (comments_of part) (comments_of d.1) values (subst (λ cs. CommentsSay cs values) comments say) in
-    let one = place_again part us both.first ps front each.0 each.1 both.first_say each.2 in
+    let one = PlacePieces-read part us both.first ps front each.0 each.1 both.first_say each.2 in
     let more = parts_again (next ∷ parts) (vs ∷ phrases) (qs ∷ places) d.1 both.more d.4 each.3 behind both.more_say in
     rw (both.whole) (more_parts us (vs ∷ phrases) both.first both.more ps (with_commas (qs ∷ places)) one more)
 
 -- ---- the joined text
-
-pub lines_of : (pieces : List (List ℕ)) → AllByRecursion IsLinePiece pieces → AllByRecursion IsLine pieces
-lines_of [] all = tt
-lines_of (p ∷ pieces) all = (ascii_line p all.0.ascii all.0.line, lines_of pieces all.1)
 
 parts_read : (phrases : List (List UnitValue)) (values : List CommentValue) (pieces : List (List ℕ)) → PhraseParts phrases values pieces → ArePhrasesAgain phrases values pieces
 parts_read phrases values pieces p =
@@ -231,7 +224,7 @@ parts_read phrases values pieces p =
     record {
       says = record {
         tokens = apart p.parts;
-        has = record { is_line = joined_line pieces (lines_of pieces p.are_pieces); are_tokens = are };
+        has = record { is_line = joined_line pieces (pieces_lines pieces p.are_pieces); are_tokens = are };
         divided = p.divided;
         comments_say = p.say;
       };

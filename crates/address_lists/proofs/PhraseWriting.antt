@@ -1,8 +1,7 @@
 -- Phrases are written.
-use Rattle.std.proofs.Common.{◌≡◌, ◌≢◌, ℕ, ◌+◌, ◌-◌, ◌<◌, ◌≤◌, Bool, true, false, not, ◌&&◌, List, [], ◌∷◌, ◌++◌, length, map, filter, get_or, take, drop, Some, None, refl, sym, ap, ◌∙◌, subst, arith, position}
-use Rattle.std.proofs.lemmas.Bool.{and_parts, and_from, both_ways}
+use Rattle.std.proofs.Common.{◌≡◌, ◌≢◌, ℕ, ◌+◌, ◌-◌, ◌<◌, ◌≤◌, Bool, true, false, not, ◌&&◌, List, [], ◌∷◌, ◌++◌, length, get_or, take, drop, Some, None, refl, sym, ap, ◌∙◌, subst, arith, position}
+use Rattle.std.proofs.lemmas.Bool.{and_parts, and_from, both_ways, not-true}
 use Rattle.std.proofs.lemmas.List.{append_assoc, append-nil, map-append, take_more, take_all, drop_more, take-append-drop}
-use Rattle.std.proofs.lemmas.List.Elements.{filter-append}
 use Rattle.std.proofs.lemmas.List.Folds.{list_all-map, list_all-append}
 use Rattle.std.specs.List.{AllByRecursion, list_all}
 use Rattle.mail_wire.specs.Octets.{is_ascii}
@@ -14,6 +13,7 @@ use Rattle.field_tokens.specs.declared.TokenKind.TheVariants.{Atom, Quoted, Lite
 use Rattle.field_tokens.specs.Tokens.{TokenValue}
 use Rattle.field_tokens.specs.Squeezed.{is_gap, is_comment, octets_of, comments_of}
 use Rattle.field_tokens.specs.Comments.{AreWritableComments, CommentPieces, CommentsPieces, AddsPieces}
+use Rattle.field_tokens.proofs.Parts.{comments_of-append}
 use Rattle.address_grammar.specs.declared.lexemes.Lexeme.{Lexeme}
 use Rattle.address_grammar.specs.private.Lexemes.{is_blank_token, are_blank}
 use Rattle.address_grammar.specs.Phrases.{may_stand_in_phrase, IsPhrase, phrase_items}
@@ -24,7 +24,7 @@ use Rattle.address_grammar.proofs.Positions.{position_found, position_missing}
 
 -- ---- gaps in front
 
-not_not : (b : Bool) → not (not b) ≡ true → b ≡ true
+pub not_not : (b : Bool) → not (not b) ≡ true → b ≡ true
 not_not true h = refl
 not_not false h = h
 
@@ -42,10 +42,6 @@ skips_all ls e = record {
   begins = tt;
 }
 
-not_true : (b : Bool) → not b ≡ true → b ≡ false
-not_true false h = refl
-not_true true h = sym h
-
 pub skips_some : (ls : List Lexeme) (i : ℕ) → position (λ l. not (is_gap (value_of l).kind)) ls ≡ Some i → SkipsGaps (values_of ls) (values_of (drop i ls))
 skips_some [] i e = cc e
 skips_some (x ∷ xs) i e =
@@ -55,7 +51,7 @@ skips_some (x ∷ xs) i e =
       lead = values_of (take i ls);
       gaps = gaps_all (values_of (take i ls)) (list_all-map (λ t. not (not (is_gap t.kind))) value_of (take i ls) ∙ found.first);
       whole = ap values_of (sym (take-append-drop i ls)) ∙ map-append value_of (take i ls) (drop i ls);
-      begins = subst (λ r. BeginsNoGap (values_of r)) (sym (drop_more ls i x found.within)) (not_true (is_gap (value_of (get_or ls i x)).kind) found.passes);
+      begins = subst (λ r. BeginsNoGap (values_of r)) (sym (drop_more ls i x found.within)) (not-true (is_gap (value_of (get_or ls i x)).kind) found.passes);
     }
 
 -- ---- gaps and comments behind
@@ -79,7 +75,7 @@ ends_so [] t h = h
 ends_so (u ∷ []) t h = h
 ends_so (u ∷ v ∷ ts) t h = ends_so (v ∷ ts) t h
 
-trail_whole : (ls : List Lexeme) (end : ℕ) → values_of ls ≡ values_of (take end ls) ++ values_of (drop end ls)
+pub trail_whole : (ls : List Lexeme) (end : ℕ) → values_of ls ≡ values_of (take end ls) ++ values_of (drop end ls)
 trail_whole ls end = ap values_of (sym (take-append-drop end ls)) ∙ map-append value_of (take end ls) (drop end ls)
 
 pub trail_none : (ls : List Lexeme) (end : ℕ) → end ≤ 0 → TrailFrom ls end → SplitsTrail (values_of ls) (values_of (take end ls)) (values_of (drop end ls))
@@ -175,9 +171,6 @@ core_utf8 tokens core trail all has =
     items_front (phrase_items core) (phrase_items trail) (items_rest (phrase_items has.lead) (phrase_items core ++ phrase_items trail) (subst (AllByRecursion IsUtf8Item) items all))
 
 -- ---- comments
-
-pub comments_of-append : (a b : List TokenValue) → comments_of (a ++ b) ≡ comments_of a ++ comments_of b
-comments_of-append a b = ap (λ ts. map (λ (t : TokenValue). t.octets) ts) (filter-append (λ t. is_comment t.kind) a b) ∙ map-append (λ (t : TokenValue). t.octets) (filter (λ t. is_comment t.kind) a) (filter (λ t. is_comment t.kind) b)
 
 gap_no_comment : (k : TokenKind) → is_gap k ≡ true → is_comment k ≡ false
 gap_no_comment Gap h = refl

@@ -23,15 +23,16 @@ use Rattle.encoded_words.proofs.WrittenUnits.{HasPhraseUnits-written}
 use Rattle.field_tokens.specs.declared.Style.TheVariants.{Mail}
 use Rattle.field_tokens.specs.declared.TokenKind.{TokenKind}
 use Rattle.field_tokens.specs.declared.TokenKind.TheVariants.{Atom, Quoted, Literal, Special, Gap, Comment}
-use Rattle.field_tokens.specs.Groups.{IsGroup, End}
+use Rattle.field_tokens.specs.Groups.{End}
 use Rattle.field_tokens.specs.TokenOctets.{is_atom_octet, is_line_octet}
-use Rattle.field_tokens.specs.Tokens.{TokenValue, AreTokens, comment_marks}
+use Rattle.field_tokens.specs.Tokens.{TokenValue, AreTokens}
 use Rattle.field_tokens.specs.Squeezed.{is_gap, octets_of, comments_of, space, apart, IsPart}
-use Rattle.field_tokens.specs.Comments.{CommentValue, CommentsPieces, CommentsSay, AreWritableComments, AreLineComments, IsLinePiece, IsAsciiComment, AreWritten}
+use Rattle.field_tokens.specs.Comments.{CommentValue, CommentsPieces, CommentsSay, AreWritableComments, AreLineComments, IsLinePiece, AreWritten}
 use Rattle.field_tokens.proofs.Parts.{tokens_some, comments_of-append, comments_of-apart, comment_part, comment_parts, comments_are_parts, comment_parts-octets}
 use Rattle.field_tokens.proofs.TokenLines.{comments_are_plain}
-use Rattle.field_tokens.proofs.LinePieces.{CommentsPieces-line, CommentsPieces-there}
+use Rattle.field_tokens.proofs.LinePieces.{CommentsPieces-line}
 use Rattle.field_tokens.proofs.WrittenComments.{CommentsPieces-written}
+use Rattle.field_tokens.proofs.PieceLemmas.{join_same, comments_groups, no_pieces, no_comments, spaced, spaced_comments}
 use Rattle.address_grammar.specs.private.Lexemes.{HasTokenValues, is_blank_token, are_blank}
 use Rattle.address_grammar.specs.Phrases.{may_stand_in_phrase, IsPhrase, phrase_items}
 use Rattle.address_lists.specs.PhrasePieces.{UnitsPieces, PhrasePieces, HasCore, PlacePieces}
@@ -70,26 +71,7 @@ say_both (c ∷ cs) ds values say =
 
 -- ---- pieces that are joined
 
-pub join_two : (p : List ℕ) (ps : List (List ℕ)) (q : List ℕ) (qs : List (List ℕ)) → join_with_byte 32 ((p ∷ ps) ++ q ∷ qs) ≡ join_with_byte 32 (p ∷ ps) ++ 32 ∷ join_with_byte 32 (q ∷ qs)
-join_two p [] q qs = refl
-join_two p (r ∷ ps) q qs = ap (λ t. p ++ 32 ∷ t) (join_two r ps q qs) ∙ sym (append_assoc p (32 ∷ join_with_byte 32 (r ∷ ps)) (32 ∷ join_with_byte 32 (q ∷ qs)))
-
-pub join_same : (ps qs ms ns : List (List ℕ)) → 0 < length ps → 0 < length ms → (qs ≡ [] → ns ≡ []) → (ns ≡ [] → qs ≡ []) → join_with_byte 32 ps ≡ join_with_byte 32 ms → join_with_byte 32 qs ≡ join_with_byte 32 ns
-    → join_with_byte 32 (ps ++ qs) ≡ join_with_byte 32 (ms ++ ns)
-join_same [] qs ms ns sp sm to back a b = absurd (omega (arith, sp))
-join_same (p ∷ ps) qs [] ns sp sm to back a b = absurd (omega (arith, sm))
-join_same (p ∷ ps) [] (m ∷ ms) [] sp sm to back a b = ap (join_with_byte 32) (append-nil (p ∷ ps)) ∙ a ∙ sym (ap (join_with_byte 32) (append-nil (m ∷ ms)))
-join_same (p ∷ ps) [] (m ∷ ms) (n ∷ ns) sp sm to back a b = cc (to refl)
-join_same (p ∷ ps) (q ∷ qs) (m ∷ ms) [] sp sm to back a b = cc (back refl)
-join_same (p ∷ ps) (q ∷ qs) (m ∷ ms) (n ∷ ns) sp sm to back a b =
-    join_two p ps q qs ∙ ap (λ t. t ++ 32 ∷ join_with_byte 32 (q ∷ qs)) a ∙ ap (λ t. join_with_byte 32 (m ∷ ms) ++ 32 ∷ t) b ∙ sym (join_two m ms n ns)
-
 -- ---- comments behind
-
--- comments with a space before each
-abbrev spaced : List (List ℕ) → List TokenValue
-spaced [] = []
-spaced (c ∷ cs) = space ∷ record { kind = Comment; octets = c } ∷ spaced cs
 
 apart-comments : (part : List TokenValue) (cs : List (List ℕ)) → apart (part ∷ comment_parts cs) ≡ part ++ spaced cs
 apart-comments part [] = sym (append-nil part)
@@ -102,10 +84,6 @@ apart-behind part (next ∷ parts) cs = ap (λ r. part ++ space ∷ r) (apart-be
 spaced_blank : (cs : List (List ℕ)) → are_blank (spaced cs) ≡ true
 spaced_blank [] = refl
 spaced_blank (c ∷ cs) = spaced_blank cs
-
-spaced_comments : (cs : List (List ℕ)) → comments_of (spaced cs) ≡ cs
-spaced_comments [] = refl
-spaced_comments (c ∷ cs) = ap (λ r. c ∷ r) (spaced_comments cs)
 
 pub blank_separators : (ts : List TokenValue) → are_blank ts ≡ true → AreSeparators (phrase_items ts)
 blank_separators [] h = tt
@@ -140,18 +118,6 @@ pub record IsHead (units : List UnitValue) (values : List CommentValue) (pieces 
   pub say : CommentsSay (comments_of (apart (first ∷ others))) values
   pub are_pieces : AllByRecursion IsLinePiece pieces
 
-pub groups : (cs : List (List ℕ)) → AllByRecursion IsAsciiComment cs → AllByRecursion (IsGroup comment_marks) cs
-groups [] all = tt
-groups (c ∷ cs) all = (all.0.is_comment, groups cs all.1)
-
-no_pieces : (cs pieces : List (List ℕ)) → CommentsPieces cs pieces → cs ≡ [] → pieces ≡ []
-no_pieces [] pieces are e = are
-no_pieces (c ∷ cs) pieces are e = cc e
-
-no_comments : (cs pieces : List (List ℕ)) → CommentsPieces cs pieces → pieces ≡ [] → cs ≡ []
-no_comments [] pieces are e = refl
-no_comments (c ∷ cs) pieces are e = absurd (omega (arith, CommentsPieces-there (c ∷ cs) pieces (omega arith) are, ap length e))
-
 again : (us : List UnitValue) (front behind : List CommentValue) (first more cs : List (List ℕ)) → IsHead us front first → AreWritten cs behind more → CommentsPieces cs more → AllByRecursion IsLinePiece more
     → IsPhraseAgain us (front ++ behind) (first ++ more)
 again us front behind first more cs head written are line =
@@ -163,7 +129,7 @@ again us front behind first more cs head written are line =
     let phrase : IsPhrase (apart heads ++ spaced made) = phrase_before (apart heads) (spaced made) head.phrase (spaced_blank made) in
     record {
       parts = heads ++ comment_parts made;
-      are_parts = all-append (IsPart Mail) heads (comment_parts made) head.are_parts (comments_are_parts Mail made (groups made written.are_comments));
+      are_parts = all-append (IsPart Mail) heads (comment_parts made) head.are_parts (comments_are_parts Mail made (comments_groups made written.are_comments));
       some = omega arith;
       joined = ap (join_with_byte 32) octets
           ∙ join_same (map octets_of heads) made first more (omega arith) head.some (λ e. no_pieces cs more are (written.none.0 e)) (λ e. written.none.1 (no_comments cs more are e)) head.joined written.joined;
@@ -176,7 +142,7 @@ again us front behind first more cs head written are line =
 
 -- ---- an ASCII core is one part
 
-word_no_gap : (k : TokenKind) (octets : List ℕ) → is_blank_token (record { kind = k; octets = octets }) ≡ false → is_gap k ≡ false
+pub word_no_gap : (k : TokenKind) (octets : List ℕ) → is_blank_token (record { kind = k; octets = octets }) ≡ false → is_gap k ≡ false
 word_no_gap Gap octets h = cc h
 word_no_gap Comment octets h = refl
 word_no_gap Atom octets h = refl

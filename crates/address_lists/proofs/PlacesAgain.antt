@@ -1,6 +1,6 @@
 -- What the pieces of a list's places read as.
 use Rattle.std.proofs.Common.{◌≡◌, ℕ, ◌<◌, Bool, true, false, not, ◌&&◌, ◌||◌, if◌then◌else◌, inl, inr, List, [], ◌∷◌, ◌++◌, length, refl, sym, ap, ◌∙◌, subst, arith}
-use Rattle.std.proofs.lemmas.Bool.{and_parts, and_from, both_ways, cases_Bool, or_cases, or_parts}
+use Rattle.std.proofs.lemmas.Bool.{and_parts, and_from, both_ways, cases_Bool, or_cases, or_parts, not-true, not-false}
 use Rattle.std.proofs.lemmas.Bool.Decides.{nat_tests}
 use Rattle.std.proofs.lemmas.List.{append_assoc, append-nil}
 use Rattle.std.proofs.lemmas.List.Folds.{list_all-append}
@@ -16,9 +16,10 @@ use Rattle.field_tokens.specs.Squeezed.{is_gap, octets_of, comments_of, space}
 use Rattle.field_tokens.specs.Comments.{CommentValue, CommentsSay, CommentsPieces}
 use Rattle.field_tokens.proofs.Parts.{AreTokens-begin, AreTokens-end, octets_of-tokens, comments_of-append}
 use Rattle.field_tokens.proofs.TokenLines.{joined_line}
+use Rattle.field_tokens.proofs.PieceLemmas.{pieces_lines}
 use Rattle.address_grammar.specs.private.Lexemes.{HasTokenValues, is_blank_token, is_mark, are_blank}
-use Rattle.address_grammar.specs.AddressLists.{Divided, MailboxValue, IsMailbox, SayParts, AreDivided, ElementValue, One, Group, IsGroup, IsElement, SaysPlace}
-use Rattle.address_lists.specs.ListPieces.{MailboxPieces, Bare, Angled, Named, Emptied as EmptiedMailbox, GroupPieces, Kept, Emptied as EmptiedGroup, ElementPieces, PlaceOfListPieces, with_comma, followed_by, PlacesPieces, SaysAddresses, AddressesPieces}
+use Rattle.address_grammar.specs.AddressLists.{Divided, MailboxValue, SayParts, AreDivided, ElementValue, One, Group, IsGroup, IsElement, SaysPlace}
+use Rattle.address_lists.specs.ListPieces.{GroupPieces, Kept, Emptied as EmptiedGroup, ElementPieces, PlaceOfListPieces, with_comma, followed_by, PlacesPieces, SaysAddresses, AddressesPieces}
 use Rattle.address_lists.specs.ListReadBack.{StandsForElement, AreAddressesAgain}
 use Rattle.address_grammar.proofs.ListLemmas.{place_walked, IsElement-once, element_not_blank, place_once}
 use Rattle.address_grammar.proofs.DividedLemmas.{divided_once}
@@ -26,20 +27,15 @@ use Rattle.address_grammar.proofs.PathLemmas.{HasTokenValues-once}
 use Rattle.address_grammar.proofs.WritingLemmas.{mark_is}
 use Rattle.address_lists.proofs.PhraseWriting.{CommentsPieces-append}
 use Rattle.address_lists.proofs.PhrasesAgain.{CommentsSay-append, say_both}
-use Rattle.address_lists.proofs.PhraseListsAgain.{comma, lines_of}
+use Rattle.address_lists.proofs.PhraseListsAgain.{comma}
 use Rattle.address_lists.proofs.MadeTokens.{AreMade, made_two, made_divided, AreCommentsOfLine, text_line_comments, comments_made, comments_behind}
 use Rattle.address_lists.proofs.AmongBlanks.{before_blanks, blank_more, element_among, divided_put, places_behind}
 use Rattle.address_lists.proofs.MailboxesAgain.{IsElementAgain, mark_comments, MailboxPieces-read}
 use Rattle.address_lists.proofs.AsciiElements.{IsElementIn, ascii_element_again}
 use Rattle.address_lists.proofs.GroupsAgain.{cut_text, GroupPieces-read}
+use Rattle.address_lists.proofs.ListPiecesOnce.{mailbox_pieces}
 
 -- ---- elements
-
-mailbox_of : (ts : List TokenValue) (pieces : List (List ℕ)) → MailboxPieces ts pieces → (m : MailboxValue) × IsMailbox ts m
-mailbox_of ts pieces (Bare m served comments bare e are whole) = (m, inl bare)
-mailbox_of ts pieces (Angled m served before inner comments angled named none e are whole) = (m, inr (record { before = before; inner = inner; angled = angled; named = named }))
-mailbox_of ts pieces (Named m served before inner core trail first comments angled named phrase core_is given e are whole) = (m, inr (record { before = before; inner = inner; angled = angled; named = named }))
-mailbox_of ts pieces (EmptiedMailbox m words comments is none writes are whole) = (m, is)
 
 group_of : (ts : List TokenValue) (pieces : List (List ℕ)) → GroupPieces ts pieces → (name : List UnitValue) × (ms : List MailboxValue) × IsGroup ts name ms
 group_of ts pieces (Kept name ms first inner comments g plain place members behind whole) = (name, ms, g)
@@ -53,7 +49,7 @@ ElementPieces-read : (b : Bool) (ts : List TokenValue) (e : ElementValue) (value
 ElementPieces-read true ts e values pieces ascii is given = rw (given.2) (ascii_element_again ts given.0 e values is ascii given.1)
 ElementPieces-read false ts (One m) values pieces other is (inl given) = MailboxPieces-read ts m values pieces (record { text = is.text; is_mailbox = is.is_element; say = is.say }) given
 ElementPieces-read false ts (One m) values pieces other is (inr given) = let g = group_of ts pieces given in absurd (no_group ts m g.0 g.1 is.is_element g.2)
-ElementPieces-read false ts (Group name ms) values pieces other is (inl given) = let m = mailbox_of ts pieces given in absurd (no_group ts m.0 name ms m.1 is.is_element)
+ElementPieces-read false ts (Group name ms) values pieces other is (inl given) = let m = mailbox_pieces ts pieces given in absurd (no_group ts m.0 name ms m.1 is.is_element)
 ElementPieces-read false ts (Group name ms) values pieces other is (inr given) = GroupPieces-read ts name ms values pieces is.text is.is_element is.say given
 
 -- ---- places
@@ -120,10 +116,6 @@ comments_place es front behind first others (c ∷ cs) all say are more =
 abbrev is_there : List TokenValue → Bool
 is_there ts = not (are_blank ts)
 
-not_false : (b : Bool) → not b ≡ false → b ≡ true
-not_false true h = refl
-not_false false h = cc h
-
 none_said : (ts : List TokenValue) (es : List ElementValue) → are_blank ts ≡ true → SaysPlace ts es → es ≡ []
 none_said ts [] blank says = refl
 none_said ts (e ∷ []) blank says = absurd (element_not_blank ts e says blank)
@@ -145,7 +137,7 @@ blank_places : (places : List (List TokenValue)) (ts : List TokenValue) (es : Li
     → GiveComments ts es pieces
 blank_places [] ts es pieces d say none given = absurd d
 blank_places (p ∷ []) ts es pieces d say none given =
-    let blank : are_blank p ≡ true = not_false (are_blank p) (or_parts (is_there p) false none).0 in
+    let blank : are_blank p ≡ true = not-false (are_blank p) (or_parts (is_there p) false none).0 in
     let whole : pieces ≡ given.0 = given.4 ∙ ap (λ r. r ++ given.1) (blank_followed p [] given.0 blank) ∙ ap (λ r. given.0 ++ r) given.3 ∙ append-nil given.0 in
     record {
       none = say.2 ∙ ap (λ r. r ++ say.1) (none_said p say.0 blank say.3) ∙ say.4;
@@ -153,7 +145,7 @@ blank_places (p ∷ []) ts es pieces d say none given =
     }
 blank_places (p ∷ q ∷ places) ts es pieces d say none given =
     let parts = or_parts (is_there p) (list_any is_there (q ∷ places)) none in
-    let blank : are_blank p ≡ true = not_false (are_blank p) parts.0 in
+    let blank : are_blank p ≡ true = not-false (are_blank p) parts.0 in
     let more = blank_places (q ∷ places) d.1 say.1 given.1 d.4 say.4 parts.1 given.3 in
     let whole : pieces ≡ given.0 ++ given.1 = given.4 ∙ ap (λ r. r ++ given.1) (blank_followed p (q ∷ places) given.0 blank) in
     let comments : comments_of ts ≡ comments_of p ++ comments_of d.1 = ap comments_of d.2 ∙ mark_comments 44 p d.1 d.0 d.3 in
@@ -203,16 +195,12 @@ or_false : (b : Bool) → (b || false) ≡ true → b ≡ true
 or_false true h = refl
 or_false false h = cc h
 
-not_true_is : (b : Bool) → not b ≡ true → b ≡ false
-not_true_is true h = cc h
-not_true_is false h = refl
-
 -- places of which some isn't blank
 pub PlacesPieces-read : (places : List (List TokenValue)) (ts : List TokenValue) (es : List ElementValue) (values : List CommentValue) (pieces : List (List ℕ)) → HasTokenValues (octets_of ts) ts → Divided 44 places ts
     → SayParts SaysPlace places es → CommentsSay (comments_of ts) values → list_any is_there places ≡ true → PlacesPieces places pieces → ArePlacesAgain es values pieces
 PlacesPieces-read [] ts es values pieces has d say comments some given = absurd d
 PlacesPieces-read (p ∷ []) ts es values pieces has d say comments some given =
-    let filled : are_blank p ≡ false = not_true_is (are_blank p) (or_false (is_there p) some) in
+    let filled : are_blank p ≡ false = not-true (are_blank p) (or_false (is_there p) some) in
     let whole : pieces ≡ given.0 ++ [] = given.4 ∙ ap (λ r. r ++ given.1) (last_followed p given.0) ∙ ap (λ r. given.0 ++ r) given.3 in
     let all : es ≡ say.0 = say.2 ∙ ap (λ r. say.0 ++ r) say.4 ∙ append-nil say.0 in
     let one = filled_last p say.0 values [] given.0 [] [] (subst (λ r. HasTokenValues (octets_of r) r) d has) filled say.3 (subst (λ r. CommentsSay (comments_of r) values) d comments) given.2 tt refl refl in
@@ -275,15 +263,15 @@ or_right false b h = h
 
 places_gaps : (places : List (List TokenValue)) (ts : List TokenValue) → Divided 44 places ts → list_any is_there places ≡ false → comments_of ts ≡ [] → list_all gap_or_comma ts ≡ true
 places_gaps [] ts d none nothing = absurd d
-places_gaps (p ∷ []) ts d none nothing = rw (d) (blank_gaps p (not_false (are_blank p) (or_parts (is_there p) false none).0) (rw (d) at nothing))
+places_gaps (p ∷ []) ts d none nothing = rw (d) (blank_gaps p (not-false (are_blank p) (or_parts (is_there p) false none).0) (rw (d) at nothing))
 places_gaps (p ∷ q ∷ places) ts d none nothing =
     let parts = or_parts (is_there p) (list_any is_there (q ∷ places)) none in
     let both : comments_of p ++ comments_of d.1 ≡ [] = sym (mark_comments 44 p d.1 d.0 d.3) ∙ sym (ap comments_of d.2) ∙ nothing in
     rw (d.2) (list_all-append gap_or_comma p (d.0 ∷ d.1)
-    ∙ and_from (list_all gap_or_comma p) (list_all gap_or_comma (d.0 ∷ d.1)) (blank_gaps p (not_false (are_blank p) parts.0) (nothing_before (comments_of p) (comments_of d.1) both))
+    ∙ and_from (list_all gap_or_comma p) (list_all gap_or_comma (d.0 ∷ d.1)) (blank_gaps p (not-false (are_blank p) parts.0) (nothing_before (comments_of p) (comments_of d.1) both))
     (and_from (gap_or_comma d.0) (list_all gap_or_comma d.1) (or_right (is_gap d.0.kind) (is_mark 44 d.0) d.3) (places_gaps (q ∷ places) d.1 d.4 parts.1 (nothing_behind (comments_of p) (comments_of d.1) both))))
 
-white_ascii : (x : ℕ) → is_white x ≡ true → is_ascii x ≡ true
+pub white_ascii : (x : ℕ) → is_white x ≡ true → is_ascii x ≡ true
 white_ascii x h = grind (arith, nat_tests)
 
 gap_ascii : (kind : TokenKind) (octets rest : List ℕ) → is_gap kind ≡ true → IsToken Mail kind octets rest → list_all is_ascii octets ≡ true
@@ -339,7 +327,7 @@ places_read es values pieces is = record {
   each = is.each;
   says = record {
     tokens = is.tokens;
-    has = record { is_line = joined_line pieces (lines_of pieces is.are_made.each); are_tokens = is.are_made.are_tokens };
+    has = record { is_line = joined_line pieces (pieces_lines pieces is.are_made.each); are_tokens = is.are_made.are_tokens };
     are_elements = is.divided;
     comments_say = is.say;
   };

@@ -11,6 +11,7 @@ use Rattle.field_tokens.specs.declared.TokenKind.TheVariants.{Atom, Quoted, Lite
 use Rattle.field_tokens.specs.Tokens.{TokenValue}
 use Rattle.field_tokens.specs.Squeezed.{is_comment, octets_of, comments_of}
 use Rattle.field_tokens.specs.Comments.{CommentsPieces, AddsPieces}
+use Rattle.field_tokens.proofs.Parts.{comments_of-append}
 use Rattle.address_grammar.specs.declared.Address.{Address}
 use Rattle.address_grammar.specs.private.Lexemes.{is_mark, lacks, SplitsAt}
 use Rattle.address_grammar.specs.Addresses.{address_text}
@@ -22,7 +23,7 @@ use Rattle.address_lists.specs.ListPieces.{served_address, mailbox_units, Mailbo
 use Rattle.address_lists.specs.private.ListWriting.{EmptiedPieces, NamedPieces}
 use Rattle.address_grammar.proofs.LexemeLemmas.{not_lacking, cut_once}
 use Rattle.address_grammar.proofs.MailboxLemmas.{named_angles}
-use Rattle.address_lists.proofs.PhraseWriting.{comments_of-append, no_comment, CommentsPieces-append}
+use Rattle.address_lists.proofs.PhraseWriting.{no_comment, CommentsPieces-append}
 use Rattle.address_lists.proofs.AddedPieces.{some_behind, items_more}
 
 pub none_where : {A : Type 0} (o : Option A) → ((x : A) → o ≡ Some x → ⊥) → o ≡ None

@@ -1,7 +1,7 @@
 -- Texts that stay as they are.
 use Rattle.std.proofs.Common.{◌≡◌, ℕ, ◌+◌, ◌-◌, ◌<◌, ◌≤◌, true, false, ◌&&◌, List, [], ◌∷◌, ◌++◌, length, get_or, take, drop, refl, sym, ap, ◌∙◌, arith}
 use Rattle.std.proofs.lemmas.Bool.{and_from, both_ways}
-use Rattle.std.proofs.lemmas.List.{map-append, take_more, drop_more, take-append-drop}
+use Rattle.std.proofs.lemmas.List.{map-append, take_more, drop_more}
 use Rattle.std.proofs.lemmas.List.Folds.{list_all-append}
 use Rattle.std.specs.List.{list_all}
 use Rattle.mail_wire.specs.Octets.{is_ascii}
@@ -13,7 +13,7 @@ use Rattle.address_grammar.specs.private.PhraseSteps.{SkipsGaps}
 use Rattle.address_lists.specs.ListPieces.{HasText}
 use Rattle.address_lists.specs.private.ListWriting.{EndsNoGap, SplitsGaps}
 use Rattle.address_grammar.specs.private.Views.{value_of, values_of}
-use Rattle.address_lists.proofs.PhraseWriting.{gaps_blank, blank-append}
+use Rattle.address_lists.proofs.PhraseWriting.{gaps_blank, blank-append, trail_whole}
 
 pub all_ascii_octets : (ls : List Lexeme) → list_all (λ l. list_all is_ascii l.octets.now) ls ≡ list_all is_ascii (octets_of (values_of ls))
 all_ascii_octets [] = refl
@@ -40,11 +40,8 @@ ends_so [] t h = h
 ends_so (u ∷ []) t h = h
 ends_so (u ∷ v ∷ ts) t h = ends_so (v ∷ ts) t h
 
-gaps_whole : (ls : List Lexeme) (end : ℕ) → values_of ls ≡ values_of (take end ls) ++ values_of (drop end ls)
-gaps_whole ls end = ap values_of (sym (take-append-drop end ls)) ∙ map-append value_of (take end ls) (drop end ls)
-
 pub gaps_none : (ls : List Lexeme) (end : ℕ) → end ≤ 0 → GapsFrom ls end → SplitsGaps (values_of ls) (values_of (take end ls))
-gaps_none ls end none g = record { trail = values_of (drop end ls); whole = gaps_whole ls end; ends = by end none; gaps = g.gaps }
+gaps_none ls end none g = record { trail = values_of (drop end ls); whole = trail_whole ls end; ends = by end none; gaps = g.gaps }
   where
     by : (k : ℕ) → k ≤ 0 → EndsNoGap (values_of (take k ls))
     by k h = let zero_is : k ≡ 0 = omega (arith, h) in rw (zero_is) tt
@@ -56,7 +53,7 @@ gaps_some ls end d some g other =
     = ap (λ k. take k ls) (sym next) ∙ take_more ls (end - 1) d (omega (arith, some, g.within)) in
     record {
       trail = values_of (drop end ls);
-      whole = gaps_whole ls end;
+      whole = trail_whole ls end;
       ends = rw (front, map-append value_of (take (end - 1) ls) (get_or ls (end - 1) d ∷ [])) (ends_so (values_of (take (end - 1) ls)) (value_of (get_or ls (end - 1) d)) other);
       gaps = g.gaps;
     }

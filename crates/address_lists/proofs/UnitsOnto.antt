@@ -2,16 +2,16 @@
 use Rattle.std.proofs.Common.{◌≡◌, ℕ, Bool, true, false, cond, inl, inr, List, [], ◌∷◌, ◌++◌, codes, Some, refl, sym, ap, ◌∙◌}
 use Rattle.std.proofs.lemmas.Bool.{cases_Bool}
 use Rattle.std.proofs.lemmas.List.{append_assoc}
-use Rattle.std.proofs.lemmas.Str.{IsUtf8-append, IsUtf8-from_ascii}
-use Rattle.std.specs.Str.{IsUtf8}
+use Rattle.std.proofs.lemmas.Str.{IsUtf8-from_ascii}
 use Rattle.encoded_words.specs.declared.units.Merging.{Merging}
 use Rattle.encoded_words.specs.Words.{UnitValue, Text, Opaque, IsEncodedWord}
-use Rattle.encoded_words.specs.Units.{with_text, merged}
+use Rattle.encoded_words.specs.Units.{merged}
 use Rattle.encoded_words.specs.private.Merging.{IsMerging, TakesWord, units_then, onto}
 use Rattle.encoded_words.specs.Written.{AreWritable}
 use Rattle.encoded_words.proofs.BWords.{ascii_literal}
 use Rattle.encoded_words.proofs.Once.{says_once}
 use Rattle.encoded_words.proofs.Reading.{merged-onto}
+use Rattle.encoded_words.proofs.WritableUnits.{merged_writable}
 use Rattle.address_grammar.specs.Addresses.{address_text}
 use Rattle.address_grammar.specs.AddressLists.{MailboxValue}
 use Rattle.address_lists.specs.ListPieces.{mailbox_units, member_units, members_units, group_units}
@@ -62,17 +62,6 @@ other_more (n ∷ ms) m =
     ∙ ap (λ r. r ++ member_units m) (sym (append_assoc (Text (codes ", ") ∷ member_units n) (other_units ms) (Text (codes ", ") ∷ [])))
 
 -- ---- what can be written
-
-with_text_writable : (bs : List ℕ) (us : List UnitValue) → IsUtf8 bs → AreWritable us → AreWritable (with_text bs us)
-with_text_writable [] us u all = all
-with_text_writable (b ∷ bs) [] u all = (u, tt)
-with_text_writable (b ∷ bs) (Text more ∷ us) u all = (IsUtf8-append (b ∷ bs) more u all.0, all.1)
-with_text_writable (b ∷ bs) (Opaque charset octets source ∷ us) u all = (u, all)
-
-merged_writable : (us : List UnitValue) → AreWritable us → AreWritable (merged us)
-merged_writable [] all = tt
-merged_writable (Text bs ∷ us) all = with_text_writable bs (merged us) all.0 (merged_writable us all.1)
-merged_writable (Opaque charset octets source ∷ us) all = (all.0, merged_writable us all.1)
 
 writable_append : (a b : List UnitValue) → AreWritable a → AreWritable b → AreWritable (a ++ b)
 writable_append [] b p q = q

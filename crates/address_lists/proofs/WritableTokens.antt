@@ -4,14 +4,15 @@ use Rattle.std.proofs.lemmas.Bool.{cases_Bool}
 use Rattle.std.proofs.lemmas.Str.{IsUtf8-nil, IsUtf8-append}
 use Rattle.std.specs.List.{AllByRecursion, flat_map}
 use Rattle.std.specs.Str.{IsUtf8}
+use Rattle.mail_wire.proofs.AllLemmas.{all-front, all-back}
 use Rattle.encoded_words.specs.Words.{UnitValue}
 use Rattle.encoded_words.specs.PhraseUnits.{IsUtf8Item}
 use Rattle.encoded_words.specs.Written.{AreWritable}
-use Rattle.encoded_words.proofs.WritableUnits.{HasPhraseUnits-writable}
+use Rattle.encoded_words.proofs.WritableUnits.{HasPhraseUnits-writable, one_ascii}
 use Rattle.field_tokens.specs.Tokens.{TokenValue}
 use Rattle.field_tokens.specs.Squeezed.{comments_of}
 use Rattle.field_tokens.specs.Comments.{AreWritableComments}
-use Rattle.field_tokens.proofs.TokenLines.{one_ascii}
+use Rattle.field_tokens.proofs.Parts.{comments_of-append}
 use Rattle.address_grammar.specs.declared.Address.{Address}
 use Rattle.address_grammar.specs.private.Lexemes.{HasTokenValues, content, contents}
 use Rattle.address_grammar.specs.Addresses.{IsAddress, is_dot_atom, quoted_octet, local_text, address_text}
@@ -21,8 +22,7 @@ use Rattle.address_lists.specs.private.ListWriting.{SaysUtf8, CanBeWritten, IsWr
 use Rattle.address_grammar.proofs.SoundLemmas.{IsSound, tokens_sound}
 use Rattle.address_lists.proofs.SoundPhrases.{text_items, text_comments}
 use Rattle.address_grammar.proofs.Utf8Lemmas.{quoted_utf8}
-use Rattle.address_lists.proofs.PhraseWriting.{phrase_items-append, comments_of-append, writable_front, writable_rest}
-use Rattle.address_lists.proofs.PhraseListLemmas.{all_front, all_rest}
+use Rattle.address_lists.proofs.PhraseWriting.{phrase_items-append, writable_front, writable_rest}
 
 sound_says : (ts : List TokenValue) → AllByRecursion IsSound ts → AllByRecursion SaysUtf8 ts
 sound_says [] s = tt
@@ -33,16 +33,16 @@ text_can text ts has = record { items = text_items text ts has; comments = text_
 
 pub front_can : (a b : List TokenValue) → CanBeWritten (a ++ b) → CanBeWritten a
 front_can a b can = record {
-  items = all_front IsUtf8Item (phrase_items a) (phrase_items b) (subst (AllByRecursion IsUtf8Item) (phrase_items-append a b) can.items);
+  items = all-front IsUtf8Item (phrase_items a) (phrase_items b) (subst (AllByRecursion IsUtf8Item) (phrase_items-append a b) can.items);
   comments = writable_front (comments_of a) (comments_of b) (subst AreWritableComments (comments_of-append a b) can.comments);
-  says = all_front SaysUtf8 a b can.says;
+  says = all-front SaysUtf8 a b can.says;
 }
 
 pub rest_can : (a b : List TokenValue) → CanBeWritten (a ++ b) → CanBeWritten b
 rest_can a b can = record {
-  items = all_rest IsUtf8Item (phrase_items a) (phrase_items b) (subst (AllByRecursion IsUtf8Item) (phrase_items-append a b) can.items);
+  items = all-back IsUtf8Item (phrase_items a) (phrase_items b) (subst (AllByRecursion IsUtf8Item) (phrase_items-append a b) can.items);
   comments = writable_rest (comments_of a) (comments_of b) (subst AreWritableComments (comments_of-append a b) can.comments);
-  says = all_rest SaysUtf8 a b can.says;
+  says = all-back SaysUtf8 a b can.says;
 }
 
 -- what stands before and behind a token
@@ -58,7 +58,7 @@ contents_says : (ts : List TokenValue) → AllByRecursion SaysUtf8 ts → IsUtf8
 contents_says [] s = IsUtf8-nil
 contents_says (t ∷ ts) s = IsUtf8-append (content t) (contents ts) s.0 (contents_says ts s.1)
 
-local_utf8 : (local : List ℕ) → IsUtf8 local → IsUtf8 (local_text local)
+pub local_utf8 : (local : List ℕ) → IsUtf8 local → IsUtf8 (local_text local)
 local_utf8 local u = elim (cases_Bool (is_dot_atom local)) [
   | inl dotted ↦ rw (dotted) u
   | inr other ↦ rw (other)

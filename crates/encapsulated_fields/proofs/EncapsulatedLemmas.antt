@@ -1,6 +1,6 @@
 -- A `Downgraded-` field is ASCII, and says the value that it keeps.
-use Rattle.std.proofs.Common.{◌≡◌, ℕ, ◌<◌, Bool, true, false, not, List, [], ◌∷◌, ◌++◌, length, map, codes, refl, sym, ap, ◌∙◌, subst, arith, ◌⊎◌, inl, inr}
-use Rattle.std.proofs.lemmas.Bool.{and_parts}
+use Rattle.std.proofs.Common.{◌≡◌, ℕ, ◌<◌, Bool, true, not, List, [], ◌∷◌, ◌++◌, length, map, codes, refl, sym, ap, ◌∙◌, subst, arith, ◌⊎◌, inl, inr}
+use Rattle.std.proofs.lemmas.Bool.{and_parts, not-true}
 use Rattle.std.proofs.lemmas.Bool.Decides.{nat_tests}
 use Rattle.std.proofs.lemmas.List.{append_assoc, append-nil}
 use Rattle.std.specs.List.{AllByRecursion, list_all, flat_map, concat, join_with_byte}
@@ -75,15 +75,11 @@ behind_space w = record { white = 32; octets = w }
 abbrev spaced : List (List ℕ) → List ℕ
 spaced words = flat_map (λ w. 32 ∷ w) words
 
-no_end : (b : Bool) → not b ≡ true → b ≡ false
-no_end true h = cc
-no_end false h = refl
-
 unfolded-in_line : (xs rest : List ℕ) → list_all in_line xs ≡ true → unfolded (xs ++ rest) ≡ xs ++ unfolded rest
 unfolded-in_line [] rest h = refl
 unfolded-in_line (x ∷ xs) rest h =
     let parts = and_parts (in_line x) (list_all in_line xs) h in
-    unfolded-other x (xs ++ rest) (no_fold x (xs ++ rest) (no_end (is_line_end x) parts.0)) ∙ ap (λ zs. x ∷ zs) (unfolded-in_line xs rest parts.1)
+    unfolded-other x (xs ++ rest) (no_fold x (xs ++ rest) (not-true (is_line_end x) parts.0)) ∙ ap (λ zs. x ∷ zs) (unfolded-in_line xs rest parts.1)
 
 unfolded-line : (w rest : List ℕ) → list_all in_line w ≡ true → unfolded (13 ∷ 10 ∷ 32 ∷ (w ++ rest)) ≡ 32 ∷ (w ++ unfolded rest)
 unfolded-line w rest h = unfolded-fold (13 ∷ 10 ∷ 32 ∷ (w ++ rest)) refl ∙ unfolded-in_line (32 ∷ w) rest h
@@ -104,11 +100,11 @@ spaced_is w (v ∷ ws) = ap (λ zs. 32 ∷ (w ++ zs)) (spaced_is v ws)
 -- Words with a space between two have no white at their ends.
 Stops-word : (w rest : List ℕ) → IsWord w → Stops is_white (w ++ rest)
 Stops-word [] rest is = let some = is.some in absurd (omega arith)
-Stops-word (x ∷ xs) rest is = no_end (is_white x) (and_parts (is_black x) (list_all is_black xs) is.black).0
+Stops-word (x ∷ xs) rest is = not-true (is_white x) (and_parts (is_black x) (list_all is_black xs) is.black).0
 
 StopsBehind-black : (xs : List ℕ) → list_all is_black xs ≡ true → StopsBehind is_white xs
 StopsBehind-black [] h = tt
-StopsBehind-black (x ∷ []) h = no_end (is_white x) (and_parts (is_black x) true h).0
+StopsBehind-black (x ∷ []) h = not-true (is_white x) (and_parts (is_black x) true h).0
 StopsBehind-black (x ∷ y ∷ xs) h = StopsBehind-black (y ∷ xs) (and_parts (is_black x) (list_all is_black (y ∷ xs)) h).1
 
 StopsBehind-append : (p : ℕ → Bool) (xs ys : List ℕ) → 0 < length ys → StopsBehind p ys → StopsBehind p (xs ++ ys)

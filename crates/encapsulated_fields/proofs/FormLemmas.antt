@@ -65,10 +65,10 @@ ReadsAs-unitext address u =
     subst (ReadsAs (unitext_form address)) (encodes-chars address u) (ReadsAs-form (λ c. is_plain c || nat_lt 127 c) (chars address) refl (scalars-chars address u))
 
 -- The first form is ASCII.
-plain_small : (c : ℕ) → is_plain c ≡ true → c < 128
+pub plain_small : (c : ℕ) → is_plain c ≡ true → c < 128
 plain_small c h = grind (arith, nat_tests)
 
-ascii_digit : (x : ℕ) → is_hex_digit x ≡ true → is_ascii x ≡ true
+pub ascii_digit : (x : ℕ) → is_hex_digit x ≡ true → is_ascii x ≡ true
 ascii_digit x h = grind (arith, nat_tests)
 
 ascii_escape : (c : ℕ) → list_all is_ascii (escape_of c) ≡ true

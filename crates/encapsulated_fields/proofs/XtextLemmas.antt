@@ -116,7 +116,7 @@ ReadsAs-once text address other p q =
     ended (i ∷ items) e = absurd (no_items i (flat_map item_spelling items) (sym e))
 
 -- text and address are UTF-8
-digit_small : (x : ℕ) → is_hex_digit x ≡ true → x < 128
+pub digit_small : (x : ℕ) → is_hex_digit x ≡ true → x < 128
 digit_small x h = grind (arith, nat_tests)
 
 utf8-cons : (c : ℕ) (rest : List ℕ) → c < 128 → IsUtf8 rest → IsUtf8 (c ∷ rest)

@@ -2,7 +2,6 @@
 use Rattle.std.proofs.Common.{◌≡◌, ℕ, ◌+◌, ◌<◌, ◌≤◌, Bool, true, List, [], ◌∷◌, ◌++◌, length, map, codes, None, refl, ◌∙◌, arith, inl, inr, replicate, ltb, get_or}
 use Rattle.std.proofs.lemmas.List.{append-nil, length-append, length-replicate, take_at, drop_at, get_or_past}
 use Rattle.std.proofs.lemmas.Bool.{and_parts, and_from, cases_lt, ltb-true}
-use Rattle.std.proofs.lemmas.Bool.Decides.{nat_tests}
 use Rattle.std.proofs.lemmas.Str.{is_utf8-from_IsUtf8, IsUtf8-take, IsUtf8-drop, IsAscii-append}
 use Rattle.std.proofs.lemmas.List.Sums.{AllPass-from_list_all}
 use Rattle.std.specs.List.{list_all, concat}
@@ -17,6 +16,7 @@ use Rattle.mail_wire.specs.Octets.{is_black}
 use Rattle.mail_wire.proofs.AllLemmas.{pass-append}
 use Rattle.encoded_words.specs.Pieces.{b_word, IsChunk, AreChunks, AreShort}
 use Rattle.encoded_words.proofs.Octets.{is_byte, bytes-IsUtf8, IsBytes-from_all, encoded_hold, encoded_passes}
+use Rattle.encoded_words.proofs.EncodedOctets.{black_text}
 
 abbrev b_parts : List ℕ → WordParts
 b_parts chunk = record { charset = codes "UTF-8"; language = None; letter = 66; text = encode_of standard chunk }
@@ -77,15 +77,11 @@ b_word-all p holds chunk u =
     pass-append p (codes "=?UTF-8?B?") (encode_of standard chunk ++ codes "?=") holds.marks
     (pass-append p (encode_of standard chunk) (codes "?=") (encoded_hold p holds.symbols first.0 chunk (bytes-IsUtf8 chunk u)) ending)
 
--- what is visible is not white
-pub visible_black : (b : ℕ) → is_text_octet b ≡ true → is_black b ≡ true
-visible_black b h = grind (arith, nat_tests)
-
 black_from_visible : (xs : List ℕ) → list_all is_text_octet xs ≡ true → list_all is_black xs ≡ true
 black_from_visible [] h = refl
 black_from_visible (x ∷ xs) h =
     let parts = and_parts (is_text_octet x) (list_all is_text_octet xs) h in
-    and_from (is_black x) (list_all is_black xs) (visible_black x parts.0) (black_from_visible xs parts.1)
+    and_from (is_black x) (list_all is_black xs) (black_text x parts.0) (black_from_visible xs parts.1)
 
 pub b_word-black : (chunk : List ℕ) → list_all is_byte chunk ≡ true → list_all is_black (b_word chunk) ≡ true
 unfolding b_word

@@ -42,7 +42,7 @@ AreFirstBWords-push text words chunk rest were is = record {
 }
 
 -- A text that is not empty has a boundary behind its first character.
-first_boundary : (cs bs : List ℕ) → all_scalars cs ≡ true → encode_utf8_all cs ≡ bs → 0 < length bs → (i : ℕ) × (0 < i) × (i ≤ 4) × IsCharBoundary bs i
+pub first_boundary : (cs bs : List ℕ) → all_scalars cs ≡ true → encode_utf8_all cs ≡ bs → 0 < length bs → (i : ℕ) × (0 < i) × (i ≤ 4) × IsCharBoundary bs i
 first_boundary [] bs ok e some = absurd (omega (arith, ap length e))
 first_boundary (c ∷ cs) bs ok e some =
     let n : length (encode_utf8 c) ≡ len_utf8 c = length-encode c in
@@ -91,7 +91,7 @@ abbrev next_white : ℕ → List (List ℕ) → ℕ
 next_white white [] = white
 next_white white (w ∷ ws) = 32
 
-made_body-append : (xs ys : List Piece) → made_body (xs ++ ys) ≡ made_body xs ++ made_body ys
+pub made_body-append : (xs ys : List Piece) → made_body (xs ++ ys) ≡ made_body xs ++ made_body ys
 made_body-append [] ys = refl
 made_body-append (x ∷ xs) ys = rw (made_body-append xs ys) (sym (append_assoc (crlf ++ x.white ∷ x.octets) (made_body xs) (made_body ys)))
 

@@ -34,10 +34,10 @@ position_missing c xs e =
     lacks_from_places c xs (λ k l. fails_before_first (λ x. x == c) xs k 0 (omega arith))
 
 -- an octet that the front lacks is not in the front
-not_in : (c h : ℕ) (xs : List ℕ) → lacks c (h ∷ xs) ≡ true → h ≡ c → ⊥
+pub not_in : (c h : ℕ) (xs : List ℕ) → lacks c (h ∷ xs) ≡ true → h ≡ c → ⊥
 not_in c h xs l e = let parts = and_parts (not (eqb h c)) (lacks c xs) l in true≢false (sym (eq-eqb h c e) ∙ not-true (eqb h c) parts.0)
 
-rest_lacks : (c h : ℕ) (xs : List ℕ) → lacks c (h ∷ xs) ≡ true → lacks c xs ≡ true
+pub rest_lacks : (c h : ℕ) (xs : List ℕ) → lacks c (h ∷ xs) ≡ true → lacks c xs ≡ true
 rest_lacks c h xs l = (and_parts (not (eqb h c)) (lacks c xs) l).1
 
 pub cut_once : (c : ℕ) (a b x y : List ℕ) → lacks c a ≡ true → lacks c b ≡ true → a ++ c ∷ x ≡ b ++ c ∷ y → (a ≡ b) × (x ≡ y)

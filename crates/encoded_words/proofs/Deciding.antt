@@ -22,11 +22,11 @@ cases_eq : (x y : ℕ) → (x ≡ y) ⊎ (x ≢ y)
 cases_eq x y = elim (cases_Bool (eqb x y)) [ inl t ↦ inl (eqb-true x y t) | inr f ↦ inr (λ e. true≢false (sym (eq-eqb x y e) ∙ f)) ]
 
 -- The cut at the first such octet.
-record CutAt (c : ℕ) (xs front rest : List ℕ) : Type 0 where
-  whole : xs ≡ front ++ c ∷ rest
-  first : lacks c front ≡ true
+pub record CutAt (c : ℕ) (xs front rest : List ℕ) : Type 0 where
+  pub whole : xs ≡ front ++ c ∷ rest
+  pub first : lacks c front ≡ true
 
-cut_at : (c : ℕ) (xs : List ℕ) → ((front : List ℕ) × (rest : List ℕ) × CutAt c xs front rest) ⊎ (lacks c xs ≡ true)
+pub cut_at : (c : ℕ) (xs : List ℕ) → ((front : List ℕ) × (rest : List ℕ) × CutAt c xs front rest) ⊎ (lacks c xs ≡ true)
 cut_at c xs = by (position (λ x. x == c) xs) refl
   where
     by : (o : Option ℕ) → position (λ x. x == c) xs ≡ o → ((front : List ℕ) × (rest : List ℕ) × CutAt c xs front rest) ⊎ (lacks c xs ≡ true)
@@ -195,7 +195,7 @@ decide_q (x ∷ []) = first_q x [] (decide_q []) (λ e. no_escape [] (λ h l aft
 decide_q (x ∷ y ∷ []) = first_q x (y ∷ []) (decide_q (y ∷ [])) (λ e. no_escape (y ∷ []) (λ h l after e a b. cc e))
 decide_q (x ∷ y ∷ z ∷ rest) = first_q x (y ∷ z ∷ rest) (decide_q (y ∷ z ∷ rest)) (λ e. decide_escape y z rest (decide_q rest))
 
-decide_same : (xs ys : List ℕ) → (xs ≡ ys) ⊎ (xs ≢ ys)
+pub decide_same : (xs ys : List ℕ) → (xs ≡ ys) ⊎ (xs ≢ ys)
 decide_same [] [] = inl refl
 decide_same [] (y ∷ ys) = inr (λ e. cc e)
 decide_same (x ∷ xs) [] = inr (λ e. cc e)

@@ -42,24 +42,24 @@ encoded_all p holds word u is =
     (pass-append p w.charset (language_suffix w.language ++ 63 ∷ w.letter ∷ 63 ∷ (w.text ++ 63 ∷ 61 ∷ [])) (pass-weaker is_name_octet p holds.name w.charset has.charset.1)
     (pass-append p (language_suffix w.language) (63 ∷ w.letter ∷ 63 ∷ (w.text ++ 63 ∷ 61 ∷ [])) (language_holds p holds third.0 w.language has.language) coded))))
 
-ascii_letter : (x : ℕ) → (to_ascii_uppercase x ≡ 66) ⊎ (to_ascii_uppercase x ≡ 81) → is_ascii x ≡ true
+pub ascii_letter : (x : ℕ) → (to_ascii_uppercase x ≡ 66) ⊎ (to_ascii_uppercase x ≡ 81) → is_ascii x ≡ true
 ascii_letter x (inl h) = grind (arith, nat_tests)
 ascii_letter x (inr h) = grind (arith, nat_tests)
 
-black_letter : (x : ℕ) → (to_ascii_uppercase x ≡ 66) ⊎ (to_ascii_uppercase x ≡ 81) → is_black x ≡ true
+pub black_letter : (x : ℕ) → (to_ascii_uppercase x ≡ 66) ⊎ (to_ascii_uppercase x ≡ 81) → is_black x ≡ true
 black_letter x (inl h) = grind (arith, nat_tests)
 black_letter x (inr h) = grind (arith, nat_tests)
 
-ascii_name : (x : ℕ) → is_name_octet x ≡ true → is_ascii x ≡ true
+pub ascii_name : (x : ℕ) → is_name_octet x ≡ true → is_ascii x ≡ true
 ascii_name x h = grind (arith, nat_tests)
 
-ascii_text : (x : ℕ) → is_text_octet x ≡ true → is_ascii x ≡ true
+pub ascii_text : (x : ℕ) → is_text_octet x ≡ true → is_ascii x ≡ true
 ascii_text x h = grind (arith, nat_tests)
 
-black_name : (x : ℕ) → is_name_octet x ≡ true → is_black x ≡ true
+pub black_name : (x : ℕ) → is_name_octet x ≡ true → is_black x ≡ true
 black_name x h = grind (arith, nat_tests)
 
-black_text : (x : ℕ) → is_text_octet x ≡ true → is_black x ≡ true
+pub black_text : (x : ℕ) → is_text_octet x ≡ true → is_black x ≡ true
 black_text x h = grind (arith, nat_tests)
 
 -- an encoded word is ASCII

@@ -21,7 +21,7 @@ no_text octets are = by are.chunks are.whole are.spelled
     by [] whole spelled = whole
     by (c ∷ chunks) whole spelled = cc spelled
 
-no_front : (a b : List (List ℕ)) → [] ≡ a ++ b → (a ≡ []) × (b ≡ [])
+pub no_front : (a b : List (List ℕ)) → [] ≡ a ++ b → (a ≡ []) × (b ≡ [])
 no_front [] b e = (refl, sym e)
 no_front (x ∷ a) b e = cc e
 

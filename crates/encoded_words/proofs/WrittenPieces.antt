@@ -113,7 +113,7 @@ visible_letter : (x : ℕ) → (to_ascii_uppercase x ≡ 66) ⊎ (to_ascii_upper
 visible_letter x (inl h) = grind (arith, nat_tests)
 visible_letter x (inr h) = grind (arith, nat_tests)
 
-both_hold : (p q : ℕ → Bool) (xs : List ℕ) → list_all p xs ≡ true → list_all q xs ≡ true → list_all (λ x. p x && q x) xs ≡ true
+pub both_hold : (p q : ℕ → Bool) (xs : List ℕ) → list_all p xs ≡ true → list_all q xs ≡ true → list_all (λ x. p x && q x) xs ≡ true
 both_hold p q [] a b = refl
 both_hold p q (x ∷ xs) a b =
     let here = and_parts (p x) (list_all p xs) a in

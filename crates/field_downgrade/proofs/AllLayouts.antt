@@ -1,6 +1,6 @@
 -- Every field that can be rewritten has a served form.
-use Rattle.std.proofs.Common.{◌≡◌, ℕ, ◌≤◌, Bool, true, false, not, inl, inr, zero, suc, List, [], ◌∷◌, ◌++◌, length, map, drop, refl, sym, ap, ◌∙◌, arith}
-use Rattle.std.proofs.lemmas.Bool.{and_parts, and_from, both_ways, cases_Bool}
+use Rattle.std.proofs.Common.{◌≡◌, ℕ, ◌≤◌, Bool, true, false, not, inl, inr, zero, suc, List, [], ◌∷◌, ◌++◌, length, refl, sym, ap, ◌∙◌, arith}
+use Rattle.std.proofs.lemmas.Bool.{and_parts, and_from, both_ways, cases_Bool, not-true}
 use Rattle.std.specs.List.{list_all}
 use Rattle.mail_wire.specs.Octets.{is_ascii}
 use Rattle.encoded_words.specs.Folding.{word_pieces, made_body}
@@ -13,7 +13,7 @@ use Rattle.field_downgrade.specs.Layout.{CutsLeft, CutsRight, IsCopied, begins_h
 use Rattle.field_downgrade.specs.private.Steps.{NeedsRun, SplitsCopied, SplitsCore, BeginsCore, BeginsEncoded, CanWrite, WritesSegment, WritesWords, MakesUnstructured}
 use Rattle.field_downgrade.specs.Stands.{IsHighField}
 use Rattle.field_downgrade.specs.Message.{IsServed}
-use Rattle.field_downgrade.proofs.SegmentLemmas.{NotEncoded, EndsHigh, not_true}
+use Rattle.field_downgrade.proofs.SegmentLemmas.{NotEncoded, EndsHigh}
 use Rattle.field_downgrade.proofs.Writing.{WritesOn, WritesOn-start, WritesOn-step, WritesOn-begins, WritesOn-end, WritesSegment-from, CanWrite-from, needs_left, needs_right, text_utf8, shorter}
 use Rattle.field_downgrade.proofs.Rewriting.{IsServed-words, IsServed-other}
 use Rattle.field_downgrade.proofs.AllStructured.{structured_some, decide_words}
@@ -82,7 +82,7 @@ core_ends w ws [] [] (x ∷ after) begins whole ends low stops =
 core_ends w ws [] (l ∷ low) after begins whole ends is_low stops =
     let same : w ≡ l = cc whole in
     let l_low = (and_parts (not (is_high l)) (list_all (λ (v : Word). not (is_high v)) low) is_low).0 in
-    absurd (both_ways (is_high l) (not_true (is_high l) l_low) (ap is_high (sym same) ∙ begins.0))
+    absurd (both_ways (is_high l) (not-true (is_high l) l_low) (ap is_high (sym same) ∙ begins.0))
 core_ends w ws (k ∷ core) low after begins whole ends is_low stops = let same : w ≡ k = cc whole in (ap is_high (sym same) ∙ begins.0, ends)
 
 split_core : (w : Word) (ws : List Word) → BeginsCore (w ∷ ws) → (core : List Word) × (rest : List Word) × SplitsCore (w ∷ ws) core rest

@@ -1,7 +1,6 @@
 -- What a body with `rfc822` in place of `global` is.
 use Rattle.std.proofs.Common.{◌≡◌, ℕ, ◌+◌, ◌<◌, Bool, true, List, [], ◌∷◌, ◌++◌, length, take, drop, refl, sym, ap, ◌∙◌, subst, arith}
 use Rattle.std.proofs.lemmas.Bool.{and_parts}
-use Rattle.std.proofs.lemmas.Bool.Decides.{nat_tests}
 use Rattle.std.proofs.lemmas.List.{append_assoc, append_cancel_left, length-append, drop_at}
 use Rattle.std.proofs.lemmas.List.Folds.{list_all-append}
 use Rattle.std.proofs.lemmas.Str.{IsUtf8-append, IsUtf8-from_ascii}
@@ -15,15 +14,17 @@ use Rattle.mail_wire.proofs.Folded.{without_ends, without_ends-append, unfolded-
 use Rattle.mail_wire.proofs.SpanLemmas.{span_once}
 use Rattle.mail_wire.proofs.AllLemmas.{pass-append}
 use Rattle.encoded_words.proofs.BWords.{ascii_literal}
-use Rattle.field_tokens.proofs.TokenLines.{before_ascii, all_ascii, BeginsAscii}
 use Rattle.utf8_fields.specs.Parts.{FieldParts, field_octets, HasParts, HasValue}
 use Rattle.utf8_fields.proofs.OneValue.{IsTrimmed-once}
+use Rattle.encoded_words.proofs.WritableUnits.{all_ascii, before_ascii, BeginsAscii}
 use Rattle.param_2231.specs.GlobalTypes.{NamesGlobal, with_rfc822}
 use Rattle.param_2231.proofs.GlobalLemmas.{IsGlobalAt, global_at, NamesGlobal-once, with_rfc822-stops, with_rfc822-stops_behind}
 use Rattle.field_downgrade.specs.Stands.{with_body}
 use Rattle.field_downgrade.specs.GlobalBodies.{ChangesGlobal}
-use Rattle.field_downgrade.proofs.GlobalBodiesShown.{AreAtom, plain_shown, atom_plain, cut_atom, begins_shown, place_once}
+use Rattle.field_downgrade.proofs.GlobalBodiesShown.{AreAtom, atom_plain, cut_atom, begins_shown, place_once}
 use Rattle.field_downgrade.proofs.GlobalBodiesPlaces.{front_is, word_is, value_stops, shown_value}
+use Rattle.field_downgrade.proofs.Pieces.{keeps_all}
+use Rattle.field_downgrade.proofs.WordLemmas.{ascii_small}
 
 -- ---- the parts of a body
 
@@ -101,7 +102,7 @@ shown_after body changed is c =
     ∙ ap (λ r. take c.at c.value ++ r) (append_assoc g.word g.rest c.has.trail)) ∙ sym (append_assoc c.has.lead (take c.at c.value) (g.word ++ (g.rest ++ c.has.trail))) in
     let whole : without_ends body ≡ (c.has.lead ++ take c.at c.value) ++ (g.word ++ without_ends c.after) =
     ap without_ends c.whole ∙ without_ends-append c.before (c.word ++ c.after) ∙ ap (λ r. r ++ without_ends (c.word ++ c.after)) p.shown
-    ∙ ap (λ r. (c.has.lead ++ take c.at c.value) ++ r) (without_ends-append c.word c.after ∙ ap (λ r. r ++ without_ends c.after) (plain_shown c.word (atom_plain c.word p.atom) ∙ word)) in
+    ∙ ap (λ r. (c.has.lead ++ take c.at c.value) ++ r) (without_ends-append c.word c.after ∙ ap (λ r. r ++ without_ends c.after) (keeps_all c.word (atom_plain c.word p.atom) ∙ word)) in
     let both : (c.has.lead ++ take c.at c.value) ++ (g.word ++ without_ends c.after) ≡ (c.has.lead ++ take c.at c.value) ++ (g.word ++ (g.rest ++ c.has.trail)) =
     sym whole ∙ shown_value body c.value is c.has ∙ split in
     let behind = append_cancel_left (c.has.lead ++ take c.at c.value) (g.word ++ without_ends c.after) (g.word ++ (g.rest ++ c.has.trail)) both in
@@ -139,19 +140,16 @@ ChangesGlobal-all p type body changed c all =
     let rest = and_parts (list_all p c.word) (list_all p c.after) (sym (list_all-append p c.word c.after) ∙ front.1) in
     ap (list_all p) c.changed_is ∙ pass-append p c.before (codes "rfc822" ++ c.after) front.0 (pass-append p (codes "rfc822") c.after type rest.1)
 
-ascii_below : (x : ℕ) → is_ascii x ≡ true → x < 128
-ascii_below x h = grind (arith, nat_tests)
-
 begins_ascii : (word after : List ℕ) → 0 < length word → list_all is_ascii word ≡ true → BeginsAscii (word ++ after)
 begins_ascii [] after some ascii = absurd (omega (arith, some))
-begins_ascii (x ∷ word) after some ascii = ascii_below x (and_parts (is_ascii x) (list_all is_ascii word) ascii).0
+begins_ascii (x ∷ word) after some ascii = ascii_small x (and_parts (is_ascii x) (list_all is_ascii word) ascii).0
 
 -- it is UTF-8 where the body is
 pub ChangesGlobal-utf8 : (body changed : List ℕ) → IsFolded body → ChangesGlobal body changed → IsUtf8 body → IsUtf8 changed
 ChangesGlobal-utf8 body changed is c utf8 =
     let p = cut_at body changed is c in
     let front = before_ascii c.before (c.word ++ c.after) (begins_ascii c.word c.after p.some p.ascii) (subst IsUtf8 c.whole utf8) in
-    let behind = all_ascii is_ascii ascii_below c.word c.after p.ascii front.rest in
+    let behind = all_ascii is_ascii ascii_small c.word c.after p.ascii front.rest in
     let new : IsUtf8 (codes "rfc822") = IsUtf8-from_ascii (codes "rfc822") (ascii_literal (codes "rfc822") refl) in
     subst IsUtf8 (sym c.changed_is) (IsUtf8-append c.before (codes "rfc822" ++ c.after) front.front (IsUtf8-append (codes "rfc822") c.after new behind.rest))
 

@@ -12,6 +12,7 @@ use Rattle.mail_wire.specs.Spans.{Stops, IsSpan}
 use Rattle.mail_wire.proofs.Folded.{without_ends, without_ends-append, unfolded-folded, BeginsText, IsFolded-cut, IsFolded-append}
 use Rattle.mail_wire.proofs.SpanLemmas.{span_once}
 use Rattle.utf8_fields.specs.Parts.{HasValue}
+use Rattle.field_tokens.proofs.Parts.{stops_more}
 use Rattle.param_2231.specs.GlobalTypes.{NamesGlobal}
 use Rattle.param_2231.proofs.GlobalLemmas.{IsGlobalAt, global_at}
 use Rattle.field_downgrade.specs.GlobalBodies.{ChangesGlobal}
@@ -31,14 +32,9 @@ word_is value at g = ap (take 6) (behind_is value at g) ∙ take_at g.word g.res
 pub word_some : (value : List ℕ) (at : ℕ) (g : IsGlobalAt value at) → 0 < length g.word
 word_some value at g = omega (arith, g.size)
 
--- a value that isn't empty, with white behind it, doesn't begin with white
-stops_with : (p : ℕ → Bool) (value trail : List ℕ) → 0 < length value → Stops p value → Stops p (value ++ trail)
-stops_with p [] trail some stops = absurd (omega (arith, some))
-stops_with p (x ∷ value) trail some stops = stops
-
 pub value_stops : (value trail : List ℕ) (at : ℕ) → IsGlobalAt value at → Stops is_white value → Stops is_white (value ++ trail)
 value_stops value trail at g stops =
-    stops_with is_white value trail (omega (arith, g.size, ap length g.whole, length-append g.front (g.word ++ g.rest), length-append g.word g.rest)) stops
+    stops_more is_white value trail (omega (arith, g.size, ap length g.whole, length-append g.front (g.word ++ g.rest), length-append g.word g.rest)) stops
 
 -- ---- the word in a folded text that shows the value
 

@@ -6,6 +6,7 @@ use Rattle.std.specs.List.{AllByRecursion, list_all, flat_map}
 use Rattle.mail_wire.specs.Octets.{is_white, is_line_end}
 use Rattle.mail_wire.specs.Folds.{FoldedItem, Octet, Fold, IsFoldedItem, item_octets, IsFolded}
 use Rattle.mail_wire.proofs.Folded.{without_ends, BeginsText, IsFolded-cut, IsFolded-drop_plain}
+use Rattle.mail_wire.proofs.OctetLemmas.{white_no_end}
 use Rattle.field_tokens.specs.declared.Style.TheVariants.{Mime}
 use Rattle.field_tokens.specs.TokenOctets.{is_atom_octet}
 
@@ -28,18 +29,9 @@ pub atom_plain : (word : List ℕ) → AreAtom word → list_all (λ x. not (is_
 atom_plain [] all = refl
 atom_plain (x ∷ word) all = and_from (not (is_line_end x)) (list_all (λ x. not (is_line_end x)) word) (ap not (atom_shown x (first_atom x word all))) (atom_plain word (more_atom x word all))
 
-pub plain_shown : (xs : List ℕ) → list_all (λ x. not (is_line_end x)) xs ≡ true → without_ends xs ≡ xs
-plain_shown [] all = refl
-plain_shown (x ∷ xs) all =
-    let parts = and_parts (not (is_line_end x)) (list_all (λ x. not (is_line_end x)) xs) all in
-    rw (parts.0) (ap (λ r. x ∷ r) (plain_shown xs parts.1))
-
 pub begins_text : (word rest : List ℕ) → 0 < length word → AreAtom word → BeginsText (word ++ rest)
 begins_text [] rest some all = absurd (omega (arith, some))
 begins_text (x ∷ word) rest some all = let first = first_atom x word all in (atom_black x first, atom_shown x first)
-
-white_shown : (x : ℕ) → is_white x ≡ true → is_line_end x ≡ false
-white_shown x h = grind (arith, nat_tests)
 
 -- ---- a shown octet has a place
 
@@ -96,7 +88,7 @@ atom_first (Octet y ∷ items) (c ∷ word) rest are all e =
     let more = atom_first items word rest are.1 (more_atom c word all) others in
     (more.0, ap (λ r. y ∷ r) more.1 ∙ ap (λ z. z ∷ (word ++ more.0)) first, more.2)
 atom_first (Fold w ∷ items) (c ∷ word) rest are all e =
-    let shown : w ∷ without_ends (flat_map item_octets items) ≡ c ∷ (word ++ rest) = rw (white_shown w are.0) at e in
+    let shown : w ∷ without_ends (flat_map item_octets items) ≡ c ∷ (word ++ rest) = rw (white_no_end w are.0) at e in
     let first : w ≡ c = cc shown in
     absurd (both_ways (is_white c) (atom_black c (first_atom c word all)) (subst (λ z. is_white z ≡ true) first are.0))
 

@@ -1,12 +1,10 @@
 -- Lines and texts that are put together word by word.
 use Rattle.std.proofs.Common.{◌≡◌, ℕ, ◌<◌, ◌+◌, ◌-◌, ◌≤◌, zero, suc, List, [], ◌∷◌, ◌++◌, length, take, refl, sym, ap, ◌∙◌, arith, get_or, subst}
 use Rattle.std.proofs.lemmas.List.{append_assoc, append-nil, map-append, take_more, take_all}
-use Rattle.mail_wire.specs.Lines.{crlf}
 use Rattle.field_downgrade.specs.declared.word.Word.{Word as CodeWord}
 use Rattle.field_downgrade.specs.private.Views.{word_of, words_of}
 use Rattle.field_downgrade.specs.Words.{Word, joined, run_of, last_run}
 use Rattle.field_downgrade.specs.Layout.{last_side, side_of}
-use Rattle.encoded_words.specs.Folding.{Piece, made_body}
 
 -- what stands behind the last word
 abbrev pub last_gap : (Word → List ℕ) → List Word → List ℕ
@@ -76,8 +74,3 @@ last_side-at ws x is some =
 pub last_run-at : (ws : List CodeWord) (x : CodeWord) → x ≡ get_or ws (length ws - 1) x → 1 ≤ length ws → run_of (word_of x) ≡ last_run (words_of ws)
 last_run-at ws x is some =
     ap (λ (w : CodeWord). run_of (word_of w)) is ∙ sym (last_at (λ ws w. last_run ws ≡ run_of w) (λ w. refl) (λ w v x ws h. h) ws (length ws - 1) x (omega arith))
-
--- lines
-pub made_body-append : (xs ys : List Piece) → made_body (xs ++ ys) ≡ made_body xs ++ made_body ys
-made_body-append [] ys = refl
-made_body-append (x ∷ xs) ys = rw (made_body-append xs ys) (sym (append_assoc (crlf ++ x.white ∷ x.octets) (made_body xs) (made_body ys)))

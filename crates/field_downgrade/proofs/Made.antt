@@ -6,7 +6,7 @@ use Rattle.std.proofs.lemmas.List.{append_assoc, append-nil}
 use Rattle.std.specs.List.{list_all, flat_map, concat, AllByRecursion}
 use Rattle.std.specs.Str.{IsUtf8, IsAscii}
 use Rattle.std.proofs.lemmas.Str.{IsUtf8-append, IsUtf8-from_ascii}
-use Rattle.mail_wire.specs.Octets.{is_white, is_black, is_line_end, is_ascii}
+use Rattle.mail_wire.specs.Octets.{is_white, is_ascii}
 use Rattle.mail_wire.specs.Lines.{crlf}
 use Rattle.mail_wire.specs.Folds.{unfolded, IsFolded}
 use Rattle.mail_wire.proofs.Folded.{without_ends, without_ends-append, unfolded-folded, IsFolded-nil, IsFolded-append, IsFolded-fold, IsFolded-plain}
@@ -18,13 +18,15 @@ use Rattle.mail_wire.proofs.SpanLemmas.{all_from_places}
 use Rattle.utf8_fields.specs.Parts.{FieldParts, HasParts, HasValue, field_octets}
 use Rattle.mail_wire.specs.Spans.{StopsBehind}
 use Rattle.mail_wire.proofs.AllLemmas.{pass-append}
+use Rattle.mail_wire.proofs.OctetLemmas.{white_no_end}
 use Rattle.utf8_fields.specs.Lines.{is_name_octet}
-use Rattle.field_downgrade.specs.Words.{AreUtf8, Word, AreWords, HasWords, run_of, last_run, plain_text, copied_octets, is_word_octet, is_gap_octet, is_high, word_octets}
+use Rattle.field_downgrade.specs.Words.{AreUtf8, Word, AreWords, HasWords, run_of, last_run, plain_text, copied_octets, is_high, word_octets}
 use Rattle.encoded_words.specs.Words.{UnitValue}
 use Rattle.encoded_words.specs.Units.{HasUnits}
 use Rattle.utf8_fields.specs.Parts.{HasValue}
 use Rattle.field_downgrade.specs.Layout.{first_side, last_side, Segment, segment_words, IsSegment, AreSegments, IsCopied, copied_pieces, Gives, GiveAll, HavePieces, made_of}
 use Rattle.encoded_words.specs.Folding.{Piece, word_pieces, made_body}
+use Rattle.address_lists.proofs.PlacesAgain.{white_ascii}
 use Rattle.field_downgrade.specs.declared.segments.Side.{Side}
 use Rattle.field_downgrade.specs.declared.kind.Kind.TheVariants.{Unstructured}
 use Rattle.field_downgrade.specs.Kinds.{kind_named}
@@ -34,6 +36,7 @@ use Rattle.field_downgrade.proofs.Units.{units_from, units_from-front}
 use Rattle.field_downgrade.proofs.Places.{without_ends-white}
 use Rattle.field_downgrade.proofs.Pieces.{behind, shown, AreWords-front, AreWords-back, last_white, chunks_first, AreUtf8-front, AreUtf8-back, white_utf8, plain_utf8, b_word-no_end, word_keeps, Ends-places}
 use Rattle.field_downgrade.proofs.ReadBack.{IsReadBack, IsReadBack-pieces, left_white, right_white}
+use Rattle.field_downgrade.proofs.WordLemmas.{word_no_end, gap_ascii}
 
 -- a piece that may stand on a line of its own
 pub record IsPiece (p : Piece) : Type 0 where
@@ -48,12 +51,6 @@ ArePieces-append : (xs ys : List Piece) → ArePieces xs → ArePieces ys → Ar
 ArePieces-append [] ys a b = b
 ArePieces-append (x ∷ xs) ys a b = (a.0, ArePieces-append xs ys a.1 b)
 
-word_no_end : (xs : List ℕ) → list_all is_word_octet xs ≡ true → list_all (λ x. not (is_line_end x)) xs ≡ true
-word_no_end [] h = refl
-word_no_end (x ∷ xs) h =
-    let parts = and_parts (is_word_octet x) (list_all is_word_octet xs) h in
-    and_from (not (is_line_end x)) (list_all (λ x. not (is_line_end x)) xs) (and_parts (is_black x) (not (is_line_end x)) parts.0).1 (word_no_end xs parts.1)
-
 copied_folded : (ws : List Word) → AreWords ws → IsFolded (copied_octets ws)
 copied_folded [] are = IsFolded-nil
 copied_folded (w ∷ []) are = IsFolded-plain w.octets (word_no_end w.octets are.0.octets)
@@ -64,15 +61,6 @@ copied_folded (w ∷ v ∷ ws) are =
 not_not : (b : Bool) → not (not b) ≡ true → b ≡ true
 not_not true h = refl
 not_not false h = cc h
-
-gap_octet_ascii : (x : ℕ) → is_gap_octet x ≡ true → is_ascii x ≡ true
-gap_octet_ascii x h = grind (arith, nat_tests)
-
-gap_ascii : (xs : List ℕ) → list_all is_gap_octet xs ≡ true → list_all is_ascii xs ≡ true
-gap_ascii [] h = refl
-gap_ascii (x ∷ xs) h =
-    let parts = and_parts (is_gap_octet x) (list_all is_gap_octet xs) h in
-    and_from (is_ascii x) (list_all is_ascii xs) (gap_octet_ascii x parts.0) (gap_ascii xs parts.1)
 
 copied_ascii : (ws : List Word) → AreWords ws → IsCopied ws → list_all is_ascii (copied_octets ws) ≡ true
 copied_ascii [] are low = refl
@@ -155,16 +143,10 @@ pub made-folded : (pieces : List Piece) → ArePieces pieces → IsFolded (made_
 made-folded [] are = IsFolded-nil
 made-folded (p ∷ ps) are = IsFolded-append (crlf ++ p.white ∷ p.octets) (made_body ps) (IsFolded-fold p.white p.octets are.0.white are.0.folded) (made-folded ps are.1)
 
-white_no_end : (x : ℕ) → is_white x ≡ true → is_line_end x ≡ false
-white_no_end x h = grind (arith, nat_tests)
-
 pub made-shows : (pieces : List Piece) → ArePieces pieces → without_ends (made_body pieces) ≡ behind pieces
 made-shows [] are = refl
 made-shows (p ∷ ps) are =
     without_ends-append (crlf ++ p.white ∷ p.octets) (made_body ps) ∙ rw (white_no_end p.white are.0.white, made-shows ps are.1) refl
-
-white_ascii : (x : ℕ) → is_white x ≡ true → is_ascii x ≡ true
-white_ascii x h = grind (arith, nat_tests)
 
 pub made-ascii : (pieces : List Piece) → ArePieces pieces → list_all is_ascii (made_body pieces) ≡ true
 made-ascii [] are = refl

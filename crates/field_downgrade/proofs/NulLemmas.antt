@@ -1,15 +1,14 @@
 -- A made field has no NUL where the original has none.
-use Rattle.std.proofs.Common.{◌≡◌, ℕ, zero, suc, ◌==◌, Bool, true, not, List, [], ◌∷◌, ◌++◌, map, Some, inl, inr, refl, sym, ap, ◌∙◌, subst, arith}
+use Rattle.std.proofs.Common.{◌≡◌, ℕ, zero, suc, ◌==◌, Bool, true, not, List, [], ◌∷◌, ◌++◌, map, Some, inl, inr, refl, ap, ◌∙◌, subst, arith}
 use Rattle.std.proofs.lemmas.Bool.{and_parts, and_from, cases_Bool, eqb-true}
 use Rattle.std.proofs.lemmas.Bool.Decides.{nat_tests}
 use Rattle.std.proofs.lemmas.List.{append-nil}
-use Rattle.std.proofs.lemmas.List.Folds.{list_all-append}
 use Rattle.std.specs.List.{AllByRecursion, concat, flat_map, list_all}
 use Rattle.std.specs.Str.{IsUtf8}
 use Rattle.mail_wire.specs.Octets.{is_white}
 use Rattle.mail_wire.specs.Lines.{crlf}
 use Rattle.mail_wire.specs.Message.{IsNul}
-use Rattle.mail_wire.proofs.AllLemmas.{pass-append, pass-weaker}
+use Rattle.mail_wire.proofs.AllLemmas.{pass-append, pass-weaker, pass-front, pass-back}
 use Rattle.encoded_words.specs.Folding.{Piece, made_body, word_pieces}
 use Rattle.encoded_words.specs.Pieces.{AreBWords, AreChunks, b_word}
 use Rattle.encoded_words.proofs.BWords.{b_word-all}
@@ -54,13 +53,6 @@ KeepsNoNul octets made = LacksNul octets → LacksNul made
 -- it is enough that what passes the test gives what passes it
 pub KeepsNoNul-from : (octets made : List ℕ) → (list_all not_nul octets ≡ true → list_all not_nul made ≡ true) → KeepsNoNul octets made
 KeepsNoNul-from octets made keeps lacks = all_lacks made (keeps (lacks_all octets lacks))
-
--- the parts of octets that pass
-all_front : {X : Type 0} (p : X → Bool) (xs ys : List X) → list_all p (xs ++ ys) ≡ true → list_all p xs ≡ true
-all_front p xs ys h = (and_parts (list_all p xs) (list_all p ys) (sym (list_all-append p xs ys) ∙ h)).0
-
-all_back : {X : Type 0} (p : X → Bool) (xs ys : List X) → list_all p (xs ++ ys) ≡ true → list_all p ys ≡ true
-all_back p xs ys h = (and_parts (list_all p xs) (list_all p ys) (sym (list_all-append p xs ys) ∙ h)).1
 
 name_not_nul : (x : ℕ) → is_name_octet x ≡ true → not_nul x ≡ true
 name_not_nul x h = grind (arith, nat_tests)
@@ -112,16 +104,16 @@ word_lacks w = list_all not_nul (word_octets w)
 words_lack : (ws : List Word) → list_all not_nul (flat_map word_octets ws) ≡ true → list_all word_lacks ws ≡ true
 words_lack [] h = refl
 words_lack (w ∷ ws) h =
-    and_from (word_lacks w) (list_all word_lacks ws) (all_front not_nul (word_octets w) (flat_map word_octets ws) h)
-    (words_lack ws (all_back not_nul (word_octets w) (flat_map word_octets ws) h))
+    and_from (word_lacks w) (list_all word_lacks ws) (pass-front not_nul (word_octets w) (flat_map word_octets ws) h)
+    (words_lack ws (pass-back not_nul (word_octets w) (flat_map word_octets ws) h))
 
 copied_lack : (ws : List Word) → list_all word_lacks ws ≡ true → list_all not_nul (copied_octets ws) ≡ true
 copied_lack [] h = refl
-copied_lack (w ∷ []) h = all_front not_nul w.octets w.gap (and_parts (word_lacks w) true h).0
+copied_lack (w ∷ []) h = pass-front not_nul w.octets w.gap (and_parts (word_lacks w) true h).0
 copied_lack (w ∷ v ∷ ws) h =
     let parts = and_parts (word_lacks w) (list_all word_lacks (v ∷ ws)) h in
-    pass-append not_nul w.octets (w.gap ++ copied_octets (v ∷ ws)) (all_front not_nul w.octets w.gap parts.0)
-    (pass-append not_nul w.gap (copied_octets (v ∷ ws)) (all_back not_nul w.octets w.gap parts.0) (copied_lack (v ∷ ws) parts.1))
+    pass-append not_nul w.octets (w.gap ++ copied_octets (v ∷ ws)) (pass-front not_nul w.octets w.gap parts.0)
+    (pass-append not_nul w.gap (copied_octets (v ∷ ws)) (pass-back not_nul w.octets w.gap parts.0) (copied_lack (v ∷ ws) parts.1))
 
 copied_pieces_lack : (white : ℕ) (ws : List Word) → list_all word_lacks ws ≡ true → LackNul (copied_pieces white ws)
 copied_pieces_lack white [] h = tt
@@ -132,7 +124,7 @@ gives_lack : (side : Side) (run : List ℕ) (s : Segment) (pieces : List Piece) 
 gives_lack side run s pieces are u white h g =
     let text = gives_utf8 side run s pieces are u white g in
     rw (g.pieces_are) (LackNul-append (word_pieces g.white g.b_words) (copied_pieces g.next s.copied) (LackNul-words g.white _ g.b_words text g.are_b_words)
-    (copied_pieces_lack g.next s.copied (all_back word_lacks s.core s.copied h)))
+    (copied_pieces_lack g.next s.copied (pass-back word_lacks s.core s.copied h)))
 
 all_lack : (ss : List Segment) (side : Side) (run : List ℕ) (pieces : List Piece) → AreWords (flat_map segment_words ss) → AreUtf8 (flat_map segment_words ss) → list_all is_white run ≡ true
     → list_all word_lacks (flat_map segment_words ss) ≡ true → GiveAll side run ss pieces → LackNul pieces
@@ -142,9 +134,9 @@ all_lack (s ∷ ss) side run pieces are u white h give =
     let are_first = AreWords-front (segment_words s) ws are in
     let are_copied = AreWords-back s.core s.copied are_first in
     rw (give.2) (LackNul-append give.0 give.1
-    (gives_lack side run s give.0 are_first (AreUtf8-front (segment_words s) ws u) white (all_front word_lacks (segment_words s) ws h) give.3)
+    (gives_lack side run s give.0 are_first (AreUtf8-front (segment_words s) ws u) white (pass-front word_lacks (segment_words s) ws h) give.3)
     (all_lack ss (last_side s.copied) (last_run s.copied) give.1 (AreWords-back (segment_words s) ws are) (AreUtf8-back (segment_words s) ws u) (last_white s.copied are_copied)
-    (all_back word_lacks (segment_words s) ws h) give.4))
+    (pass-back word_lacks (segment_words s) ws h) give.4))
 
 -- the pieces of words without NUL
 pieces_lack : (words : List Word) (pieces : List Piece) → AreWords words → AreUtf8 words → HavePieces words pieces → list_all word_lacks words ≡ true → LackNul pieces
@@ -154,9 +146,9 @@ pieces_lack words pieces are u have h =
     let u_all = subst AreUtf8 have.whole u in
     let h_all = subst (λ (all : List Word). list_all word_lacks all ≡ true) have.whole h in
     let are_front = AreWords-front have.front ws are_all in
-    rw (have.pieces_are) (LackNul-append (copied_pieces 32 have.front) have.more (copied_pieces_lack 32 have.front (all_front word_lacks have.front ws h_all))
+    rw (have.pieces_are) (LackNul-append (copied_pieces 32 have.front) have.more (copied_pieces_lack 32 have.front (pass-front word_lacks have.front ws h_all))
     (all_lack have.segments (last_side have.front) (last_run have.front) have.more (AreWords-back have.front ws are_all) (AreUtf8-back have.front ws u_all)
-    (last_white have.front are_front) (all_back word_lacks have.front ws h_all) have.give))
+    (last_white have.front are_front) (pass-back word_lacks have.front ws h_all) have.give))
 
 -- ---- the made field
 
@@ -186,11 +178,11 @@ KeepsNoNul-pieces octets made f g pieces is are lack name white body end made_is
 field_words_lack : (octets : List ℕ) (f : FieldParts) (words : List Word) → HasParts octets f → HasWords f.body words → list_all not_nul octets ≡ true → list_all word_lacks words ≡ true
 field_words_lack octets f words is has h =
     let all : list_all not_nul (field_octets f) ≡ true = subst (λ xs. list_all not_nul xs ≡ true) is.spelled h in
-    let behind = all_back not_nul f.name (f.white ++ 58 ∷ (f.body ++ f.ending)) all in
-    let colon : list_all not_nul (f.body ++ f.ending) ≡ true = all_back not_nul f.white (58 ∷ (f.body ++ f.ending)) behind in
-    let body = all_front not_nul f.body f.ending colon in
+    let behind = pass-back not_nul f.name (f.white ++ 58 ∷ (f.body ++ f.ending)) all in
+    let colon : list_all not_nul (f.body ++ f.ending) ≡ true = pass-back not_nul f.white (58 ∷ (f.body ++ f.ending)) behind in
+    let body = pass-front not_nul f.body f.ending colon in
     let whole : list_all not_nul (has.lead ++ flat_map word_octets words) ≡ true = subst (λ xs. list_all not_nul xs ≡ true) has.whole body in
-    words_lack words (all_back not_nul has.lead (flat_map word_octets words) whole)
+    words_lack words (pass-back not_nul has.lead (flat_map word_octets words) whole)
 
 -- ... and neither does an unstructured one
 pub KeepsNoNul-made : (octets made : List ℕ) (f : FieldParts) (words : List Word) (pieces : List Piece) → HasParts octets f → HasWords f.body words → AreUtf8 words → HavePieces words pieces

@@ -1,6 +1,6 @@
 -- A field has one layout.
 use Rattle.std.proofs.Common.{◌≡◌, ℕ, Option, None, Some, ◌<◌, Bool, true, false, not, ◌||◌, ◌⊎◌, inl, inr, List, [], ◌∷◌, ◌++◌, length, refl, sym, ap, ◌∙◌, subst, arith}
-use Rattle.std.proofs.lemmas.Bool.{and_parts, both_ways}
+use Rattle.std.proofs.lemmas.Bool.{and_parts, both_ways, not-true, not_from_true}
 use Rattle.std.proofs.lemmas.List.{append_assoc, length-append}
 use Rattle.std.specs.List.{list_all, list_any, flat_map}
 use Rattle.mail_wire.specs.Octets.{is_ascii}
@@ -29,6 +29,8 @@ use Rattle.field_downgrade.proofs.KindValues.{PiecesAs-once, PiecesAs-says, HasN
 use Rattle.field_downgrade.proofs.StructuredFields.{structured_no_hyphen, not_unstructured, pieces_no_hyphen, KeptKind, KeptType, KeptEncoding, kept_kind, kept_structured}
 use Rattle.field_downgrade.proofs.GlobalBodiesLemmas.{ChangesGlobal-once}
 use Rattle.field_downgrade.proofs.OneMeaning.{HasValue-once}
+use Rattle.field_downgrade.proofs.SegmentLemmas.{EndsHigh, NotEncoded}
+use Rattle.field_downgrade.specs.private.Steps.{BeginsHigh}
 
 -- Words.
 tells_once : (a b : Bool) (octets : List ℕ) → TellsEncoded a octets → TellsEncoded b octets → a ≡ b
@@ -39,11 +41,7 @@ tells_once false false octets p q = refl
 
 word_first : (xs rest : List ℕ) → 0 < length xs → list_all is_word_octet xs ≡ true → Stops is_gap_octet (xs ++ rest)
 word_first [] rest some h = absurd (omega arith)
-word_first (x ∷ xs) rest some h = by (is_word_octet x) (and_parts (is_word_octet x) (list_all is_word_octet xs) h).0
-  where
-    by : (b : Bool) → b ≡ true → not b ≡ false
-    by true h = refl
-    by false h = cc h
+word_first (x ∷ xs) rest some h = not_from_true (is_word_octet x) (and_parts (is_word_octet x) (list_all is_word_octet xs) h).0
 
 words_first : (ws : List Word) → AreWords ws → Stops is_gap_octet (flat_map word_octets ws)
 words_first [] are = tt
@@ -51,11 +49,7 @@ words_first (w ∷ ws) are = subst (Stops is_gap_octet) (sym (append_assoc w.oct
 
 gap_first : (gap : List ℕ) (ws : List Word) → list_all is_gap_octet gap ≡ true → (gap ≡ [] → ws ≡ []) → Stops is_word_octet (gap ++ flat_map word_octets ws)
 gap_first [] ws h none = rw (none refl) tt
-gap_first (x ∷ gap) ws h none = by (is_word_octet x) (and_parts (is_gap_octet x) (list_all is_gap_octet gap) h).0
-  where
-    by : (b : Bool) → not b ≡ true → b ≡ false
-    by true h = cc h
-    by false h = refl
+gap_first (x ∷ gap) ws h none = not-true (is_word_octet x) (and_parts (is_gap_octet x) (list_all is_gap_octet gap) h).0
 
 gap_none : (w : Word) (ws : List Word) → Divides (run_of w) ws → w.gap ≡ [] → ws ≡ []
 gap_none w [] divides e = refl
@@ -88,27 +82,18 @@ HasWords-once body ws vs p q =
     words_once ws vs p.are_words q.are_words both.1
 
 -- Segments.
-begins_or_none : List Word → Type 0
-begins_or_none [] = Unit {0}
-begins_or_none (w ∷ ws) = is_high w ≡ true
-
-not_true : (b : Bool) → not b ≡ true → b ≡ false
-not_true true h = cc h
-not_true false h = refl
-
-copied_once : (xs ys us bs : List Word) → IsCopied xs → IsCopied ys → begins_or_none us → begins_or_none bs → xs ++ us ≡ ys ++ bs → (xs ≡ ys) × (us ≡ bs)
-unfolding begins_or_none
+copied_once : (xs ys us bs : List Word) → IsCopied xs → IsCopied ys → BeginsHigh us → BeginsHigh bs → xs ++ us ≡ ys ++ bs → (xs ≡ ys) × (us ≡ bs)
 copied_once [] [] us bs p q f g e = (refl, e)
 copied_once [] (y ∷ ys) [] bs p q f g e = cc e
 copied_once [] (y ∷ ys) (a ∷ us) bs p q f g e =
     let same : a ≡ y = cc e in
     let low = (and_parts (not (is_high y)) (list_all (λ (w : Word). not (is_high w)) ys) q).0 in
-    absurd (both_ways (is_high y) (not_true (is_high y) low) (ap is_high (sym same) ∙ f))
+    absurd (both_ways (is_high y) (not-true (is_high y) low) (ap is_high (sym same) ∙ f))
 copied_once (x ∷ xs) [] us [] p q f g e = cc e
 copied_once (x ∷ xs) [] us (b ∷ bs) p q f g e =
     let same : x ≡ b = cc e in
     let low = (and_parts (not (is_high x)) (list_all (λ (w : Word). not (is_high w)) xs) p).0 in
-    absurd (both_ways (is_high x) (not_true (is_high x) low) (ap is_high same ∙ g))
+    absurd (both_ways (is_high x) (not-true (is_high x) low) (ap is_high same ∙ g))
 copied_once (x ∷ xs) (y ∷ ys) us bs p q f g e =
     let same : x ≡ y = cc e in
     let rest : xs ++ us ≡ ys ++ bs = cc e in
@@ -116,12 +101,11 @@ copied_once (x ∷ xs) (y ∷ ys) us bs p q f g e =
     let tails : xs ≡ ys = more.0 in
     (cc, more.1)
 
-segments_begin : (ss : List Segment) → AreSegments ss → begins_or_none (flat_map segment_words ss)
-unfolding begins_or_none
+segments_begin : (ss : List Segment) → AreSegments ss → BeginsHigh (flat_map segment_words ss)
 segments_begin [] segs = tt
 segments_begin (s ∷ ss) segs = by s.core segs.0.begins
   where
-    by : (core : List Word) → begins_high core ≡ true → begins_or_none ((core ++ s.copied) ++ flat_map segment_words ss)
+    by : (core : List Word) → begins_high core ≡ true → BeginsHigh ((core ++ s.copied) ++ flat_map segment_words ss)
     by [] h = cc h
     by (k ∷ ks) h = h
 
@@ -136,7 +120,7 @@ outside_copied [] rest p (inl h) = cc h
 outside_copied [] rest p (inr e) = rw e tt
 outside_copied (k ∷ copied) rest p some =
     let parts = and_parts (not (is_high k)) (list_all (λ (w : Word). not (is_high w)) copied) p in
-    by k.is_encoded refl (not_true (is_high k) parts.0) some (outside_copied copied rest parts.1)
+    by k.is_encoded refl (not-true (is_high k) parts.0) some (outside_copied copied rest parts.1)
   where
     by : (b : Bool) → k.is_encoded ≡ b → is_high k ≡ false → (k.is_encoded || list_any (λ (w : Word). w.is_encoded) copied ≡ true) ⊎ (rest ≡ [])
         → ((list_any (λ (w : Word). w.is_encoded) copied ≡ true) ⊎ (rest ≡ []) → Outside (copied ++ rest)) → (k.is_encoded ≡ true) ⊎ ((is_high k ≡ false) × Outside (copied ++ rest))
@@ -148,26 +132,19 @@ outside_segment : (copied : List Word) (ss : List Segment) → IsCopied copied �
 outside_segment copied [] p parts = outside_copied copied [] p (inr refl)
 outside_segment copied (t ∷ ss) p parts = outside_copied copied (flat_map segment_words (t ∷ ss)) p (inl parts)
 
-abbrev EndsIn : List Word → Type 0
-EndsIn [] = Unit {0}
-EndsIn (w ∷ ws) = ends_high (w ∷ ws) ≡ true
-
-abbrev Plains : List Word → Type 0
-Plains ws = list_all (λ (w : Word). not w.is_encoded) ws ≡ true
-
-ends_tail : (w : Word) (ws : List Word) → ends_high (w ∷ ws) ≡ true → EndsIn ws
+ends_tail : (w : Word) (ws : List Word) → ends_high (w ∷ ws) ≡ true → EndsHigh ws
 ends_tail w [] h = tt
 ends_tail w (v ∷ ws) h = h
 
-no_more : (k : Word) (ks rest : List Word) → ends_high (k ∷ ks) ≡ true → Plains (k ∷ ks) → Outside ((k ∷ ks) ++ rest) → ⊥
+no_more : (k : Word) (ks rest : List Word) → ends_high (k ∷ ks) ≡ true → NotEncoded (k ∷ ks) → Outside ((k ∷ ks) ++ rest) → ⊥
 unfolding Outside
 no_more k ks rest ends plain (inl encoded) =
-    let parts = and_parts (not k.is_encoded) (list_all (λ (w : Word). not w.is_encoded) ks) plain in both_ways k.is_encoded (not_true k.is_encoded parts.0) encoded
+    let parts = and_parts (not k.is_encoded) (list_all (λ (w : Word). not w.is_encoded) ks) plain in both_ways k.is_encoded (not-true k.is_encoded parts.0) encoded
 no_more k [] rest ends plain (inr low) = both_ways (is_high k) low.0 ends
 no_more k (j ∷ ks) rest ends plain (inr low) =
     no_more j ks rest ends (and_parts (not k.is_encoded) (list_all (λ (w : Word). not w.is_encoded) (j ∷ ks)) plain).1 low.1
 
-cores_once : (xs ys us bs : List Word) → EndsIn xs → EndsIn ys → Plains xs → Plains ys → Outside us → Outside bs → xs ++ us ≡ ys ++ bs → (xs ≡ ys) × (us ≡ bs)
+cores_once : (xs ys us bs : List Word) → EndsHigh xs → EndsHigh ys → NotEncoded xs → NotEncoded ys → Outside us → Outside bs → xs ++ us ≡ ys ++ bs → (xs ≡ ys) × (us ≡ bs)
 cores_once [] [] us bs p q f g o u e = (refl, e)
 cores_once [] (y ∷ ys) us bs p q f g o u e = absurd (no_more y ys bs q g (subst Outside e o))
 cores_once (x ∷ xs) [] us bs p q f g o u e = absurd (no_more x xs us p f (subst Outside (sym e) u))
@@ -179,7 +156,7 @@ cores_once (x ∷ xs) (y ∷ ys) us bs p q f g o u e =
     let tails : xs ≡ ys = more.0 in
     (cc, more.1)
 
-ends_from : (ws : List Word) → ends_high ws ≡ true → EndsIn ws
+ends_from : (ws : List Word) → ends_high ws ≡ true → EndsHigh ws
 ends_from [] h = tt
 ends_from (w ∷ ws) h = h
 

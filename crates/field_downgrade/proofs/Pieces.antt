@@ -1,6 +1,6 @@
 -- What pieces and places show.
-use Rattle.std.proofs.Common.{◌≡◌, ℕ, ◌<◌, Bool, true, false, not, List, [], ◌∷◌, ◌++◌, length, map, Some, refl, sym, ap, ◌∙◌, arith, zero, suc, ◌⊎◌, inl, inr}
-use Rattle.std.proofs.lemmas.Bool.{and_parts}
+use Rattle.std.proofs.Common.{◌≡◌, ℕ, ◌<◌, true, not, List, [], ◌∷◌, ◌++◌, length, map, Some, refl, sym, ap, ◌∙◌, arith, zero, suc, ◌⊎◌, inl, inr}
+use Rattle.std.proofs.lemmas.Bool.{and_parts, not-true}
 use Rattle.std.proofs.lemmas.List.{append_assoc, append-nil, length-append}
 use Rattle.std.specs.List.{list_all, flat_map, concat}
 use Rattle.std.specs.Str.{IsUtf8, IsAscii}
@@ -16,6 +16,7 @@ use Rattle.encoded_words.proofs.Octets.{bytes-IsUtf8}
 use Rattle.encoded_words.proofs.EncodedOctets.{encoded_all}
 use Rattle.std.specs.Char.{to_ascii_uppercase}
 use Rattle.mail_wire.specs.Spans.{StopsBehind}
+use Rattle.mail_wire.proofs.OctetLemmas.{white_below}
 use Rattle.field_downgrade.specs.Words.{AreUtf8, Word, AreWords, Divides, run_of, last_run, plain_text, copied_octets, is_word_octet}
 use Rattle.encoded_words.specs.Folding.{Piece, word_pieces}
 use Rattle.field_downgrade.proofs.Units.{b_places}
@@ -98,7 +99,7 @@ b_word-no_end chunk rest u is =
     encoded_all (λ x. not (is_line_end x)) (record { name = name_no_end; text = text_no_end; letter = letter_no_end; marks = refl }) (b_word chunk) (Text chunk)
     (b_word-says chunk u is.some is.fits)
 
-keeps_all : (xs : List ℕ) → list_all (λ x. not (is_line_end x)) xs ≡ true → without_ends xs ≡ xs
+pub keeps_all : (xs : List ℕ) → list_all (λ x. not (is_line_end x)) xs ≡ true → without_ends xs ≡ xs
 keeps_all [] h = refl
 keeps_all (x ∷ xs) h =
     let parts = and_parts (not (is_line_end x)) (list_all (λ x. not (is_line_end x)) xs) h in
@@ -160,14 +161,11 @@ pub AreUtf8-back : (xs ys : List Word) → AreUtf8 (xs ++ ys) → AreUtf8 ys
 AreUtf8-back [] ys u = u
 AreUtf8-back (x ∷ xs) ys u = AreUtf8-back xs ys u.1
 
-white_small : (x : ℕ) → is_white x ≡ true → x < 128
-white_small x h = grind (arith, nat_tests)
-
 pub white_utf8 : (xs : List ℕ) → list_all is_white xs ≡ true → IsUtf8 xs
 white_utf8 [] h = IsUtf8-nil
 white_utf8 (x ∷ xs) h =
     let parts = and_parts (is_white x) (list_all is_white xs) h in
-    IsUtf8-append (x ∷ []) xs (IsUtf8-from_ascii (x ∷ []) (one x (white_small x parts.0))) (white_utf8 xs parts.1)
+    IsUtf8-append (x ∷ []) xs (IsUtf8-from_ascii (x ∷ []) (one x (white_below x parts.0))) (white_utf8 xs parts.1)
   where
     one : (x : ℕ) → x < 128 → IsAscii (x ∷ [])
     one x h zero = h
@@ -191,11 +189,7 @@ Ends-append (x ∷ z ∷ xs) y ys h = Ends-append (z ∷ xs) y ys h
 
 Ends-black : (xs : List ℕ) → list_all is_black xs ≡ true → Ends xs
 Ends-black [] h = tt
-Ends-black (x ∷ []) h = not_true (is_white x) (and_parts (is_black x) true h).0
-  where
-    not_true : (b : Bool) → not b ≡ true → b ≡ false
-    not_true true h = cc h
-    not_true false h = refl
+Ends-black (x ∷ []) h = not-true (is_white x) (and_parts (is_black x) true h).0
 Ends-black (x ∷ y ∷ xs) h = Ends-black (y ∷ xs) (and_parts (is_black x) (list_all is_black (y ∷ xs)) h).1
 
 -- Places whose last run is nothing end in no white.

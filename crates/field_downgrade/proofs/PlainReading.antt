@@ -6,6 +6,8 @@ use Rattle.std.proofs.Math.Seq.{drop-cons}
 use Rattle.std.specs.List.{list_all}
 use Rattle.std.specs.Str.{IsUtf8}
 use Rattle.mail_wire.specs.Octets.{is_ascii}
+use Rattle.address_lists.proofs.PhraseWriting.{CommentsPieces-append}
+use Rattle.encoded_words.proofs.WritableUnits.{BothUtf8}
 use Rattle.field_tokens.specs.declared.Style.{Style}
 use Rattle.field_tokens.specs.declared.Token.{Token}
 use Rattle.field_tokens.specs.declared.TokenKind.{TokenKind}
@@ -17,9 +19,10 @@ use Rattle.field_tokens.proofs.TokenLists.{token_at, AreTokens-once}
 use Rattle.field_tokens.proofs.Parts.{comments_of-append}
 use Rattle.field_tokens.proofs.SqueezedValues.{squeezed_text-values}
 use Rattle.field_tokens.proofs.SqueezedLemmas.{no_token}
-use Rattle.field_tokens.proofs.TokenLines.{BothUtf8, token_utf8}
+use Rattle.field_tokens.proofs.TokenLines.{token_utf8}
 use Rattle.field_downgrade.specs.PlainTexts.{style_where, IsAtomWhere, SaysPlain, text_piece, PlainPieces}
-use Rattle.field_downgrade.specs.private.PlainSteps.{is_atom, IsOneAtom, GiveComments}
+use Rattle.field_downgrade.specs.private.PlainSteps.{IsOneAtom, GiveComments}
+use Rattle.field_downgrade.specs.Received.{is_atom_kind}
 
 -- One atom with gaps and comments around it.
 
@@ -27,22 +30,22 @@ abbrev is_word : Token → Bool
 is_word token = not (is_blank token.kind)
 
 abbrev is_blank_or_atom : Token → Bool
-is_blank_or_atom token = is_blank token.kind || is_atom token.kind
+is_blank_or_atom token = is_blank token.kind || is_atom_kind token.kind
 
-is_atom-kind : (kind : TokenKind) → is_atom kind ≡ true → kind ≡ Atom
-is_atom-kind Atom e = refl
-is_atom-kind Quoted e = cc e
-is_atom-kind Literal e = cc e
-is_atom-kind Special e = cc e
-is_atom-kind Gap e = cc e
-is_atom-kind Comment e = cc e
+pub atom_kind : (kind : TokenKind) → is_atom_kind kind ≡ true → kind ≡ Atom
+atom_kind Atom e = refl
+atom_kind Quoted e = cc e
+atom_kind Literal e = cc e
+atom_kind Special e = cc e
+atom_kind Gap e = cc e
+atom_kind Comment e = cc e
 
 -- all are blank or atoms where all words are atoms
-words_atoms : (ts : List Token) → list_all is_blank_or_atom ts ≡ list_all (λ (t : Token). is_atom t.kind) (filter is_word ts)
+words_atoms : (ts : List Token) → list_all is_blank_or_atom ts ≡ list_all (λ (t : Token). is_atom_kind t.kind) (filter is_word ts)
 words_atoms [] = refl
 words_atoms (t ∷ ts) = elim (cases_Bool (is_blank t.kind)) [
   | inl blank ↦ rw (blank) (words_atoms ts)
-  | inr word ↦ rw (word) (ap (λ b. is_atom t.kind && b) (words_atoms ts))
+  | inr word ↦ rw (word) (ap (λ b. is_atom_kind t.kind && b) (words_atoms ts))
 ]
 
 pub one_atom : (ts : List Token) → length (filter is_word ts) ≡ 1 → list_all is_blank_or_atom ts ≡ true → IsOneAtom ts
@@ -51,8 +54,8 @@ one_atom ts one all = by (filter is_word ts) refl
     by : (ws : List Token) → filter is_word ts ≡ ws → IsOneAtom ts
     by [] e = absurd (omega (arith, one, ap length e))
     by (w ∷ []) e =
-        let atoms : (is_atom w.kind && true) ≡ true = sym (ap (list_all (λ (t : Token). is_atom t.kind)) e) ∙ sym (words_atoms ts) ∙ all in
-        (w, e, is_atom-kind w.kind (and_parts (is_atom w.kind) true atoms).0)
+        let atoms : (is_atom_kind w.kind && true) ≡ true = sym (ap (list_all (λ (t : Token). is_atom_kind t.kind)) e) ∙ sym (words_atoms ts) ∙ all in
+        (w, e, atom_kind w.kind (and_parts (is_atom_kind w.kind) true atoms).0)
     by (w ∷ v ∷ ws) e = absurd (omega (arith, one, ap length e))
 
 pub one_atom-all : (ts : List Token) → IsOneAtom ts → list_all is_blank_or_atom ts ≡ true
@@ -83,11 +86,6 @@ atom_by_places tokens vs placed one =
     subst IsOneAtom (sym placed) found
 
 -- The pieces of comments.
-
-CommentsPieces-append : (a b p q : List (List ℕ)) → CommentsPieces a p → CommentsPieces b q → CommentsPieces (a ++ b) (p ++ q)
-CommentsPieces-append [] b p q is are = rw (is) are
-CommentsPieces-append (c ∷ a) b p q is are =
-    (is.0, is.1 ++ q, ap (λ r. r ++ q) is.2 ∙ append_assoc is.0 is.1 q, is.3, CommentsPieces-append a b is.1 q is.4 are)
 
 -- what was put so far are the pieces of the comments before what is left
 pub record PutsComments (style : Style) (text : List ℕ) (old new : List (List ℕ)) (left : List Token) (rest : List ℕ) : Type 0 where
@@ -120,7 +118,7 @@ pub record NextToken (style : Style) (text : List ℕ) (old new : List (List ℕ
   pub comment : (next : List (List ℕ)) → is_comment token.kind ≡ true → AddsPieces (CommentPieces (take token.span.len rest)) new next → PutsComments style text old next others (drop token.span.len rest)
   pub other : is_comment token.kind ≡ false → PutsComments style text old new others (drop token.span.len rest)
 
-is_comment-kind : (kind : TokenKind) → is_comment kind ≡ true → kind ≡ Comment
+pub is_comment-kind : (kind : TokenKind) → is_comment kind ≡ true → kind ≡ Comment
 is_comment-kind Comment e = refl
 is_comment-kind Atom e = cc e
 is_comment-kind Quoted e = cc e

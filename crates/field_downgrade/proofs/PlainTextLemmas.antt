@@ -10,18 +10,18 @@ use Rattle.mail_wire.proofs.AllLemmas.{all-append, pass-append, pass-weaker}
 use Rattle.field_tokens.specs.declared.Style.{Style}
 use Rattle.field_tokens.specs.declared.TokenKind.{TokenKind}
 use Rattle.field_tokens.specs.declared.TokenKind.TheVariants.{Atom, Quoted, Literal, Special, Gap, Comment}
-use Rattle.field_tokens.specs.Groups.{IsGroup}
 use Rattle.field_tokens.specs.TokenOctets.{is_line_octet}
-use Rattle.field_tokens.specs.Tokens.{comment_marks, IsToken, TokenValue, AreTokens, IsLine, HasTokenValues}
+use Rattle.field_tokens.specs.Tokens.{IsToken, TokenValue, AreTokens, HasTokenValues}
 use Rattle.field_tokens.specs.Squeezed.{is_blank, runs_of, octets_of, squeezed_values, is_comment, comments_of, words_of, apart, IsPart}
-use Rattle.field_tokens.specs.Comments.{CommentValue, CommentsSay, CommentsPieces, IsAsciiComment, AreWritten, IsLinePiece}
+use Rattle.field_tokens.specs.Comments.{CommentValue, CommentsSay, CommentsPieces, AreWritten, IsLinePiece}
 use Rattle.field_tokens.proofs.TokenLists.{token_octets_some, AreTokens-once}
 use Rattle.field_tokens.proofs.SqueezedValues.{IsPart-runs, words_of-runs, runs_and, squeezed_and, IsSqueezedAgain, squeezed_again}
-use Rattle.field_tokens.proofs.TokenLines.{ascii_line, joined_line, squeezed_line, comments_are_writable, comments_are_plain}
+use Rattle.field_tokens.proofs.TokenLines.{joined_line, squeezed_line, comments_are_writable, comments_are_plain}
 use Rattle.field_tokens.proofs.LinePieces.{CommentsPieces-line, CommentsPieces-there}
 use Rattle.field_tokens.proofs.CommentValues.{CommentsSay-once, CommentsSay-some, CommentsPieces-once}
 use Rattle.field_tokens.proofs.WrittenComments.{CommentsPieces-written}
 use Rattle.field_tokens.proofs.DecideTokens.{decide_tokens}
+use Rattle.field_tokens.proofs.PieceLemmas.{join_alike, no_pieces, no_comments, comments_groups, pieces_lines}
 use Rattle.field_downgrade.specs.PlainTexts.{style_where, IsAtomWhere, IsPlain, SaysPlain, text_piece, PlainPieces}
 
 -- What is said is one.
@@ -168,16 +168,9 @@ onto_join : (x first : List ℕ) (others : List (List ℕ)) → x ++ (32 ∷ joi
 onto_join x first [] = refl
 onto_join x first (next ∷ others) = sym (append_assoc x (32 ∷ first) (32 ∷ join_with_byte 32 (next ∷ others)))
 
-join_parts : (x : List ℕ) (xs ys : List (List ℕ)) → join_with_byte 32 (x ∷ (xs ++ ys)) ≡ join_with_byte 32 (join_with_byte 32 (x ∷ xs) ∷ ys)
+pub join_parts : (x : List ℕ) (xs ys : List (List ℕ)) → join_with_byte 32 (x ∷ (xs ++ ys)) ≡ join_with_byte 32 (join_with_byte 32 (x ∷ xs) ∷ ys)
 join_parts x [] ys = refl
 join_parts x (y ∷ xs) ys = ap (λ r. x ++ (32 ∷ r)) (join_parts y xs ys) ∙ onto_join x (join_with_byte 32 (y ∷ xs)) ys
-
-join_alike : (first : List ℕ) (made pieces : List (List ℕ)) → (made ≡ [] → pieces ≡ []) → (pieces ≡ [] → made ≡ []) → join_with_byte 32 made ≡ join_with_byte 32 pieces
-    → join_with_byte 32 (first ∷ made) ≡ join_with_byte 32 (first ∷ pieces)
-join_alike first [] [] a b e = refl
-join_alike first [] (p ∷ pieces) a b e = let some = a refl in cc some
-join_alike first (m ∷ made) [] a b e = let some = b refl in cc some
-join_alike first (m ∷ made) (p ∷ pieces) a b e = ap (λ r. first ++ (32 ∷ r)) e
 
 join_same : (runs made pieces : List (List ℕ)) → (runs ≡ []) ⊎ (0 < length (join_with_byte 32 runs)) → (made ≡ [] → pieces ≡ []) → (pieces ≡ [] → made ≡ []) → join_with_byte 32 made ≡ join_with_byte 32 pieces
     → join_with_byte 32 (runs ++ made) ≡ join_with_byte 32 (text_piece (join_with_byte 32 runs) ++ pieces)
@@ -190,14 +183,6 @@ runs_join-octets : (runs : List (List TokenValue)) → (runs ≡ []) ⊎ (0 < le
 runs_join-octets runs (inl none) = inl (ap (map octets_of) none)
 runs_join-octets runs (inr some) = inr some
 
-no_pieces : (comments pieces : List (List ℕ)) → CommentsPieces comments pieces → comments ≡ [] → pieces ≡ []
-no_pieces [] pieces are e = are
-no_pieces (c ∷ cs) pieces are e = cc e
-
-no_comments : (comments pieces : List (List ℕ)) → CommentsPieces comments pieces → pieces ≡ [] → comments ≡ []
-no_comments [] pieces are e = refl
-no_comments (c ∷ cs) pieces are e = absurd (omega (arith, CommentsPieces-there (c ∷ cs) pieces (omega arith) are, ap length e))
-
 -- the pieces are read as the squeezed text with the written comments behind it
 joined_is : (is_encoding : Bool) (text : List ℕ) (pieces : List (List ℕ)) (values : List CommentValue) → (p : PlainPieces is_encoding text pieces) → (w : AreWritten (comments_of p.tokens) values p.comments)
     → map octets_of (runs_and p.tokens w.made) ≡ map octets_of (runs_of p.tokens) ++ w.made → squeezed_and p.tokens w.made ≡ join_with_byte 32 pieces
@@ -208,14 +193,6 @@ joined_is is_encoding text pieces values p w e =
     ap (join_with_byte 32) e
     ∙ join_same runs w.made p.comments some (λ none. no_pieces (comments_of p.tokens) p.comments p.comments_are (w.none.0 none)) (λ none. w.none.1 (no_comments (comments_of p.tokens) p.comments p.comments_are none)) w.joined
     ∙ ap (join_with_byte 32) (sym p.pieces_are)
-
-comments_groups : (cs : List (List ℕ)) → AllByRecursion IsAsciiComment cs → AllByRecursion (IsGroup comment_marks) cs
-comments_groups [] all = tt
-comments_groups (c ∷ cs) all = (all.0.is_comment, comments_groups cs all.1)
-
-line_pieces-lines : (pieces : List (List ℕ)) → AllByRecursion IsLinePiece pieces → AllByRecursion IsLine pieces
-line_pieces-lines [] all = tt
-line_pieces-lines (w ∷ ws) all = (ascii_line w all.0.ascii all.0.line, line_pieces-lines ws all.1)
 
 text_piece-line : (text : List ℕ) → list_all is_ascii text ≡ true → list_all is_line_octet text ≡ true → AllByRecursion IsLinePiece (text_piece text)
 text_piece-line [] ascii line = tt
@@ -260,7 +237,7 @@ PlainPieces-read is_encoding text said comments pieces p s high =
       says = record {
         tokens = made;
         is_plain = record {
-          has = record { is_line = joined_line pieces (line_pieces-lines pieces each); are_tokens = subst (AreTokens style made) joined again.are_tokens };
+          has = record { is_line = joined_line pieces (pieces_lines pieces each); are_tokens = subst (AreTokens style made) joined again.are_tokens };
           ascii = ap (list_all is_ascii) again.squeezed_is ∙ p.is_plain.ascii;
           atom = atom_alike is_encoding p.tokens made again.words_are p.is_plain.atom;
         };

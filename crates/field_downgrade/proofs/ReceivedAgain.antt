@@ -1,6 +1,6 @@
 -- The pieces of a Received field, with a space between any two, are read as its served clauses, its date and its comments.
 use Rattle.std.proofs.Common.{◌≡◌, ℕ, ◌<◌, Bool, true, false, ◌||◌, codes, ◌⊎◌, inl, inr, List, [], ◌∷◌, ◌++◌, length, map, Option, Some, None, refl, sym, ap, ◌∙◌, subst, arith}
-use Rattle.std.proofs.lemmas.Bool.{and_parts, and_from}
+use Rattle.std.proofs.lemmas.Bool.{and_parts, and_from, or_cases}
 use Rattle.std.proofs.lemmas.Grind.{flat_map-append}
 use Rattle.std.proofs.lemmas.List.{append_assoc, append-nil, length-append, map-append}
 use Rattle.std.proofs.lemmas.List.Folds.{list_all-append}
@@ -12,24 +12,27 @@ use Rattle.std.specs.Str.{str_to_ascii_lowercase}
 use Rattle.mail_wire.specs.Octets.{is_white, is_ascii, same_name}
 use Rattle.mail_wire.specs.Spans.{Stops, StopsBehind}
 use Rattle.mail_wire.proofs.AllLemmas.{all-append, pass-append}
+use Rattle.address_lists.proofs.PhrasesAgain.{CommentsSay-append}
 use Rattle.field_tokens.specs.declared.Style.TheVariants.{Mail}
-use Rattle.field_tokens.specs.declared.TokenKind.{TokenKind}
-use Rattle.field_tokens.specs.declared.TokenKind.TheVariants.{Atom, Quoted, Literal, Special, Gap, Comment}
+use Rattle.field_tokens.specs.declared.TokenKind.TheVariants.{Atom}
 use Rattle.field_tokens.specs.TokenOctets.{is_line_octet}
 use Rattle.field_tokens.specs.Groups.{IsGroup}
-use Rattle.field_tokens.specs.Tokens.{comment_marks, TokenValue, AreTokens, IsLine}
+use Rattle.field_tokens.specs.Tokens.{comment_marks, TokenValue, AreTokens}
 use Rattle.field_tokens.specs.Squeezed.{is_blank, runs_of, octets_of, squeezed_values, comments_of, is_gap, space, apart, IsPart}
-use Rattle.field_tokens.specs.Comments.{CommentValue, CommentsSay, CommentsPieces, IsAsciiComment, AreWritten, IsLinePiece}
+use Rattle.field_tokens.specs.Comments.{CommentValue, CommentsSay, CommentsPieces, AreWritten, IsLinePiece}
 use Rattle.field_tokens.proofs.TokenLists.{token_octets_some}
 use Rattle.field_tokens.proofs.Parts.{part_of, AreTokens-begin, AreTokens-end, apart_begins, apart_ends, AreTokens-apart, comments_of-append, comments_of-apart, comment_parts, comments_are_parts, comment_parts-comments, comment_parts-octets}
-use Rattle.field_tokens.proofs.TokenLines.{tokens_lines, squeezed_line, ascii_line, joined_line, comments_are_plain}
-use Rattle.field_tokens.proofs.LinePieces.{CommentsPieces-line, CommentsPieces-there}
+use Rattle.field_tokens.proofs.TokenLines.{tokens_lines, squeezed_line, joined_line, comments_are_plain}
+use Rattle.field_tokens.proofs.LinePieces.{CommentsPieces-line}
 use Rattle.field_tokens.proofs.CommentValues.{CommentsSay-once, CommentsSay-some}
 use Rattle.field_tokens.proofs.WrittenComments.{CommentsPieces-written}
+use Rattle.field_tokens.proofs.PieceLemmas.{join_two, join_alike, no_pieces, no_comments, comments_groups, pieces_lines}
 use Rattle.field_downgrade.specs.Received.{is_clause_word, is_atom_kind, starts_clause, is_inner, ClauseTokens, IsClause, clause_tokens, ReceivedParts, semicolon, date_tokens, are_blank_tokens, date_text, IsReceived, Clause, clause_of, date_of, SaysReceived, served_text, clause_with, served_clauses, behind_space, served_piece, ClausePieces, ClausesPieces, DatePieces, PartsPieces, ReceivedPieces}
 use Rattle.field_downgrade.proofs.ReceivedDivision.{parts_of, parts_are, blanks_inner, before_parts, parts_inner, parts_start}
 use Rattle.field_downgrade.proofs.ReceivedLemmas.{AreRead, read_front, read_rest, read_writable, ReadParts, read_parts, AreSame, IsReceived-once}
 use Rattle.field_downgrade.proofs.ReceivedRuns.{spaced, IsTokenRun, IsServed, runs_each, spaced_runs, spaced_inner, runs_no_comments, runs_parts, runs_some, served_lower, served_is}
+use Rattle.field_downgrade.proofs.PlainTextLemmas.{join_parts}
+use Rattle.field_downgrade.proofs.PlainReading.{atom_kind}
 
 -- ---- pieces that are joined
 
@@ -40,14 +43,7 @@ record Alike (made pieces : List (List ℕ)) : Type 0 where
   some : pieces ≡ [] → made ≡ []
 
 alike_cons : (first : List ℕ) (made pieces : List (List ℕ)) → Alike made pieces → join_with_byte 32 (first ∷ made) ≡ join_with_byte 32 (first ∷ pieces)
-alike_cons first [] [] a = refl
-alike_cons first [] (p ∷ pieces) a = let some = a.none refl in cc some
-alike_cons first (m ∷ made) [] a = let some = a.some refl in cc some
-alike_cons first (m ∷ made) (p ∷ pieces) a = ap (λ r. first ++ (32 ∷ r)) a.joined
-
-join_two : (p : List ℕ) (ps : List (List ℕ)) (q : List ℕ) (qs : List (List ℕ)) → join_with_byte 32 ((p ∷ ps) ++ q ∷ qs) ≡ join_with_byte 32 (p ∷ ps) ++ 32 ∷ join_with_byte 32 (q ∷ qs)
-join_two p [] q qs = refl
-join_two p (r ∷ ps) q qs = ap (λ t. p ++ 32 ∷ t) (join_two r ps q qs) ∙ sym (append_assoc p (32 ∷ join_with_byte 32 (r ∷ ps)) (32 ∷ join_with_byte 32 (q ∷ qs)))
+alike_cons first made pieces a = join_alike first made pieces a.none a.some a.joined
 
 alike_append : (a b c d : List (List ℕ)) → Alike a b → Alike c d → Alike (a ++ c) (b ++ d)
 alike_append [] [] c d one two = two
@@ -61,14 +57,6 @@ alike_append (x ∷ a) (y ∷ b) (v ∷ c) (w ∷ d) one two = record {
   none = λ e. cc e;
   some = λ e. cc e;
 }
-
-onto_join : (x first : List ℕ) (others : List (List ℕ)) → x ++ (32 ∷ join_with_byte 32 (first ∷ others)) ≡ join_with_byte 32 ((x ++ (32 ∷ first)) ∷ others)
-onto_join x first [] = refl
-onto_join x first (next ∷ others) = sym (append_assoc x (32 ∷ first) (32 ∷ join_with_byte 32 (next ∷ others)))
-
-join_parts : (x : List ℕ) (xs ys : List (List ℕ)) → join_with_byte 32 (x ∷ (xs ++ ys)) ≡ join_with_byte 32 (join_with_byte 32 (x ∷ xs) ∷ ys)
-join_parts x [] ys = refl
-join_parts x (y ∷ xs) ys = ap (λ r. x ++ (32 ∷ r)) (join_parts y xs ys) ∙ onto_join x (join_with_byte 32 (y ∷ xs)) ys
 
 space_some : (text : List ℕ) → 0 < length text → 32 ∷ text ≡ behind_space text
 space_some [] some = absurd (omega (arith, some))
@@ -90,10 +78,6 @@ runs_or_none [] each = inl refl
 runs_or_none (run ∷ runs) each = inr (runs_some run runs each)
 
 -- ---- what is read again
-
-CommentsSay-append : (cs ds : List (List ℕ)) (vs ws : List CommentValue) → CommentsSay cs vs → CommentsSay ds ws → CommentsSay (cs ++ ds) (vs ++ ws)
-CommentsSay-append [] ds vs ws a b = rw (a) b
-CommentsSay-append (c ∷ cs) ds vs ws a b = (a.0, a.1 ++ ws, ap (λ r. r ++ ws) a.2, a.3, CommentsSay-append cs ds a.1 ws a.4 b)
 
 -- The pieces are those of parts which have these clauses, this date, and comments that say what the original ones say.
 record AreAgain (clauses : List Clause) (date : Option (List ℕ)) (comments pieces : List (List ℕ)) : Type 0 where
@@ -133,18 +117,6 @@ record MadeComments (comments pieces : List (List ℕ)) : Type 0 where
   comments_say : CommentsSay comments values
   made_say : CommentsSay made values
   each : AllByRecursion IsLinePiece pieces
-
-no_pieces : (comments pieces : List (List ℕ)) → CommentsPieces comments pieces → comments ≡ [] → pieces ≡ []
-no_pieces [] pieces are e = are
-no_pieces (c ∷ cs) pieces are e = cc e
-
-no_comments : (comments pieces : List (List ℕ)) → CommentsPieces comments pieces → pieces ≡ [] → comments ≡ []
-no_comments [] pieces are e = refl
-no_comments (c ∷ cs) pieces are e = absurd (omega (arith, CommentsPieces-there (c ∷ cs) pieces (omega arith) are, ap length e))
-
-comments_groups : (cs : List (List ℕ)) → AllByRecursion IsAsciiComment cs → AllByRecursion (IsGroup comment_marks) cs
-comments_groups [] all = tt
-comments_groups (c ∷ cs) all = (all.0.is_comment, comments_groups cs all.1)
 
 made_comments : (ts : List TokenValue) (pieces : List (List ℕ)) → AreRead Mail ts → CommentsPieces (comments_of ts) pieces → MadeComments (comments_of ts) pieces
 made_comments ts pieces read are =
@@ -194,14 +166,6 @@ again_comments clauses date cs ps comments pieces m a =
 
 -- ---- a word
 
-atom_kind : (kind : TokenKind) → is_atom_kind kind ≡ true → kind ≡ Atom
-atom_kind Atom e = refl
-atom_kind Quoted e = cc e
-atom_kind Literal e = cc e
-atom_kind Special e = cc e
-atom_kind Gap e = cc e
-atom_kind Comment e = cc e
-
 ascii_upper : (x : ℕ) → is_ascii (to_ascii_lowercase x) ≡ true → is_ascii x ≡ true
 ascii_upper x h = grind (arith, nat_tests)
 
@@ -211,27 +175,23 @@ ascii_lower (x ∷ word) h =
     let parts = and_parts (is_ascii (to_ascii_lowercase x)) (list_all is_ascii (str_to_ascii_lowercase word)) h in
     and_from (is_ascii x) (list_all is_ascii word) (ascii_upper x parts.0) (ascii_lower word parts.1)
 
-name_ascii : (word name : List ℕ) → list_all is_ascii (str_to_ascii_lowercase name) ≡ true → same_name word name ≡ true → list_all is_ascii word ≡ true
+pub name_ascii : (word name : List ℕ) → list_all is_ascii (str_to_ascii_lowercase name) ≡ true → same_name word name ≡ true → list_all is_ascii word ≡ true
 unfolding same_name
 name_ascii word name ascii e =
     let same : str_to_ascii_lowercase word ≡ str_to_ascii_lowercase name = (bytes_eq-Decides (str_to_ascii_lowercase word) (str_to_ascii_lowercase name)).0 e in
     ascii_lower word (ap (list_all is_ascii) same ∙ ascii)
 
-either : (a b : Bool) → (a || b) ≡ true → (a ≡ true) ⊎ (b ≡ true)
-either true b e = inl refl
-either false b e = inr e
-
 word_ascii : (word : List ℕ) → is_clause_word word ≡ true → list_all is_ascii word ≡ true
-word_ascii word e = elim (either (same_name word (codes "from") || (same_name word (codes "by") || same_name word (codes "via"))) _ e) [
+word_ascii word e = elim (or_cases (same_name word (codes "from") || (same_name word (codes "by") || same_name word (codes "via"))) _ e) [
   | inl first ↦ three (codes "from") (codes "by") (codes "via") refl refl refl first
   | inr second ↦ three (codes "with") (codes "id") (codes "for") refl refl refl second
 ]
   where
     three : (a b c : List ℕ) → list_all is_ascii (str_to_ascii_lowercase a) ≡ true → list_all is_ascii (str_to_ascii_lowercase b) ≡ true → list_all is_ascii (str_to_ascii_lowercase c) ≡ true
         → (same_name word a || (same_name word b || same_name word c)) ≡ true → list_all is_ascii word ≡ true
-    three a b c p q r e = elim (either (same_name word a) (same_name word b || same_name word c) e) [
+    three a b c p q r e = elim (or_cases (same_name word a) (same_name word b || same_name word c) e) [
       | inl first ↦ name_ascii word a p first
-      | inr others ↦ elim (either (same_name word b) (same_name word c) others) [
+      | inr others ↦ elim (or_cases (same_name word b) (same_name word c) others) [
         | inl second ↦ name_ascii word b q second
         | inr third ↦ name_ascii word c r third
       ]
@@ -389,10 +349,6 @@ pub record IsReceivedAgain (clauses : List Clause) (date : Option (List ℕ)) (c
   pub ends : StopsBehind is_white (join_with_byte 32 pieces)
   pub are_pieces : AllByRecursion IsLinePiece pieces
 
-lines_of : (pieces : List (List ℕ)) → AllByRecursion IsLinePiece pieces → AllByRecursion IsLine pieces
-lines_of [] all = tt
-lines_of (p ∷ pieces) all = (ascii_line p all.0.ascii all.0.line, lines_of pieces all.1)
-
 spaced_apart : (part : List TokenValue) (parts : List (List TokenValue)) → spaced (part ∷ parts) ≡ space ∷ apart (part ∷ parts)
 spaced_apart part [] = ap (λ r. space ∷ r) (append-nil part)
 spaced_apart part (next ∷ parts) = ap (λ r. space ∷ (part ++ r)) (spaced_apart next parts)
@@ -427,7 +383,7 @@ again_read clauses date originals comments pieces ascii say a =
         tokens = tokens;
         parts = parts;
         is_received = record {
-          has = record { is_line = joined_line pieces (lines_of pieces a.each); are_tokens = are };
+          has = record { is_line = joined_line pieces (pieces_lines pieces a.each); are_tokens = are };
           are_parts = parts_are tokens (same.blank ∙ a.blank);
           ascii = ap (list_all is_ascii) (text_alike parts.date date dates) ∙ ascii;
         };

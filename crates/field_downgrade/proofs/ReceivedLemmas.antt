@@ -1,17 +1,17 @@
 -- What a Received field says is one, and so are its pieces.
 use Rattle.std.proofs.Common.{◌≡◌, ℕ, ◌⊎◌, inl, inr, List, [], ◌∷◌, ◌++◌, map, Option, Some, None, refl, sym, ap, ◌∙◌, subst}
 use Rattle.std.proofs.lemmas.Bool.{cases_Bool, true≢false}
-use Rattle.std.proofs.lemmas.Grind.{flat_map-append}
 use Rattle.std.specs.List.{list_all, flat_map}
 use Rattle.mail_wire.specs.Octets.{is_ascii}
+use Rattle.address_lists.proofs.PlaceTokens.{tokens_front, tokens_rest, lines_front, lines_rest}
 use Rattle.field_tokens.specs.declared.Style.{Style}
 use Rattle.field_tokens.specs.declared.Style.TheVariants.{Mail}
-use Rattle.field_tokens.specs.Tokens.{IsToken, TokenValue, AreTokens, IsLine, HasTokenValues}
+use Rattle.field_tokens.specs.Tokens.{TokenValue, AreTokens, HasTokenValues}
 use Rattle.field_tokens.specs.Squeezed.{octets_of, squeezed_values, comments_of}
 use Rattle.field_tokens.specs.Comments.{CommentValue, CommentsSay, AreWritableComments}
 use Rattle.field_tokens.proofs.TokenLists.{AreTokens-once}
-use Rattle.field_tokens.proofs.Parts.{IsToken-alike, stops_front, octets_of-tokens}
-use Rattle.field_tokens.proofs.TokenLines.{AreLineTokens, tokens_lines, line_none, line_append, comments_are_writable}
+use Rattle.field_tokens.proofs.Parts.{octets_of-tokens}
+use Rattle.field_tokens.proofs.TokenLines.{tokens_lines, comments_are_writable, run_line}
 use Rattle.field_tokens.proofs.CommentValues.{CommentsSay-once, CommentsSay-some, CommentsPieces-once, CommentsPieces-some}
 use Rattle.field_tokens.proofs.DecideTokens.{decide_tokens}
 use Rattle.field_downgrade.specs.Received.{ClauseTokens, clause_tokens, ReceivedParts, date_tokens, are_blank_tokens, semicolon, AreReceivedParts, date_text, IsReceived, Clause, clause_of, date_of, SaysReceived, served_text, served_piece, behind_space, ClausePieces, ClausesPieces, DatePieces, PartsPieces, ReceivedPieces}
@@ -23,35 +23,12 @@ use Rattle.field_downgrade.proofs.ReceivedDivision.{parts_of, parts_are, are_par
 abbrev pub AreRead : Style → List TokenValue → Type 0
 AreRead style ts = HasTokenValues style (octets_of ts) ts
 
-tokens_front : (style : Style) (a b : List TokenValue) (text : List ℕ) → AreTokens style (a ++ b) text → AreTokens style a (octets_of a)
-tokens_front style [] b text are = refl
-tokens_front style (t ∷ a) b text are =
-    let rest : are.0 ≡ octets_of a ++ octets_of b = sym (octets_of-tokens style (a ++ b) are.0 are.3) ∙ flat_map-append (λ (t : TokenValue). t.octets) a b in
-    let is : IsToken style t.kind t.octets (octets_of a ++ octets_of b) = subst (IsToken style t.kind t.octets) rest are.2 in
-    (octets_of a, refl, IsToken-alike style t.kind t.octets (octets_of a ++ octets_of b) (octets_of a) (λ p. stops_front p (octets_of a) (octets_of b)) is, tokens_front style a b are.0 are.3)
-
-tokens_rest : (style : Style) (a b : List TokenValue) (text : List ℕ) → AreTokens style (a ++ b) text → (rest : List ℕ) × AreTokens style b rest
-tokens_rest style [] b text are = (text, are)
-tokens_rest style (t ∷ a) b text are = tokens_rest style a b are.0 are.3
-
-lines_front : (a b : List TokenValue) → AreLineTokens (a ++ b) → AreLineTokens a
-lines_front [] b all = tt
-lines_front (t ∷ a) b all = (all.0, lines_front a b all.1)
-
-lines_rest : (a b : List TokenValue) → AreLineTokens (a ++ b) → AreLineTokens b
-lines_rest [] b all = all
-lines_rest (t ∷ a) b all = lines_rest a b all.1
-
-lines_line : (ts : List TokenValue) → AreLineTokens ts → IsLine (octets_of ts)
-lines_line [] all = line_none
-lines_line (t ∷ ts) all = line_append t.octets (octets_of ts) all.0 (lines_line ts all.1)
-
 pub read_whole : (style : Style) (text : List ℕ) (ts : List TokenValue) → HasTokenValues style text ts → AreRead style ts
 read_whole style text ts has = subst (λ r. HasTokenValues style r ts) (sym (octets_of-tokens style ts text has.are_tokens)) has
 
 pub read_front : (style : Style) (a b : List TokenValue) → AreRead style (a ++ b) → AreRead style a
 read_front style a b has = record {
-  is_line = lines_line a (lines_front a b (tokens_lines style (a ++ b) (octets_of (a ++ b)) has.are_tokens has.is_line));
+  is_line = run_line a (lines_front a b (tokens_lines style (a ++ b) (octets_of (a ++ b)) has.are_tokens has.is_line));
   are_tokens = tokens_front style a b (octets_of (a ++ b)) has.are_tokens;
 }
 
@@ -59,7 +36,7 @@ pub read_rest : (style : Style) (a b : List TokenValue) → AreRead style (a ++ 
 read_rest style a b has =
     let rest = tokens_rest style a b (octets_of (a ++ b)) has.are_tokens in
     record {
-      is_line = lines_line b (lines_rest a b (tokens_lines style (a ++ b) (octets_of (a ++ b)) has.are_tokens has.is_line));
+      is_line = run_line b (lines_rest a b (tokens_lines style (a ++ b) (octets_of (a ++ b)) has.are_tokens has.is_line));
       are_tokens = subst (AreTokens style b) (sym (octets_of-tokens style b rest.0 rest.1)) rest.1;
     }
 

@@ -7,9 +7,8 @@ use Rattle.std.proofs.lemmas.List.Folds.{list_all-append}
 use Rattle.std.specs.List.{list_all, flat_map}
 use Rattle.std.specs.Str.{IsUtf8}
 use Rattle.mail_wire.proofs.AllLemmas.{all-append}
+use Rattle.address_lists.proofs.PhraseWriting.{CommentsPieces-append}
 use Rattle.field_tokens.specs.declared.Token.{Token}
-use Rattle.field_tokens.specs.declared.TokenKind.{TokenKind}
-use Rattle.field_tokens.specs.declared.TokenKind.TheVariants.{Atom, Quoted, Literal, Special, Gap, Comment}
 use Rattle.field_tokens.specs.Tokens.{IsToken, TokenValue, HasTokenValues, octets_at}
 use Rattle.field_tokens.specs.Squeezed.{is_comment, comments_of, StandTogether}
 use Rattle.field_tokens.specs.Comments.{IsComment, CommentPieces, CommentsPieces, AddsPieces}
@@ -20,6 +19,7 @@ use Rattle.field_tokens.proofs.TokenLines.{tokens_lines}
 use Rattle.field_downgrade.specs.Received.{starts_clause, is_semicolon, is_inner, ClauseTokens, IsClause, clause_tokens, ClausePieces, ClausesPieces}
 use Rattle.field_downgrade.specs.private.ReceivedSteps.{token_value, token_values, BeginsSo, CutsTokens, clause_at, WritesClauses}
 use Rattle.field_downgrade.proofs.ReceivedLemmas.{AreRead, read_whole, read_front, read_rest}
+use Rattle.field_downgrade.proofs.PlainReading.{is_comment-kind}
 
 -- ---- tokens by their places
 
@@ -87,14 +87,6 @@ cuts_at p text tokens k d l ends = record { whole = sym (take-append-drop k toke
 
 -- ---- comments
 
-is_comment-kind : (kind : TokenKind) → is_comment kind ≡ true → kind ≡ Comment
-is_comment-kind Comment e = refl
-is_comment-kind Atom e = cc e
-is_comment-kind Quoted e = cc e
-is_comment-kind Literal e = cc e
-is_comment-kind Special e = cc e
-is_comment-kind Gap e = cc e
-
 -- a comment among the tokens
 pub record IsCommentThere (text : List ℕ) (token : Token) : Type 0 where
   pub comment : IsComment (octets_at text token.span)
@@ -111,11 +103,6 @@ comment_there text tokens k d s below e =
       comment = subst (λ kind. IsToken one.style kind (octets_at text token.span) read.are_tokens.0) (is_comment-kind token.kind e) read.are_tokens.2;
       utf8 = (tokens_lines one.style (token_values text (token ∷ [])) (octets_at text token.span ++ []) read.are_tokens read.is_line).0.utf8;
     }
-
-CommentsPieces-append : (a b p q : List (List ℕ)) → CommentsPieces a p → CommentsPieces b q → CommentsPieces (a ++ b) (p ++ q)
-CommentsPieces-append [] b p q is are = rw (is) are
-CommentsPieces-append (c ∷ a) b p q is are =
-    (is.0, is.1 ++ q, ap (λ r. r ++ q) is.2 ∙ append_assoc is.0 is.1 q, is.3, CommentsPieces-append a b is.1 q is.4 are)
 
 -- what was put so far are the pieces of the comments among the first tokens
 abbrev pub PutsCommentsSoFar : List ℕ → List Token → ℕ → List (List ℕ) → List (List ℕ) → Type 0

@@ -1,18 +1,18 @@
 -- A served text is runs of tokens, none of which starts a clause.
-use Rattle.std.proofs.Common.{◌≡◌, ℕ, ◌<◌, ◌==◌, Bool, true, false, cond, codes, ◌||◌, List, [], ◌∷◌, ◌++◌, length, map, filter, All, Option, Some, None, refl, sym, ap, ◌∙◌, subst, arith}
-use Rattle.std.proofs.lemmas.Bool.{and_parts, and_from, true≢false}
+use Rattle.std.proofs.Common.{◌≡◌, ℕ, ◌<◌, ◌==◌, Bool, true, false, cond, codes, List, [], ◌∷◌, ◌++◌, length, map, filter, All, Option, Some, None, refl, sym, ap, ◌∙◌, subst, arith}
+use Rattle.std.proofs.lemmas.Bool.{and_parts, and_from, or_parts}
 use Rattle.std.proofs.lemmas.Bool.Decides.{nat_tests}
 use Rattle.std.proofs.lemmas.List.{append_assoc, append-nil, length-append}
 use Rattle.std.proofs.lemmas.List.Elements.{All-head, All-tail, All-weaker}
 use Rattle.std.proofs.lemmas.List.Folds.{list_all-append}
 use Rattle.std.proofs.lemmas.List.Splits.{slice_split_none, slice_split_at}
 use Rattle.std.proofs.lemmas.List.Sums.{AllPass-from_list_all}
-use Rattle.std.proofs.lemmas.Str.Ascii.{lowercase-lowercase}
 use Rattle.std.specs.List.{AllByRecursion, list_all, list_any, flat_map, join_with_byte, slice_split, onto_first}
 use Rattle.std.specs.Str.{bytes_eq, str_to_ascii_lowercase}
 use Rattle.mail_wire.specs.Octets.{is_ascii, same_name}
 use Rattle.mail_wire.specs.Spans.{Stops}
 use Rattle.mail_wire.proofs.AllLemmas.{pass-append, pass-weaker}
+use Rattle.param_2231.proofs.WordsAgain.{lower-twice}
 use Rattle.ace_domains.specs.Domains.{normal_form, IsDomain, IsAtom, is_atom_octet as is_atext}
 use Rattle.ace_domains.proofs.FormLemmas.{form_domain}
 use Rattle.field_tokens.specs.declared.Style.TheVariants.{Mail}
@@ -22,7 +22,7 @@ use Rattle.field_tokens.specs.Tokens.{IsToken, TokenValue, AreTokens}
 use Rattle.field_tokens.specs.Squeezed.{is_blank, is_there, runs_of, octets_of, squeezed_values, comments_of, space, IsPart}
 use Rattle.field_tokens.proofs.TokenLists.{token_octets_some}
 use Rattle.field_tokens.proofs.Parts.{BeginsNoGap, EndsNoGap, part_of}
-use Rattle.field_tokens.proofs.SqueezedValues.{AreKept, kept_no_comment, IsRunOfTokens, runs_of-run, IsPart-runs}
+use Rattle.field_tokens.proofs.SqueezedValues.{AreKept, IsRunOfTokens, runs_of-run, IsPart-runs, kept_split, kept_comments}
 use Rattle.field_tokens.proofs.TokenLines.{squeezed_line}
 use Rattle.field_downgrade.specs.Received.{is_clause_word, is_inner, are_blank_tokens, is_host_word, holds_clause_word, unless_word, served_text}
 use Rattle.field_downgrade.proofs.ReceivedLemmas.{AreRead}
@@ -87,10 +87,6 @@ split_run : (run : List TokenValue) (t : TokenValue) (ts : List TokenValue) → 
 split_run [] t ts kept blank = rw (blank) refl
 split_run (u ∷ run) t ts kept blank = rw (kept.0, split_run run t ts kept.1 blank) refl
 
-split_all : (run : List TokenValue) → AreKept run → slice_split (λ (t : TokenValue). is_blank t.kind) run ≡ run ∷ []
-split_all [] kept = refl
-split_all (u ∷ run) kept = rw (kept.0, split_all run kept.1) refl
-
 abbrev BeginsBlank : List TokenValue → Type 0
 BeginsBlank [] = Unit {0}
 BeginsBlank (t ∷ ts) = is_blank t.kind ≡ true
@@ -100,7 +96,7 @@ there_first [] runs some = absurd (omega (arith, some))
 there_first (t ∷ run) runs some = refl
 
 run_before : (run ts : List TokenValue) → 0 < length run → AreKept run → BeginsBlank ts → runs_of (run ++ ts) ≡ run ∷ runs_of ts
-run_before run [] some kept blank = rw (append-nil run, split_all run kept) (there_first run [] some)
+run_before run [] some kept blank = rw (append-nil run, kept_split run kept) (there_first run [] some)
 run_before run (t ∷ ts) some kept blank = rw (split_run run t ts kept blank, there_first run (slice_split (λ (t : TokenValue). is_blank t.kind) ts) some, blank) refl
 
 blank_runs : (ts : List TokenValue) → are_blank_tokens ts ≡ true → runs_of ts ≡ []
@@ -124,10 +120,6 @@ pub spaced_inner : (runs : List (List TokenValue)) → AreInner runs → list_al
 spaced_inner [] inner = refl
 spaced_inner (run ∷ runs) inner = list_all-append is_inner run (spaced runs) ∙ and_from (list_all is_inner run) (list_all is_inner (spaced runs)) inner.0 (spaced_inner runs inner.1)
 
-kept_comments : (ts : List TokenValue) → AreKept ts → comments_of ts ≡ []
-kept_comments [] kept = refl
-kept_comments (t ∷ ts) kept = rw (kept_no_comment t.kind kept.0) (kept_comments ts kept.1)
-
 pub runs_no_comments : (runs : List (List TokenValue)) → AllByRecursion IsTokenRun runs → flat_map comments_of runs ≡ []
 runs_no_comments [] each = refl
 runs_no_comments (run ∷ runs) each = ap (λ r. r ++ flat_map comments_of runs) (kept_comments run each.0.kept) ∙ runs_no_comments runs each.1
@@ -150,13 +142,9 @@ runs_some run (next ∷ runs) each = omega (arith, part_octets run each.0.is_par
 
 -- ---- words in lower case
 
-lower_twice : (word : List ℕ) → str_to_ascii_lowercase (str_to_ascii_lowercase word) ≡ str_to_ascii_lowercase word
-lower_twice [] = refl
-lower_twice (x ∷ word) = rw (lowercase-lowercase x, lower_twice word) refl
-
 same_lower : (word name : List ℕ) → same_name (str_to_ascii_lowercase word) name ≡ same_name word name
 unfolding same_name
-same_lower word name = ap (λ r. bytes_eq r (str_to_ascii_lowercase name)) (lower_twice word)
+same_lower word name = ap (λ r. bytes_eq r (str_to_ascii_lowercase name)) (lower-twice word)
 
 pub served_lower : (word text : List ℕ) → served_text (str_to_ascii_lowercase word) text ≡ served_text word text
 served_lower word text = rw (same_lower word (codes "from"), same_lower word (codes "by")) refl
@@ -222,14 +210,10 @@ dotted_begins [] = tt
 dotted_begins (a ∷ []) = refl
 dotted_begins (a ∷ b ∷ labels) = refl
 
-no_word : (a : Bool) (b : Bool) → (a || b) ≡ false → (a ≡ false) × (b ≡ false)
-no_word true b e = absurd (true≢false e)
-no_word false b e = (refl, e)
-
 dotted_inner : (labels : List (List ℕ)) → list_any is_clause_word labels ≡ false → list_all is_inner (dotted labels) ≡ true
 dotted_inner [] e = refl
-dotted_inner (a ∷ []) e = rw ((no_word (is_clause_word a) false e).0) refl
-dotted_inner (a ∷ b ∷ labels) e = let parts = no_word (is_clause_word a) (list_any is_clause_word (b ∷ labels)) e in rw (parts.0) (dotted_inner (b ∷ labels) parts.1)
+dotted_inner (a ∷ []) e = rw ((or_parts (is_clause_word a) false e).0) refl
+dotted_inner (a ∷ b ∷ labels) e = let parts = or_parts (is_clause_word a) (list_any is_clause_word (b ∷ labels)) e in rw (parts.0) (dotted_inner (b ∷ labels) parts.1)
 
 no_dots : (label : List ℕ) → IsAtom label → All (λ x. (x == 46) ≡ false) label
 no_dots label is = All-weaker (λ x. is_atext x ≡ true) (λ x. (x == 46) ≡ false) atext_plain label (AllPass-from_list_all is_atext label is.octets)

@@ -1,22 +1,15 @@
 -- The steps of the code over words.
 use Rattle.std.proofs.Common.{◌≡◌, ℕ, ◌<◌, ◌+◌, ◌≤◌, Bool, true, false, not, ◌⊎◌, inl, inr, List, [], ◌∷◌, ◌++◌, length, take, drop, refl, sym, ap, ◌∙◌, subst, arith, get_or}
-use Rattle.std.proofs.lemmas.Bool.{and_parts, and_from, both_ways}
+use Rattle.std.proofs.lemmas.Bool.{and_parts, both_ways, not-true}
 use Rattle.std.proofs.lemmas.List.{append_assoc, length-append, map-append, take_at, drop_at}
-use Rattle.std.proofs.lemmas.List.Folds.{list_all-append}
 use Rattle.std.proofs.Math.Seq.{get_or-append_seam}
 use Rattle.std.specs.List.{list_all}
+use Rattle.mail_wire.proofs.AllLemmas.{pass-append}
 use Rattle.field_downgrade.specs.declared.word.Word.{Word as CodeWord}
 use Rattle.field_downgrade.specs.private.Views.{word_of, words_of}
 use Rattle.field_downgrade.specs.Words.{Word, is_high}
 use Rattle.field_downgrade.specs.Layout.{IsCopied, begins_high, ends_high}
 use Rattle.field_downgrade.specs.private.Steps.{SplitsCopied, SplitsCore, BeginsCore, BeginsHigh, BeginsEncoded}
-
-pub not_true : (b : Bool) → not b ≡ true → b ≡ false
-not_true true h = cc h
-not_true false h = refl
-
-all_append : (p : Word → Bool) (xs ys : List Word) → list_all p xs ≡ true → list_all p ys ≡ true → list_all p (xs ++ ys) ≡ true
-all_append p xs ys a b = list_all-append p xs ys ∙ and_from (list_all p xs) (list_all p ys) a b
 
 -- the word at a place
 at_seam : (front rest : List CodeWord) (at : ℕ) (x d : CodeWord) → length front ≡ at → get_or (front ++ x ∷ rest) at d ≡ x
@@ -47,7 +40,7 @@ CopiedSoFar-turn ws at d inside so low = by so.rest so.whole
           rest = rest;
           whole = whole ∙ sym (append_assoc so.front (x ∷ []) rest);
           at_is = omega (arith, length-append so.front (x ∷ []));
-          low = rw map-append (all_append (λ (w : Word). not (is_high w)) (words_of so.front) (word_of x ∷ []) so.low (rw x_low refl));
+          low = rw map-append (pass-append (λ (w : Word). not (is_high w)) (words_of so.front) (word_of x ∷ []) so.low (rw x_low refl));
         }
 
 pub CopiedSoFar-fits : (ws : List CodeWord) (at : ℕ) → CopiedSoFar ws at → at ≤ length ws
@@ -130,8 +123,8 @@ InCore-low ws n at d inside so plain low = by so.rest refl
           n_is = so.n_is;
           at_is = omega (arith, length-append so.mid (x ∷ []));
           plain = so.plain;
-          plain_mid = rw map-append (all_append (λ (w : Word). not w.is_encoded) (words_of so.mid) (word_of x ∷ []) so.plain_mid (rw x_plain refl));
-          low = rw map-append (all_append (λ (w : Word). not (is_high w)) (words_of so.mid) (word_of x ∷ []) so.low (rw x_low refl));
+          plain_mid = rw map-append (pass-append (λ (w : Word). not w.is_encoded) (words_of so.mid) (word_of x ∷ []) so.plain_mid (rw x_plain refl));
+          low = rw map-append (pass-append (λ (w : Word). not (is_high w)) (words_of so.mid) (word_of x ∷ []) so.low (rw x_low refl));
           ends = so.ends;
         }
 
@@ -155,7 +148,7 @@ InCore-high ws n at d inside so plain high = by so.rest refl
           n_is = len;
           at_is = omega arith;
           plain = rw (map-append word_of (so.core ++ so.mid) (x ∷ []), map-append word_of so.core so.mid)
-              (all_append p (words_of so.core ++ words_of so.mid) (word_of x ∷ []) (all_append p (words_of so.core) (words_of so.mid) so.plain so.plain_mid) (rw x_plain refl));
+              (pass-append p (words_of so.core ++ words_of so.mid) (word_of x ∷ []) (pass-append p (words_of so.core) (words_of so.mid) so.plain so.plain_mid) (rw x_plain refl));
           plain_mid = refl;
           low = refl;
           ends = rw (map-append word_of (so.core ++ so.mid) (x ∷ [])) (EndsHigh-push (words_of (so.core ++ so.mid)) (word_of x) x_high);
@@ -201,7 +194,7 @@ SplitsCore-from ws n at a b some begins so stops front back =
     core_begins [] (m ∷ mid) rest whole low ends after =
         let first = rw whole at begins in
         let m_low = (and_parts (not (is_high (word_of m))) (list_all (λ (w : Word). not (is_high w)) (words_of mid)) low).0 in
-        absurd (both_ways (is_high (word_of m)) (not_true (is_high (word_of m)) m_low) first.0)
+        absurd (both_ways (is_high (word_of m)) (not-true (is_high (word_of m)) m_low) first.0)
     core_begins (k ∷ core) mid rest whole low ends after = let first = rw whole at begins in (first.0, ends)
 
 -- what the code keeps of a word's octets

@@ -13,13 +13,14 @@ use Rattle.mail_wire.specs.Spans.{Stops, StopsBehind}
 use Rattle.mail_wire.proofs.Unfolded.{unfolded-nil}
 use Rattle.mail_wire.proofs.Folded.{without_ends, unfolded-folded, IsFolded-plain}
 use Rattle.mail_wire.proofs.AllLemmas.{pass-append, pass-weaker}
+use Rattle.mail_wire.proofs.OctetLemmas.{white_below}
 use Rattle.encoded_words.specs.Folding.{made_body, word_pieces}
 use Rattle.encoded_words.specs.Pieces.{AreBWords, b_word}
 use Rattle.encapsulated_fields.proofs.EncapsulatedLemmas.{words_say}
-use Rattle.field_tokens.proofs.TokenLines.{BeginsAscii, before_ascii, behind_ascii, all_ascii}
 use Rattle.field_tokens.specs.TokenOctets.{is_line_octet}
 use Rattle.field_tokens.specs.Comments.{CommentValue, IsLinePiece}
 use Rattle.utf8_fields.specs.Parts.{FieldParts, HasParts, HasValue}
+use Rattle.encoded_words.proofs.WritableUnits.{all_ascii, behind_ascii, before_ascii, BeginsAscii}
 use Rattle.field_downgrade.specs.Layout.{made_of, spaced}
 use Rattle.field_downgrade.specs.Kinds.{kind_named, is_address_name, is_originator_name, is_destination_name, is_resent_originator_name, is_resent_destination_name, is_id_name, is_plain_name}
 use Rattle.field_downgrade.specs.declared.kind.Kind.TheVariants.{Unstructured, Params, Plain}
@@ -36,7 +37,7 @@ use Rattle.field_tokens.specs.Squeezed.{words_of}
 use Rattle.field_tokens.proofs.TokenLemmas.{class, kind_is}
 use Rattle.field_downgrade.specs.Stands.{IsHighField, BeginsHyphen, is_encoding_name, keeps_name, IsSameMeaning, Meaning, SaysAs, PiecesAs, IsMalformed, KeepsValue}
 use Rattle.field_downgrade.proofs.Made.{ArePieces, made-folded, made-shows, name_ascii}
-use Rattle.field_downgrade.proofs.Pieces.{behind}
+use Rattle.field_downgrade.proofs.Pieces.{behind, keeps_all}
 use Rattle.field_downgrade.proofs.KindValues.{AreReadSo}
 
 -- line octets are no line ends
@@ -54,15 +55,9 @@ pub ArePieces-spaced : (pieces : List (List ℕ)) → AllByRecursion IsLinePiece
 ArePieces-spaced [] lines = tt
 ArePieces-spaced (p ∷ ps) lines = (record { white = refl; folded = IsFolded-plain p (no_ends p lines.0.line); ascii = lines.0.ascii }, ArePieces-spaced ps lines.1)
 
-without_ends-line : (xs : List ℕ) → list_all (λ x. not (is_line_end x)) xs ≡ true → without_ends xs ≡ xs
-without_ends-line [] h = refl
-without_ends-line (x ∷ xs) h =
-    let parts = and_parts (not (is_line_end x)) (list_all (λ x. not (is_line_end x)) xs) h in
-    rw (parts.0) (ap (λ r. x ∷ r) (without_ends-line xs parts.1))
-
 behind-spaced : (p : List ℕ) (ps : List (List ℕ)) → AllByRecursion IsLinePiece (p ∷ ps) → behind (spaced (p ∷ ps)) ≡ 32 ∷ join_with_byte 32 (p ∷ ps)
-behind-spaced p [] lines = rw (without_ends-line p (no_ends p lines.0.line)) (ap (λ r. 32 ∷ r) (append-nil p))
-behind-spaced p (q ∷ ps) lines = rw (without_ends-line p (no_ends p lines.0.line)) (ap (λ r. 32 ∷ (p ++ r)) (behind-spaced q ps lines.1))
+behind-spaced p [] lines = rw (keeps_all p (no_ends p lines.0.line)) (ap (λ r. 32 ∷ r) (append-nil p))
+behind-spaced p (q ∷ ps) lines = rw (keeps_all p (no_ends p lines.0.line)) (ap (λ r. 32 ∷ (p ++ r)) (behind-spaced q ps lines.1))
 
 -- the value of a body of such pieces
 pub HasValue-spaced : (pieces : List (List ℕ)) → AllByRecursion IsLinePiece pieces → Stops is_white (join_with_byte 32 pieces) → StopsBehind is_white (join_with_byte 32 pieces)
@@ -170,29 +165,26 @@ ends_utf8 front (x ∷ xs) u = elim (cases_Bool (is_line_end x)) [
     end_small : (x : ℕ) → is_line_end x ≡ true → x < 128
     end_small x h = grind (arith, nat_tests)
 
-white_small : (x : ℕ) → is_white x ≡ true → x < 128
-white_small x h = grind (arith, nat_tests)
-
 begins_white : (xs : List ℕ) → list_all is_white xs ≡ true → BeginsAscii xs
 begins_white [] h = tt
-begins_white (x ∷ xs) h = white_small x (and_parts (is_white x) (list_all is_white xs) h).0
+begins_white (x ∷ xs) h = white_below x (and_parts (is_white x) (list_all is_white xs) h).0
 
 pub body_utf8 : (body value : List ℕ) → IsFolded body → IsUtf8 body → HasValue body value → IsUtf8 value
 body_utf8 body value folded utf8 has =
     let whole : without_ends body ≡ has.lead ++ (value ++ has.trail) = sym (unfolded-folded body folded) ∙ has.whole in
     let u : IsUtf8 (has.lead ++ (value ++ has.trail)) = subst IsUtf8 whole (ends_utf8 [] body utf8) in
-    let behind = all_ascii is_white white_small has.lead (value ++ has.trail) has.lead_passes u in
+    let behind = all_ascii is_white white_below has.lead (value ++ has.trail) has.lead_passes u in
     (before_ascii value has.trail (begins_white has.trail has.trail_passes) behind.rest).front
 
 pub value_utf8 : (octets : List ℕ) (f : FieldParts) (value : List ℕ) → IsHighField octets f → HasValue f.body value → IsUtf8 value
 value_utf8 octets f value high has = body_utf8 f.body value high.is_field.body high.is_field.utf8 has
 
 -- a name is one of a type or of an encoding whatever its case, and so its kind is known
-type_is_params : (name : List ℕ) → same_name name (codes "Content-Type") ≡ true → kind_named name ≡ Params Content
+pub type_is_params : (name : List ℕ) → same_name name (codes "Content-Type") ≡ true → kind_named name ≡ Params Content
 unfolding kind_named is_address_name is_originator_name is_destination_name is_resent_originator_name is_resent_destination_name is_id_name is_plain_name same_name
 type_is_params name is = let e : str_to_ascii_lowercase name ≡ codes "content-type" = (bytes_eq-Decides (str_to_ascii_lowercase name) (codes "content-type")).0 is in rw e refl
 
-encoding_is_plain : (name : List ℕ) → is_encoding_name name ≡ true → kind_named name ≡ Plain
+pub encoding_is_plain : (name : List ℕ) → is_encoding_name name ≡ true → kind_named name ≡ Plain
 unfolding is_encoding_name kind_named is_address_name is_originator_name is_destination_name is_resent_originator_name is_resent_destination_name is_id_name is_plain_name same_name
 encoding_is_plain name is = let e : str_to_ascii_lowercase name ≡ codes "content-transfer-encoding" = (bytes_eq-Decides (str_to_ascii_lowercase name) (codes "content-transfer-encoding")).0 is in rw e refl
 

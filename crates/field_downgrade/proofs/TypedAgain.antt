@@ -1,22 +1,22 @@
 -- The pieces of a UTF-8 address are read back.
-use Rattle.std.proofs.Common.{◌≡◌, ℕ, ◌<◌, ◌&&◌, nat_lt, Bool, true, false, List, [], ◌∷◌, ◌++◌, length, map, codes, if◌then◌else◌, refl, sym, ap, ◌∙◌, subst, arith}
+use Rattle.std.proofs.Common.{◌≡◌, ℕ, ◌<◌, ◌&&◌, nat_lt, Bool, true, false, List, [], ◌∷◌, ◌++◌, length, map, codes, if◌then◌else◌, refl, sym, ap, subst, arith}
 use Rattle.std.proofs.lemmas.Bool.{and_parts, and_from, both_ways}
 use Rattle.std.proofs.lemmas.Bool.Decides.{nat_tests}
 use Rattle.std.proofs.lemmas.List.{append-nil, length-append}
-use Rattle.std.proofs.lemmas.List.Folds.{list_all-append}
 use Rattle.std.proofs.lemmas.Str.{encode_ascii, encodes-chars}
 use Rattle.std.specs.Char.{encode_utf8}
 use Rattle.std.specs.List.{AllByRecursion, flat_map, list_all}
 use Rattle.std.specs.Str.{bytes_eq, chars, encode_utf8_all, IsUtf8}
 use Rattle.mail_wire.specs.Octets.{is_ascii, is_white}
 use Rattle.mail_wire.specs.Spans.{Stops, StopsBehind, IsTrimmed}
-use Rattle.mail_wire.proofs.AllLemmas.{pass-append, pass-weaker}
+use Rattle.mail_wire.proofs.AllLemmas.{pass-append, pass-weaker, pass-parts}
+use Rattle.address_lists.proofs.PlacesAgain.{white_ascii}
 use Rattle.field_tokens.specs.declared.Style.TheVariants.{Mime}
 use Rattle.field_tokens.specs.TokenOctets.{is_atom_octet, is_line_octet}
 use Rattle.encapsulated_fields.specs.AddressForms.{escape_of, hexadecimal, is_plain, xtext_char, xtext_form}
 use Rattle.encapsulated_fields.specs.Xtext.{is_hex_digit, XtextItem, Plain, Escape, IsXtextItem, item_spelling, item_character, ReadsAs}
 use Rattle.encapsulated_fields.proofs.HexLemmas.{hex-hexadecimal}
-use Rattle.encapsulated_fields.proofs.FormLemmas.{ReadsAs-xtext}
+use Rattle.encapsulated_fields.proofs.FormLemmas.{ReadsAs-xtext, plain_small, ascii_digit}
 use Rattle.encapsulated_fields.proofs.XtextLemmas.{ReadsAs-utf8}
 use Rattle.field_downgrade.specs.Typed.{is_type_octet, utf8_type, WritesType, WrittenSays, SaysTyped, TypedPieces, IsTypedAgain}
 use Rattle.field_downgrade.proofs.TypedLemmas.{SaysTyped-once}
@@ -29,20 +29,14 @@ TypedPieces-some value text says = ((codes "utf-8; " ++ xtext_form text) ∷ [],
 
 -- ---- a value with an octet above 127 says an address that isn't empty
 
-parts_pass : (p : ℕ → Bool) (xs ys : List ℕ) → list_all p (xs ++ ys) ≡ true → (list_all p xs ≡ true) × (list_all p ys ≡ true)
-parts_pass p xs ys h = and_parts (list_all p xs) (list_all p ys) (sym (list_all-append p xs ys) ∙ h)
-
-digit_ascii : (x : ℕ) → is_hex_digit x ≡ true → is_ascii x ≡ true
-digit_ascii x h = grind (arith, nat_tests)
-
 item_ascii : (item : XtextItem) → IsXtextItem item → list_all is_ascii (encode_utf8 (item_character item)) ≡ true → list_all is_ascii (item_spelling item) ≡ true
 item_ascii (Plain c) is h = h
-item_ascii (Escape ds) is h = pass-append is_ascii ds (125 ∷ []) (pass-weaker is_hex_digit is_ascii digit_ascii ds is.hex) refl
+item_ascii (Escape ds) is h = pass-append is_ascii ds (125 ∷ []) (pass-weaker is_hex_digit is_ascii ascii_digit ds is.hex) refl
 
 items_ascii : (items : List XtextItem) → AllByRecursion IsXtextItem items → list_all is_ascii (encode_utf8_all (map item_character items)) ≡ true → list_all is_ascii (flat_map item_spelling items) ≡ true
 items_ascii [] are h = refl
 items_ascii (i ∷ items) are h =
-    let parts = parts_pass is_ascii (encode_utf8 (item_character i)) (encode_utf8_all (map item_character items)) h in
+    let parts = pass-parts is_ascii (encode_utf8 (item_character i)) (encode_utf8_all (map item_character items)) h in
     pass-append is_ascii (item_spelling i) (flat_map item_spelling items) (item_ascii i are.0 parts.0) (items_ascii items are.1 parts.1)
 
 ReadsAs-ascii : (written text : List ℕ) → ReadsAs written text → list_all is_ascii text ≡ true → list_all is_ascii written ≡ true
@@ -51,9 +45,6 @@ ReadsAs-ascii written text is h = rw (is.spelled) (items_ascii is.items is.are_i
 WrittenSays-ascii : (b : Bool) (written text : List ℕ) → WrittenSays b written text → list_all is_ascii text ≡ true → list_all is_ascii written ≡ true
 WrittenSays-ascii true written text says h = ReadsAs-ascii written text says h
 WrittenSays-ascii false written text says h = rw (← says) h
-
-white_ascii : (x : ℕ) → is_white x ≡ true → is_ascii x ≡ true
-white_ascii x h = grind (arith, nat_tests)
 
 trimmed_ascii : (octets trimmed : List ℕ) → IsTrimmed is_white octets trimmed → list_all is_ascii trimmed ≡ true → list_all is_ascii octets ≡ true
 trimmed_ascii octets trimmed is h =
@@ -78,9 +69,6 @@ high_some value type (x ∷ text) says high = omega arith
 
 abbrev is_visible : ℕ → Bool
 is_visible x = nat_lt 32 x && nat_lt x 127
-
-plain_small : (c : ℕ) → is_plain c ≡ true → c < 128
-plain_small c h = grind (arith, nat_tests)
 
 plain_visible : (c : ℕ) → is_plain c ≡ true → is_visible c ≡ true
 plain_visible c h = grind (arith, nat_tests)

@@ -1,7 +1,6 @@
 -- Of each value it is decided whether it says a type and an address.
 use Rattle.std.proofs.Common.{◌≡◌, ℕ, ◌<◌, ◌≤◌, Bool, true, false, ◌⊎◌, inl, inr, List, [], ◌∷◌, length, refl, ap, arith}
 use Rattle.std.proofs.lemmas.Bool.{and_from, both_ways, cases_Bool, cases_lt}
-use Rattle.std.proofs.lemmas.Bool.Decides.{nat_tests}
 use Rattle.std.specs.List.{list_all}
 use Rattle.std.specs.Str.{bytes_eq, str_to_ascii_lowercase}
 use Rattle.mail_wire.specs.Octets.{is_white}
@@ -9,16 +8,13 @@ use Rattle.utf8_fields.proofs.OneValue.{IsTrimmed-once}
 use Rattle.field_downgrade.specs.Typed.{is_no_semicolon, is_type_octet, utf8_type, CutsType, WritesType, IsTyped, WrittenSays, SaysTyped}
 use Rattle.utf8_fields.proofs.TrimLemmas.{trimmed}
 use Rattle.field_downgrade.proofs.TypedReads.{decide_reads}
-use Rattle.field_downgrade.proofs.TypedLemmas.{cuts_once, not-IsTyped-cut, IsTyped-once}
-
-not_semicolon : (x : ℕ) → is_no_semicolon x ≡ false → x ≡ 59
-not_semicolon x h = grind (arith, nat_tests)
+use Rattle.field_downgrade.proofs.TypedLemmas.{cuts_once, not-IsTyped-cut, IsTyped-once, is_semicolon}
 
 -- a value has a first `;`, or none
 decide_cut : (value : List ℕ) → ((front : List ℕ) × (behind : List ℕ) × CutsType value front behind) ⊎ (list_all is_no_semicolon value ≡ true)
 decide_cut [] = inr refl
 decide_cut (x ∷ xs) = elim (cases_Bool (is_no_semicolon x)) [
-  | inr is ↦ inl ([], xs, record { whole = ap (λ y. y ∷ xs) (not_semicolon x is); first = refl })
+  | inr is ↦ inl ([], xs, record { whole = ap (λ y. y ∷ xs) (is_semicolon x is); first = refl })
   | inl other ↦ elim (decide_cut xs) [
     | inr none ↦ inr (and_from (is_no_semicolon x) (list_all is_no_semicolon xs) other none)
     | inl found ↦

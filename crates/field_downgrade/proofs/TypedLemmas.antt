@@ -34,7 +34,7 @@ no_cut value front behind none cuts =
 semicolon_opposite : Opposite is_no_semicolon (λ x. x == 59)
 semicolon_opposite x = refl
 
-is_semicolon : (x : ℕ) → is_no_semicolon x ≡ false → x ≡ 59
+pub is_semicolon : (x : ℕ) → is_no_semicolon x ≡ false → x ≡ 59
 is_semicolon x h = grind (arith, nat_tests)
 
 pub cuts_found : (value front rest behind : List ℕ) (x at : ℕ) → position (λ y. y == 59) value ≡ Some at → front ≡ take at value → rest ≡ drop at value → rest ≡ x ∷ behind

@@ -1,26 +1,17 @@
 -- Of each text it is decided whether it is read as an address, and as which one.
 use Rattle.std.proofs.Common.{◌≡◌, ℕ, suc, zero, ◌<◌, ◌≤◌, true, ◌⊎◌, inl, inr, List, [], ◌∷◌, ◌++◌, length, drop, ◌-◌, refl, sym, ap, ◌∙◌, subst, arith}
-use Rattle.std.proofs.lemmas.Bool.{and_parts, and_from, both_ways, cases_Bool, cases_eq, cases_lt, true≢false}
-use Rattle.std.proofs.lemmas.Bool.Decides.{nat_tests}
+use Rattle.std.proofs.lemmas.Bool.{and_parts, both_ways, cases_Bool, cases_eq, cases_lt, true≢false}
 use Rattle.std.proofs.lemmas.List.{append_assoc, length-append, drop_at}
-use Rattle.std.proofs.lemmas.Str.{IsUtf8-from_is_utf8, is_utf8-from_IsUtf8, IsUtf8-past_char, encodes-chars, scalars-chars, encode_ascii}
+use Rattle.std.proofs.lemmas.Str.{IsUtf8-from_is_utf8, is_utf8-from_IsUtf8, IsUtf8-past_char, encodes-chars, scalars-chars}
 use Rattle.std.specs.Char.{IsScalar, encode_utf8}
 use Rattle.std.specs.List.{list_all}
 use Rattle.std.specs.Str.{IsUtf8, is_utf8, chars, encode_utf8_all, all_scalars}
 use lib.Utf8.{scalar}
 use Rattle.mail_wire.specs.Spans.{IsSpan}
+use Rattle.encoded_words.proofs.WritableUnits.{behind_ascii}
+use Rattle.utf8_fields.proofs.AllSpans.{span_of}
 use Rattle.encapsulated_fields.specs.Xtext.{is_hex_digit, hex_value, AreDigits, XtextItem, Plain, Escape, IsXtextItem, item_spelling, ReadsAs, BeginsWith, BeginsEscape}
-use Rattle.encapsulated_fields.proofs.XtextLemmas.{ReadsTo, ReadsTo-none, ReadsTo-push, ReadsAs-read, not-ReadsAs, ReadsAs-utf8, BeginsWith-plain, BeginsWith-escape, BeginsWith-shortens, BeginsEscape-made, not-BeginsEscape-brace, not-BeginsEscape-digits, not-BeginsWith-escape}
-
--- the longest front of digits
-digits_span : (xs : List ℕ) → (digits closing : List ℕ) × IsSpan is_hex_digit xs digits closing
-digits_span [] = ([], [], record { whole = refl; passes = refl; stops = tt })
-digits_span (x ∷ xs) = elim (cases_Bool (is_hex_digit x)) [
-  | inl t ↦
-      let r = digits_span xs in
-      (x ∷ r.0, r.1, record { whole = ap (λ ys. x ∷ ys) r.2.whole; passes = and_from (is_hex_digit x) (list_all is_hex_digit r.0) t r.2.passes; stops = r.2.stops })
-  | inr fails ↦ ([], x ∷ xs, record { whole = refl; passes = refl; stops = fails })
-]
+use Rattle.encapsulated_fields.proofs.XtextLemmas.{ReadsTo, ReadsTo-none, ReadsTo-push, ReadsAs-read, not-ReadsAs, ReadsAs-utf8, BeginsWith-plain, BeginsWith-escape, BeginsWith-shortens, BeginsEscape-made, not-BeginsEscape-brace, not-BeginsEscape-digits, not-BeginsWith-escape, digit_small}
 
 -- the digits of an escape, or others
 decide_digits : (ds : List ℕ) → list_all is_hex_digit ds ≡ true → AreDigits ds ⊎ ¬ AreDigits ds
@@ -57,7 +48,7 @@ decide_escape (x ∷ y ∷ after) = elim (cases_eq x 120) [
   | inl is_x ↦ elim (cases_eq y 123) [
     | inr other ↦ inr (λ character rest is. other (cc is.spelled))
     | inl is_brace ↦
-        let span = digits_span after in
+        let span = span_of is_hex_digit after in
         let e : x ∷ y ∷ after ≡ 120 ∷ 123 ∷ after = cc (is_x, is_brace) in
         behind_digits (x ∷ y ∷ after) after span.0 span.1 e span.2
   ]
@@ -97,28 +88,21 @@ decide_begins text some u =
       | inr other ↦ inl (first.0, first.1, BeginsWith-plain text first.1 first.0 (first.2, first.3) other)
     ]
 
--- what is behind an ASCII octet
-IsUtf8-past_ascii : (x : ℕ) (rest : List ℕ) → x < 128 → IsUtf8 (x ∷ rest) → IsUtf8 rest
-IsUtf8-past_ascii x rest low u = IsUtf8-past_char (x ∷ rest) rest x u (rw (encode_ascii x low) refl)
-
-hex_small : (x : ℕ) → is_hex_digit x ≡ true → x < 128
-hex_small x h = grind (arith, nat_tests)
-
 -- what is behind an item
 utf8_behind : (text rest : List ℕ) (character : ℕ) → IsUtf8 text → BeginsWith text character rest → IsUtf8 rest
 utf8_behind text rest character u begins = by begins.item begins.is_item begins.spelled
   where
     low : (ds : List ℕ) → list_all is_hex_digit ds ≡ true → IsUtf8 (ds ++ 125 ∷ rest) → IsUtf8 rest
-    low [] hex v = IsUtf8-past_ascii 125 rest (omega arith) v
+    low [] hex v = behind_ascii 125 rest (omega arith) v
     low (d ∷ ds) hex v =
         let parts = and_parts (is_hex_digit d) (list_all is_hex_digit ds) hex in
-        low ds parts.1 (IsUtf8-past_ascii d (ds ++ 125 ∷ rest) (hex_small d parts.0) v)
+        low ds parts.1 (behind_ascii d (ds ++ 125 ∷ rest) (digit_small d parts.0) v)
 
     by : (item : XtextItem) → IsXtextItem item → text ≡ item_spelling item ++ rest → IsUtf8 rest
     by (Plain c) is e = IsUtf8-past_char text rest c u e
     by (Escape ds) is e =
         let v : IsUtf8 (92 ∷ 120 ∷ 123 ∷ ((ds ++ 125 ∷ []) ++ rest)) = subst IsUtf8 e u in
-        let w = IsUtf8-past_ascii 123 ((ds ++ 125 ∷ []) ++ rest) (omega arith) (IsUtf8-past_ascii 120 (123 ∷ ((ds ++ 125 ∷ []) ++ rest)) (omega arith) (IsUtf8-past_ascii 92 (120 ∷ 123 ∷ ((ds ++ 125 ∷ []) ++ rest)) (omega arith) v)) in
+        let w = behind_ascii 123 ((ds ++ 125 ∷ []) ++ rest) (omega arith) (behind_ascii 120 (123 ∷ ((ds ++ 125 ∷ []) ++ rest)) (omega arith) (behind_ascii 92 (120 ∷ 123 ∷ ((ds ++ 125 ∷ []) ++ rest)) (omega arith) v)) in
         low ds is.hex (subst IsUtf8 (append_assoc ds (125 ∷ []) rest) w)
 
 -- the text is read as some address, or as none

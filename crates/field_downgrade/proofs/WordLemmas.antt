@@ -2,16 +2,15 @@
 use Rattle.std.proofs.Common.{◌≡◌, ℕ, ◌<◌, Bool, true, false, not, ◌&&◌, List, [], ◌∷◌, ◌++◌, length, refl, sym, ap, ◌∙◌, subst, arith}
 use Rattle.std.proofs.lemmas.Bool.{and_parts, and_from}
 use Rattle.std.proofs.lemmas.Bool.Decides.{nat_tests}
-use Rattle.std.proofs.lemmas.List.{append_assoc, append-nil, length-append, take_at, drop_at, nil_from_length}
-use Rattle.std.proofs.Math.Seq.{get_or-append_seam}
+use Rattle.std.proofs.lemmas.List.{append_assoc, append-nil, length-append, nil_from_length}
 use Rattle.std.specs.List.{list_all, flat_map}
-use Rattle.std.specs.Str.{IsUtf8, IsCharBoundary}
-use Rattle.std.proofs.lemmas.Str.{IsUtf8-take, IsUtf8-drop, IsCharBoundary-before_ascii, IsCharBoundary-after_ascii, IsCharBoundary-end}
+use Rattle.std.specs.Str.{IsUtf8}
 use Rattle.mail_wire.specs.Octets.{is_white, is_black, is_line_end, is_ascii}
 use Rattle.mail_wire.specs.Folds.{IsFolded}
 use Rattle.mail_wire.proofs.Folded.{BeginsText, IsFolded-cut, IsFolded-drop_plain, unfolded-folded, without_ends-some}
 use Rattle.mail_wire.specs.Spans.{Stops, IsSpan}
 use Rattle.mail_wire.proofs.SpanLemmas.{Opposite}
+use Rattle.encoded_words.proofs.WritableUnits.{BeginsAscii, before_ascii, all_ascii}
 use Rattle.field_downgrade.specs.Words.{Word, IsWord, IsGap, AreWords, AreUtf8, HasWords, Divides, TellsEncoded, run_of, word_octets, is_word_octet, is_gap_octet}
 
 not_not : (b : Bool) → b ≡ not (not b)
@@ -24,45 +23,24 @@ gap_opposite x = refl
 pub word_opposite : Opposite is_word_octet is_gap_octet
 word_opposite x = not_not (is_word_octet x)
 
--- Texts are cut beside ASCII octets.
-abbrev pub BeginsAscii : List ℕ → Type 0
-BeginsAscii [] = Unit {0}
-BeginsAscii (x ∷ xs) = is_ascii x ≡ true
-
-ascii_small : (x : ℕ) → is_ascii x ≡ true → x < 128
+pub ascii_small : (x : ℕ) → is_ascii x ≡ true → x < 128
 ascii_small x h = grind (arith, nat_tests)
-
-boundary : (xs ys : List ℕ) → BeginsAscii ys → IsCharBoundary (xs ++ ys) (length xs)
-boundary xs [] begins = subst (IsCharBoundary (xs ++ [])) (ap length (append-nil xs)) (IsCharBoundary-end (xs ++ []))
-boundary xs (y ∷ ys) begins =
-    IsCharBoundary-before_ascii (xs ++ (y ∷ ys)) (length xs) (omega (arith, length-append xs (y ∷ ys)))
-    (rw (get_or-append_seam xs y ys 0) (ascii_small y begins))
-
-IsUtf8-cut : (xs ys : List ℕ) → BeginsAscii ys → IsUtf8 (xs ++ ys) → IsUtf8 xs × IsUtf8 ys
-IsUtf8-cut xs ys begins u =
-    let at = boundary xs ys begins in (
-      rw (take_at xs ys (length xs) refl) at (IsUtf8-take (xs ++ ys) (length xs) u at),
-      rw (drop_at xs ys (length xs) refl) at (IsUtf8-drop (xs ++ ys) (length xs) u at),
-    )
-
-IsUtf8-behind_ascii : (xs ys : List ℕ) → list_all is_ascii xs ≡ true → IsUtf8 (xs ++ ys) → IsUtf8 ys
-IsUtf8-behind_ascii [] ys h u = u
-IsUtf8-behind_ascii (x ∷ xs) ys h u =
-    let parts = and_parts (is_ascii x) (list_all is_ascii xs) h in
-    IsUtf8-behind_ascii xs ys parts.1 (IsUtf8-drop (x ∷ (xs ++ ys)) 1 u (IsCharBoundary-after_ascii (x ∷ (xs ++ ys)) 0 u (omega arith) (ascii_small x parts.0)))
 
 gap_octet_ascii : (x : ℕ) → is_gap_octet x ≡ true → is_ascii x ≡ true
 gap_octet_ascii x h = grind (arith, nat_tests)
 
-gap_ascii : (xs : List ℕ) → list_all is_gap_octet xs ≡ true → list_all is_ascii xs ≡ true
+pub gap_ascii : (xs : List ℕ) → list_all is_gap_octet xs ≡ true → list_all is_ascii xs ≡ true
 gap_ascii [] h = refl
 gap_ascii (x ∷ xs) h =
     let parts = and_parts (is_gap_octet x) (list_all is_gap_octet xs) h in
     and_from (is_ascii x) (list_all is_ascii xs) (gap_octet_ascii x parts.0) (gap_ascii xs parts.1)
 
+gap_small : (x : ℕ) → is_gap_octet x ≡ true → x < 128
+gap_small x h = ascii_small x (gap_octet_ascii x h)
+
 stops_word : (ys : List ℕ) → Stops is_word_octet ys → BeginsAscii ys
 stops_word [] stops = tt
-stops_word (y ∷ ys) stops = gap_octet_ascii y (rw stops refl)
+stops_word (y ∷ ys) stops = gap_small y (rw stops refl)
 
 stops_gap : (ys : List ℕ) → Stops is_gap_octet ys → BeginsText ys
 stops_gap [] stops = tt
@@ -73,7 +51,7 @@ stops_gap (y ∷ ys) stops = by (is_white y) (is_line_end y) stops
     by false true h = cc h
     by false false h = (refl, refl)
 
-word_no_end : (xs : List ℕ) → list_all is_word_octet xs ≡ true → list_all (λ x. not (is_line_end x)) xs ≡ true
+pub word_no_end : (xs : List ℕ) → list_all is_word_octet xs ≡ true → list_all (λ x. not (is_line_end x)) xs ≡ true
 word_no_end [] h = refl
 word_no_end (x ∷ xs) h =
     let parts = and_parts (is_word_octet x) (list_all is_word_octet xs) h in
@@ -92,7 +70,7 @@ HasGap-from octets gap rest folded utf8 span =
     record {
       is_gap = record { octets = span.passes; folded = cut.0 };
       folded = cut.1;
-      utf8 = IsUtf8-behind_ascii gap rest (gap_ascii gap span.passes) (subst IsUtf8 span.whole utf8);
+      utf8 = (all_ascii is_gap_octet gap_small gap rest span.passes (subst IsUtf8 span.whole utf8)).rest;
       stops = span.stops;
     }
 
@@ -143,9 +121,9 @@ pub Reads-step : (body : List ℕ) (done : List Word) (rest octets after gap nex
     → Reads body (done ++ record { octets = octets; is_encoded = encoded; gap = gap } ∷ []) next
 Reads-step body done rest octets after gap next encoded reads some word_span gap_span tells =
     let w : Word = record { octets = octets; is_encoded = encoded; gap = gap } in
-    let cut = IsUtf8-cut octets after (stops_word after word_span.stops) (subst IsUtf8 word_span.whole reads.utf8) in
+    let cut = before_ascii octets after (stops_word after word_span.stops) (subst IsUtf8 word_span.whole reads.utf8) in
     let folded = IsFolded-drop_plain octets after (word_no_end octets word_span.passes) (subst IsFolded word_span.whole reads.folded) in
-    let has = HasGap-from after gap next folded cut.1 gap_span in
+    let has = HasGap-from after gap next folded cut.rest gap_span in
     let is : IsWord w = record {
       some = word_some rest octets after some reads.stops word_span;
       octets = word_span.passes;
@@ -158,7 +136,7 @@ Reads-step body done rest octets after gap next encoded reads some word_span gap
       stops = has.stops;
       complete = λ ws are u e.
           let whole : rest ≡ flat_map word_octets (w ∷ ws) = word_span.whole ∙ rw (gap_span.whole, e) (sym (append_assoc octets gap (flat_map word_octets ws))) in
-          let all = reads.complete (w ∷ ws) (is, divides after gap next ws word_span.stops gap_span has.is_gap are e w refl, are) (cut.0, u) whole in
+          let all = reads.complete (w ∷ ws) (is, divides after gap next ws word_span.stops gap_span has.is_gap are e w refl, are) (cut.front, u) whole in
           rw (append_assoc done (w ∷ []) ws) all;
     }
 

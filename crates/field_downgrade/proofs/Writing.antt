@@ -1,97 +1,28 @@
 -- The steps of writing a made field.
-use Rattle.std.proofs.Common.{◌≡◌, ℕ, ◌<◌, Bool, true, false, not, ◌||◌, ◌⊎◌, inl, inr, List, [], ◌∷◌, ◌++◌, length, Option, Some, None, Result, Ok, Err, OnOk, IfSome, refl, sym, ap, ◌∙◌, subst, arith}
-use Rattle.std.proofs.lemmas.Bool.{and_parts, and_from, both_ways}
-use Rattle.std.proofs.lemmas.Bool.Decides.{nat_tests}
+use Rattle.std.proofs.Common.{◌≡◌, ℕ, ◌<◌, Bool, true, false, not, List, [], ◌∷◌, ◌++◌, length, Result, Ok, Err, OnOk, refl, sym, ap, ◌∙◌, subst, arith}
+use Rattle.std.proofs.lemmas.Bool.{and_parts, both_ways, not-true, or_right}
 use Rattle.std.proofs.lemmas.List.{append_assoc, append-nil, length-append}
 use Rattle.std.specs.List.{list_all, list_any, flat_map}
 use Rattle.std.specs.Str.{IsUtf8}
-use Rattle.std.specs.Char.{to_ascii_uppercase}
 use Rattle.std.proofs.lemmas.Str.{IsUtf8-append}
-use Rattle.mail_wire.specs.Octets.{is_ascii, is_black}
-use Rattle.mail_wire.proofs.AllLemmas.{pass-append, pass-weaker}
-use Rattle.encoded_words.specs.Words.{UnitValue, IsEncodedWord, IsTextOf, language_suffix, is_name_octet, is_text_octet, IsName}
+use Rattle.mail_wire.specs.Octets.{is_ascii}
 use Rattle.encoded_words.specs.Pieces.{AreBWords}
 use Rattle.field_downgrade.specs.declared.segments.Side.{Side}
 use Rattle.field_downgrade.specs.declared.segments.Side.TheVariants.{Edge, Encoded, Plain}
 use Rattle.field_downgrade.specs.Words.{Word, AreWords, AreUtf8, TellsEncoded, is_high, last_run, plain_text}
 use Rattle.field_downgrade.specs.Layout.{Segment, segment_words, IsSegment, Parts, AreSegments, IsCopied, begins_high, side_of, first_side, last_side, CutsLeft, CutsRight, copied_pieces, GiveAll, HavePieces}
 use Rattle.encoded_words.specs.Folding.{AddsWordLines, Piece, word_pieces, made_body}
+use Rattle.encoded_words.proofs.EncodedOctets.{encoded_ascii}
+use Rattle.encoded_words.proofs.Chunks.{made_body-append}
 use Rattle.field_downgrade.specs.private.Steps.{NeedsRun, SplitsCopied, SplitsCore, BeginsCore, BeginsHigh, BeginsEncoded, CanWrite, WritesSegment, WritesWords}
 use Rattle.field_downgrade.proofs.Pieces.{AreWords-front, AreWords-back, AreUtf8-front, AreUtf8-back, last_some, last_white, white_utf8, plain_utf8}
 use Rattle.field_downgrade.proofs.ReadBack.{left_white, right_white}
-use Rattle.field_downgrade.proofs.LineLemmas.{made_body-append}
-
--- what holds of each octet that an encoded word may have
-pub record HoldsInWords (p : ℕ → Bool) : Type 0 where
-  pub name : (x : ℕ) → is_name_octet x ≡ true → p x ≡ true
-  pub text : (x : ℕ) → is_text_octet x ≡ true → p x ≡ true
-  pub letter : (x : ℕ) → (to_ascii_uppercase x ≡ 66) ⊎ (to_ascii_uppercase x ≡ 81) → p x ≡ true
-  pub marks : list_all p (61 ∷ 63 ∷ 42 ∷ []) ≡ true
-
-letter_holds : (p : ℕ → Bool) → HoldsInWords p → (letter : ℕ) (text octets : List ℕ) → IsTextOf letter text octets → p letter ≡ true
-letter_holds p holds letter text octets (inl b) = holds.letter letter (inl b.0)
-letter_holds p holds letter text octets (inr q) = holds.letter letter (inr q.0)
-
-language_holds : (p : ℕ → Bool) → HoldsInWords p → p 42 ≡ true → (language : Option (List ℕ)) → IfSome language IsName → list_all p (language_suffix language) ≡ true
-language_holds p holds star None is = refl
-language_holds p holds star (Some l) is = and_from (p 42) (list_all p l) star (pass-weaker is_name_octet p holds.name l is.1)
-
-pub encoded_all : (p : ℕ → Bool) → HoldsInWords p → (word : List ℕ) (u : UnitValue) → IsEncodedWord word u → list_all p word ≡ true
-encoded_all p holds word u is =
-    let w = is.parts in
-    let has = is.has_parts in
-    let first = and_parts (p 61) (list_all p (63 ∷ 42 ∷ [])) holds.marks in
-    let second = and_parts (p 63) (list_all p (42 ∷ [])) first.1 in
-    let third = and_parts (p 42) true second.1 in
-    let ending : list_all p (63 ∷ 61 ∷ []) ≡ true = and_from (p 63) (list_all p (61 ∷ [])) second.0 (and_from (p 61) true first.0 refl) in
-    let text : list_all p (w.text ++ 63 ∷ 61 ∷ []) ≡ true = pass-append p w.text (63 ∷ 61 ∷ []) (pass-weaker is_text_octet p holds.text w.text has.text.1) ending in
-    let coded : list_all p (63 ∷ w.letter ∷ 63 ∷ (w.text ++ 63 ∷ 61 ∷ [])) ≡ true
-    = and_from (p 63) (list_all p (w.letter ∷ 63 ∷ (w.text ++ 63 ∷ 61 ∷ []))) second.0
-    (and_from (p w.letter) (list_all p (63 ∷ (w.text ++ 63 ∷ 61 ∷ []))) (letter_holds p holds w.letter w.text is.octets is.spells)
-    (and_from (p 63) (list_all p (w.text ++ 63 ∷ 61 ∷ [])) second.0 text)) in
-    let rest : List ℕ = w.charset ++ (language_suffix w.language ++ 63 ∷ w.letter ∷ 63 ∷ (w.text ++ 63 ∷ 61 ∷ [])) in
-    rw (has.spelled)
-    (and_from (p 61) (list_all p (63 ∷ rest)) first.0 (and_from (p 63) (list_all p rest) second.0
-    (pass-append p w.charset (language_suffix w.language ++ 63 ∷ w.letter ∷ 63 ∷ (w.text ++ 63 ∷ 61 ∷ [])) (pass-weaker is_name_octet p holds.name w.charset has.charset.1)
-    (pass-append p (language_suffix w.language) (63 ∷ w.letter ∷ 63 ∷ (w.text ++ 63 ∷ 61 ∷ [])) (language_holds p holds third.0 w.language has.language) coded))))
-
-ascii_letter : (x : ℕ) → (to_ascii_uppercase x ≡ 66) ⊎ (to_ascii_uppercase x ≡ 81) → is_ascii x ≡ true
-ascii_letter x (inl h) = grind (arith, nat_tests)
-ascii_letter x (inr h) = grind (arith, nat_tests)
-
-black_letter : (x : ℕ) → (to_ascii_uppercase x ≡ 66) ⊎ (to_ascii_uppercase x ≡ 81) → is_black x ≡ true
-black_letter x (inl h) = grind (arith, nat_tests)
-black_letter x (inr h) = grind (arith, nat_tests)
-
-ascii_name : (x : ℕ) → is_name_octet x ≡ true → is_ascii x ≡ true
-ascii_name x h = grind (arith, nat_tests)
-
-ascii_text : (x : ℕ) → is_text_octet x ≡ true → is_ascii x ≡ true
-ascii_text x h = grind (arith, nat_tests)
-
-black_name : (x : ℕ) → is_name_octet x ≡ true → is_black x ≡ true
-black_name x h = grind (arith, nat_tests)
-
-black_text : (x : ℕ) → is_text_octet x ≡ true → is_black x ≡ true
-black_text x h = grind (arith, nat_tests)
-
--- an encoded word is ASCII
-pub encoded_ascii : (word : List ℕ) (u : UnitValue) → IsEncodedWord word u → list_all is_ascii word ≡ true
-encoded_ascii word u is = encoded_all is_ascii (record { name = ascii_name; text = ascii_text; letter = ascii_letter; marks = refl }) word u is
-
--- an encoded word has no white
-pub encoded_black : (word : List ℕ) (u : UnitValue) → IsEncodedWord word u → list_all is_black word ≡ true
-encoded_black word u is = encoded_all is_black (record { name = black_name; text = black_text; letter = black_letter; marks = refl }) word u is
 
 high_plain : (b : Bool) (octets : List ℕ) → TellsEncoded b octets → not (list_all is_ascii octets) ≡ true → b ≡ false
 high_plain false octets tells high = refl
 high_plain true octets tells high =
     let low = encoded_ascii octets tells.0 tells.1 in
-    absurd (no (list_all is_ascii octets) low high)
-  where
-    no : (b : Bool) → b ≡ true → not b ≡ true → ⊥
-    no true a h = cc h
-    no false a h = cc a
+    absurd (both_ways (list_all is_ascii octets) (not-true (list_all is_ascii octets) high) low)
 
 pub BeginsCore-from : (ws : List Word) → AreWords ws → BeginsHigh ws → BeginsCore ws
 BeginsCore-from [] are begins = tt
@@ -180,21 +111,13 @@ parts_from [] after [] (y ∷ next) e is stops begins some =
 parts_from (l ∷ low) after [] (y ∷ next) e is stops begins some =
     let same : l ≡ y = cc e in
     let l_low = (and_parts (not (is_high l)) (list_all (λ (w : Word). not (is_high w)) low) is).0 in
-    absurd (both_ways (is_high y) (ap is_high (sym same) ∙ not_true (is_high l) l_low) begins.0)
-  where
-    not_true : (b : Bool) → not b ≡ true → b ≡ false
-    not_true true h = cc h
-    not_true false h = refl
+    absurd (both_ways (is_high y) (ap is_high (sym same) ∙ not-true (is_high l) l_low) begins.0)
 parts_from [] after (k ∷ copied) (y ∷ next) e is stops begins some =
     let first : BeginsEncoded (k ∷ (copied ++ (y ∷ next))) = subst BeginsEncoded e stops in rw first refl
 parts_from (l ∷ low) after (k ∷ copied) (y ∷ next) e is stops begins some =
     let rest : low ++ after ≡ copied ++ (y ∷ next) = cc e in
     let more = parts_from low after copied (y ∷ next) rest (and_parts (not (is_high l)) (list_all (λ (w : Word). not (is_high w)) low) is).1 stops begins some in
-    or_true k.is_encoded (list_any (λ (w : Word). w.is_encoded) copied) more
-  where
-    or_true : (a b : Bool) → b ≡ true → (a || b) ≡ true
-    or_true true b h = refl
-    or_true false b h = h
+    or_right k.is_encoded (list_any (λ (w : Word). w.is_encoded) copied) more
 
 Parts-from : (low after copied next : List Word) (ss : List Segment) → low ++ after ≡ copied ++ next → IsCopied low → BeginsEncoded after → BeginsCore next → next ≡ flat_map segment_words ss → AreSegments ss → Parts copied ss
 Parts-from low after copied next [] e is stops begins next_is segs = tt

@@ -6,7 +6,8 @@ ghost use Rattle.field_tokens.specs.declared.Token.{Token};
 ghost use Rattle.field_tokens.specs.Comments.{CommentValue, AddsPieces};
 ghost use Rattle.field_tokens.specs.Tokens.{HasTokens};
 ghost use Rattle.field_downgrade.specs.PlainTexts.{style_where as style_of, text_piece, SaysPlain, PlainPieces};
-ghost use Rattle.field_downgrade.specs.private.PlainSteps.{is_atom, IsOneAtom, GiveComments};
+ghost use Rattle.field_downgrade.specs.private.PlainSteps.{IsOneAtom, GiveComments};
+ghost use Rattle.field_downgrade.specs.Received.{is_atom_kind};
 
 use field_tokens::{
     Style, Token, TokenKind, is_blank, is_comment, read_tokens, squeezed, write_comment,
@@ -31,7 +32,7 @@ fn count_words(tokens: &[Token]) -> usize
 }
 
 fn are_atoms(tokens: &[Token]) -> bool
-    ensures { result ≡ list_all (λ (t : Token). is_blank_of t.kind || is_atom t.kind) tokens.now }
+    ensures { result ≡ list_all (λ (t : Token). is_blank_of t.kind || is_atom_kind t.kind) tokens.now }
 {
     tokens.iter().all(|token| is_blank(token.kind) || token.kind == TokenKind::Atom)
 }

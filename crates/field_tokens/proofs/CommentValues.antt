@@ -36,7 +36,7 @@ BodySays-once (Before text inner more) v w p q =
     let behind : p.2 ≡ q.2 = BodySays-once more p.2 q.2 p.5 q.5 in
     p.6 ∙ ap (λ us. units_then us (NestedThen p.1 p.2)) units ∙ ap (λ n. units_then q.0 n) (rw (nested, behind) refl) ∙ sym q.6
 
-one_body : (octets : List ℕ) (a b : Body) → IsBody a → IsBody b → octets ≡ comment_of a → octets ≡ comment_of b → a ≡ b
+pub one_body : (octets : List ℕ) (a b : Body) → IsBody a → IsBody b → octets ≡ comment_of a → octets ≡ comment_of b → a ≡ b
 one_body octets a b p q e f =
     let whole : 40 ∷ (body_octets a ++ 41 ∷ []) ≡ 40 ∷ (body_octets b ++ 41 ∷ []) = sym e ∙ f in
     (body_once a b [] [] p q (cc whole)).0

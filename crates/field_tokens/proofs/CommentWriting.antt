@@ -9,15 +9,16 @@ use Rattle.mail_wire.specs.Spans.{IsSpan}
 use Rattle.encoded_words.specs.CommentUnits.{TextItem, Plain, is_white_item, HasCommentUnits}
 use Rattle.encoded_words.specs.Words.{UnitValue}
 use Rattle.encoded_words.specs.Written.{AddsUnits}
+use Rattle.encoded_words.proofs.PlainItems.{plain_white}
+use Rattle.encoded_words.proofs.WritableUnits.{behind_ascii}
 use Rattle.field_tokens.specs.Trees.{spelling, Body, Last, Before, body_octets, IsBody, IsRun}
 use Rattle.field_tokens.specs.private.Bodies.{SplitsRun, body_depth}
 use Rattle.field_tokens.specs.Comments.{comment_of, HasRunOf, RunPieces, White, Run, WrappedPieces, BodyPieces, CommentPieces, AddsPieces}
 use Rattle.field_tokens.specs.private.CommentWriting.{IsCommentWithin, SplitsComment, BeginsComment, WritesText}
-use Rattle.field_tokens.proofs.Texts.{spelling-append, text_once, open_stops, close_stops, AreText-append, AreText-white, white_items}
+use Rattle.field_tokens.proofs.Texts.{spelling-append, text_once, open_stops, close_stops, AreText-append, AreText-white}
 use Rattle.field_tokens.proofs.BodyLemmas.{grouped, body_once}
 use Rattle.field_tokens.proofs.Runs.{lead_whole, run_some}
 use Rattle.field_tokens.proofs.Insides.{IsComment-of, comment_within}
-use Rattle.field_tokens.proofs.TokenLines.{behind_ascii}
 use Rattle.field_tokens.proofs.Utf8Cuts.{behind_white, behind_text, before_white, comment_utf8}
 
 -- The run of a text.
@@ -46,7 +47,7 @@ WritesText-none octets lead behind after len pieces span split none = record {
 }
   where
     blank : list_all is_white_item (map Plain lead ++ (split.run ++ split.trail)) ≡ true
-    blank = rw (no_run split.run len split.is_run split.len_is none, list_all-append is_white_item (map Plain lead) split.trail, white_items lead span.passes) split.trail_white
+    blank = rw (no_run split.run len split.is_run split.len_is none, list_all-append is_white_item (map Plain lead) split.trail, plain_white lead span.passes) split.trail_white
 
 -- the octets of the run
 pub run_octets : (behind after : List ℕ) (len : ℕ) → (split : SplitsRun behind len after) → take len behind ≡ spelling split.run
@@ -73,7 +74,7 @@ WritesText-some octets lead behind after run len old new span split some run_is 
 }
   where
     has : HasRunOf (map Plain lead ++ (split.run ++ split.trail)) split.run
-    has = record { lead = map Plain lead; trail = split.trail; lead_white = white_items lead span.passes; trail_white = split.trail_white; is_run = some_run split.run len split.is_run split.len_is some; whole = refl }
+    has = record { lead = map Plain lead; trail = split.trail; lead_white = plain_white lead span.passes; trail_white = split.trail_white; is_run = some_run split.run len split.is_run split.len_is some; whole = refl }
 
     pieces_are : RunPieces (list_all is_ascii (spelling split.run)) (spelling split.run) adds.pieces
     pieces_are = subst (λ r. RunPieces (list_all is_ascii r) r adds.pieces) (run_is ∙ run_octets behind after len split) adds.holds

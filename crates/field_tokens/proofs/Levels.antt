@@ -1,7 +1,7 @@
 -- What is left of groups that are open.
-use Rattle.std.proofs.Common.{◌≡◌, ◌≢◌, ℕ, suc, ◌+◌, ◌≤◌, true, false, List, [], ◌∷◌, ◌++◌, length, refl, sym, ap, ◌∙◌, arith, get_or, take, drop, ◌-◌}
+use Rattle.std.proofs.Common.{◌≡◌, ◌≢◌, ℕ, suc, ◌+◌, ◌≤◌, true, false, List, [], ◌∷◌, ◌++◌, length, refl, sym, ap, ◌∙◌, arith, ◌-◌}
 use Rattle.std.proofs.lemmas.Bool.{both_ways}
-use Rattle.std.proofs.lemmas.List.{append_assoc, length-append, take_rest}
+use Rattle.std.proofs.lemmas.List.{append_assoc, length-append}
 use Rattle.field_tokens.specs.Groups.{Inside, End, Plain, Pair, Nested, inside_octets, depth_of, may_stand, IsInside, AreMarks}
 use Rattle.field_tokens.specs.declared.groups.Marks.{Marks}
 use Rattle.field_tokens.specs.private.Levels.{Levels, Step, NeverCloses}
@@ -152,8 +152,3 @@ Step-at m d k e f rest same after p q r step = rw (p, q, r) step
 
 pub NeverCloses-at : (m : Marks) (d k : ℕ) (rest same : List ℕ) → d ≡ k → rest ≡ same → NeverCloses m k same → NeverCloses m d rest
 NeverCloses-at m d k rest same p r never = rw (p, r) never
-
--- a list by its first octet, as a slice pattern gives its parts
-pub first_is : (text : List ℕ) → 1 ≤ length text → text ≡ get_or text 0 0 ∷ take (length text - 1) (drop 1 text)
-first_is [] h = absurd (omega arith)
-first_is (b ∷ bs) h = ap (λ r. b ∷ r) (sym (take_rest (b ∷ bs) 1))

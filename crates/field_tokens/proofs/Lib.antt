@@ -18,5 +18,6 @@ pub mod Parts
 pub mod SqueezedValues
 pub mod TokenLines
 pub mod LinePieces
+pub mod PieceLemmas
 pub mod WrittenComments
 pub mod CommentValues

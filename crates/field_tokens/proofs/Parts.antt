@@ -2,6 +2,7 @@
 use Rattle.std.proofs.Common.{◌≡◌, ℕ, ◌<◌, Bool, true, false, not, cond, ◌&&◌, inl, inr, List, [], ◌∷◌, ◌++◌, length, map, filter, refl, sym, ap, ◌∙◌, subst, arith}
 use Rattle.std.proofs.lemmas.Bool.{cases_Bool, and_parts, not-true}
 use Rattle.std.proofs.lemmas.Bool.Decides.{nat_tests}
+use Rattle.std.proofs.lemmas.Grind.{flat_map-append}
 use Rattle.std.proofs.lemmas.List.{append_assoc, append-nil, length-append, map-append}
 use Rattle.std.proofs.lemmas.List.Elements.{filter-append}
 use Rattle.std.proofs.lemmas.List.Splits.{length-slice_split, slice_split-cons_yes}
@@ -205,6 +206,9 @@ pub comments_of-append : (a b : List TokenValue) → comments_of (a ++ b) ≡ co
 comments_of-append a b =
     let p : TokenValue → Bool = λ token. is_comment token.kind in
     ap (map (λ (token : TokenValue). token.octets)) (filter-append p a b) ∙ map-append (λ (token : TokenValue). token.octets) (filter p a) (filter p b)
+
+pub octets_of-append : (a b : List TokenValue) → octets_of (a ++ b) ≡ octets_of a ++ octets_of b
+octets_of-append a b = flat_map-append (λ (token : TokenValue). token.octets) a b
 
 pub words_of-append : (a b : List TokenValue) → words_of (a ++ b) ≡ words_of a ++ words_of b
 words_of-append a b = filter-append (λ (token : TokenValue). not (is_blank token.kind)) a b

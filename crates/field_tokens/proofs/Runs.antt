@@ -6,9 +6,10 @@ use Rattle.std.proofs.lemmas.List.Folds.{list_all-append}
 use Rattle.mail_wire.specs.Octets.{is_white}
 use Rattle.mail_wire.specs.Spans.{Stops, IsSpan}
 use Rattle.encoded_words.specs.CommentUnits.{TextItem, Plain, Pair, item_spelling, is_white_item}
+use Rattle.encoded_words.proofs.PlainItems.{plain_white}
 use Rattle.field_tokens.specs.Trees.{AreText, spelling, IsRun}
 use Rattle.field_tokens.specs.private.Bodies.{BeginsNoItem, BeginsItem, SplitsRun, SplitsText}
-use Rattle.field_tokens.proofs.Texts.{AreText-append, spelling-append, AreText-white, white_items, spelling-white, item_black}
+use Rattle.field_tokens.proofs.Texts.{AreText-append, spelling-append, AreText-white, spelling-white, item_black}
 
 -- the last item is not white
 abbrev pub EndsBlack : List TextItem → Type 0
@@ -63,7 +64,7 @@ RunsTo-end octets rest white next len stops r span none = record {
   run = r.run;
   trail = map Plain white;
   are_text = AreText-append r.run (map Plain white) r.are_text (AreText-white white span.passes);
-  trail_white = white_items white span.passes;
+  trail_white = plain_white white span.passes;
   is_run = run_is r.run octets rest stops r.whole r.ends;
   whole = with_white r.run white next octets rest r.whole span.whole;
   stops = none;
@@ -94,7 +95,7 @@ SplitsText-none end octets lead behind after len span split none = record {
 }
   where
     blank : (split.run ≡ []) ⊎ IsRun split.run → list_all is_white_item (map Plain lead ++ (split.run ++ split.trail)) ≡ true
-    blank (inl e) = rw (e, list_all-append is_white_item (map Plain lead) split.trail, white_items lead span.passes) split.trail_white
+    blank (inl e) = rw (e, list_all-append is_white_item (map Plain lead) split.trail, plain_white lead span.passes) split.trail_white
     blank (inr is) = absurd (omega (arith, run_some split.run is, split.len_is))
 
 pub SplitsText-some : (end : ℕ) (octets lead behind after : List ℕ) (len at : ℕ) → IsSpan is_white octets lead behind → SplitsRun behind len after → len ≢ 0 → length octets ≤ end → at ≡ end - length behind
@@ -108,7 +109,7 @@ SplitsText-some end octets lead behind after len at span split some bound at_is 
     lead = map Plain lead;
     run = split.run;
     trail = split.trail;
-    lead_white = white_items lead span.passes;
+    lead_white = plain_white lead span.passes;
     trail_white = split.trail_white;
     is_run = black split.is_run;
     whole = refl;

@@ -89,7 +89,7 @@ kept_no_gap Special e = refl
 kept_no_gap Gap e = cc e
 kept_no_gap Comment e = refl
 
-kept_split : (ts : List TokenValue) → AreKept ts → slice_split (λ (t : TokenValue). is_blank t.kind) ts ≡ ts ∷ []
+pub kept_split : (ts : List TokenValue) → AreKept ts → slice_split (λ (t : TokenValue). is_blank t.kind) ts ≡ ts ∷ []
 kept_split [] kept = refl
 kept_split (t ∷ ts) kept = rw (kept.0, kept_split ts kept.1) refl
 
@@ -97,7 +97,7 @@ kept_runs : (ts : List TokenValue) → 0 < length ts → AreKept ts → runs_of 
 kept_runs [] some kept = absurd (omega (arith, some))
 kept_runs (t ∷ ts) some kept = ap (filter is_there) (kept_split (t ∷ ts) kept)
 
-kept_comments : (ts : List TokenValue) → AreKept ts → comments_of ts ≡ []
+pub kept_comments : (ts : List TokenValue) → AreKept ts → comments_of ts ≡ []
 kept_comments [] kept = refl
 kept_comments (t ∷ ts) kept = rw (kept_no_comment t.kind kept.0) (kept_comments ts kept.1)
 
@@ -109,7 +109,7 @@ kept_begins : (ts : List TokenValue) → AreKept ts → BeginsNoGap ts
 kept_begins [] kept = tt
 kept_begins (t ∷ ts) kept = kept_no_gap t.kind kept.0
 
-kept_ends : (ts : List TokenValue) → AreKept ts → EndsNoGap ts
+pub kept_ends : (ts : List TokenValue) → AreKept ts → EndsNoGap ts
 kept_ends [] kept = tt
 kept_ends (t ∷ []) kept = kept_no_gap t.kind kept.0
 kept_ends (t ∷ u ∷ ts) kept = kept_ends (u ∷ ts) kept.1

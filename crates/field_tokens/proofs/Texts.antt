@@ -139,12 +139,6 @@ AreText-white (x ∷ white) all =
     let parts = and_parts (is_white x) (list_all is_white white) all in
     ((λ e. cc (ap is_white e ∙ refl, parts.0), λ e. cc (ap is_white e ∙ refl, parts.0), λ e. cc (ap is_white e ∙ refl, parts.0)), AreText-white white parts.1)
 
-pub white_items : (white : List ℕ) → list_all is_white white ≡ true → list_all is_white_item (map Plain white) ≡ true
-white_items [] all = refl
-white_items (x ∷ white) all =
-    let parts = and_parts (is_white x) (list_all is_white white) all in
-    rw (parts.0) (white_items white parts.1)
-
 pub spelling-white : (white : List ℕ) → spelling (map Plain white) ≡ white
 spelling-white [] = refl
 spelling-white (x ∷ white) = ap (λ r. x ∷ r) (spelling-white white)

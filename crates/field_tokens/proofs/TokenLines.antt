@@ -1,18 +1,18 @@
 -- The tokens of a line are lines, and so are its comments and its squeezed text.
-use Rattle.std.proofs.Common.{◌≡◌, ℕ, ◌<◌, Bool, true, false, cond, ◌&&◌, ltb, inl, inr, List, [], ◌∷◌, ◌++◌, length, map, filter, refl, sym, ap, ◌∙◌, subst, arith}
-use Rattle.std.proofs.lemmas.Bool.{and_parts, and_from, cases_Bool, lt-ltb}
+use Rattle.std.proofs.Common.{◌≡◌, ℕ, ◌<◌, Bool, true, false, cond, ◌&&◌, inl, inr, List, [], ◌∷◌, ◌++◌, map, filter, refl, sym, ap, ◌∙◌, subst, arith}
+use Rattle.std.proofs.lemmas.Bool.{and_parts, cases_Bool}
 use Rattle.std.proofs.lemmas.Bool.Decides.{nat_tests}
-use Rattle.std.proofs.lemmas.List.{append_assoc, append-nil, length-append, take_at, drop_at}
+use Rattle.std.proofs.lemmas.List.{append-nil}
 use Rattle.std.proofs.lemmas.List.Folds.{list_all-append}
-use Rattle.std.proofs.lemmas.Str.{IsUtf8-nil, IsUtf8-take, IsUtf8-drop, IsUtf8-append, IsUtf8-from_ascii, IsCharBoundary-before_ascii, IsCharBoundary-after_ascii}
-use Rattle.std.proofs.Math.Seq.{get_or-append_seam}
+use Rattle.std.proofs.lemmas.Str.{IsUtf8-nil, IsUtf8-append, IsUtf8-from_ascii}
 use Rattle.std.specs.List.{AllByRecursion, list_all, join_with_byte, slice_split, onto_first}
-use Rattle.std.specs.Str.{IsUtf8, IsCharBoundary}
+use Rattle.std.specs.Str.{IsUtf8}
 use Rattle.encoded_words.proofs.BWords.{ascii_literal}
 use Rattle.mail_wire.specs.Octets.{is_white, is_ascii}
 use Rattle.mail_wire.specs.Spans.{Stops}
 use Rattle.mail_wire.proofs.AllLemmas.{all-append, pass-append}
 use Rattle.mail_wire.proofs.OctetLemmas.{white_below}
+use Rattle.encoded_words.proofs.WritableUnits.{all_ascii, ends_ascii, before_ascii, BeginsAscii, BothUtf8}
 use Rattle.field_tokens.specs.declared.Style.{Style}
 use Rattle.field_tokens.specs.declared.Style.TheVariants.{Mail, Mime}
 use Rattle.field_tokens.specs.declared.TokenKind.{TokenKind}
@@ -24,46 +24,6 @@ use Rattle.field_tokens.specs.Tokens.{comment_marks, quoted_marks, literal_marks
 use Rattle.field_tokens.specs.Squeezed.{is_blank, is_there, squeezed_text, runs_of, octets_of, squeezed_values, is_comment, comments_of, words_of, apart}
 use Rattle.field_tokens.specs.Comments.{AreWritableComments}
 use Rattle.field_tokens.proofs.SqueezedValues.{squeezed_text-values, runs_and, squeezed_and, IsSqueezedAgain, squeezed_again}
-
--- UTF-8 is cut beside ASCII octets
-pub record BothUtf8 (a b : List ℕ) : Type 0 where
-  pub front : IsUtf8 a
-  pub rest : IsUtf8 b
-
-cut_utf8 : (a b : List ℕ) → IsUtf8 (a ++ b) → IsCharBoundary (a ++ b) (length a) → BothUtf8 a b
-cut_utf8 a b u cut = record {
-  front = rw (take_at a b (length a) refl) at (IsUtf8-take (a ++ b) (length a) u cut);
-  rest = rw (drop_at a b (length a) refl) at (IsUtf8-drop (a ++ b) (length a) u cut);
-}
-
-abbrev pub BeginsAscii : List ℕ → Type 0
-BeginsAscii [] = Unit {0}
-BeginsAscii (x ∷ xs) = x < 128
-
-pub before_ascii : (a b : List ℕ) → BeginsAscii b → IsUtf8 (a ++ b) → BothUtf8 a b
-before_ascii a [] ascii u = record { front = rw append-nil at u; rest = IsUtf8-nil }
-before_ascii a (x ∷ b) ascii u =
-    cut_utf8 a (x ∷ b) u (IsCharBoundary-before_ascii (a ++ x ∷ b) (length a) (omega (arith, length-append a (x ∷ b))) (rw (get_or-append_seam a x b 0) ascii))
-
-pub behind_ascii : (x : ℕ) (b : List ℕ) → x < 128 → IsUtf8 (x ∷ b) → IsUtf8 b
-behind_ascii x b ascii u = (cut_utf8 (x ∷ []) b u (IsCharBoundary-after_ascii (x ∷ b) 0 u (omega arith) ascii)).rest
-
-pub one_ascii : (x : ℕ) → x < 128 → IsUtf8 (x ∷ [])
-one_ascii x h = IsUtf8-from_ascii (x ∷ []) (ascii_literal (x ∷ []) (and_from (ltb x 128) true (lt-ltb x 128 h) refl))
-
--- an ASCII octet ends the front
-pub ends_ascii : (a : List ℕ) (x : ℕ) (rest : List ℕ) → x < 128 → IsUtf8 ((a ++ x ∷ []) ++ rest) → BothUtf8 (a ++ x ∷ []) rest
-ends_ascii a x rest ascii u =
-    let cut = before_ascii a (x ∷ rest) ascii (rw (append_assoc a (x ∷ []) rest) at u) in
-    record { front = IsUtf8-append a (x ∷ []) cut.front (one_ascii x ascii); rest = behind_ascii x rest ascii cut.rest }
-
--- a front of ASCII octets
-pub all_ascii : (p : ℕ → Bool) → ((x : ℕ) → p x ≡ true → x < 128) → (a rest : List ℕ) → list_all p a ≡ true → IsUtf8 (a ++ rest) → BothUtf8 a rest
-all_ascii p small [] rest h u = record { front = IsUtf8-nil; rest = u }
-all_ascii p small (x ∷ a) rest h u =
-    let parts = and_parts (p x) (list_all p a) h in
-    let more = all_ascii p small a rest parts.1 (behind_ascii x (a ++ rest) (small x parts.0) u) in
-    record { front = IsUtf8-append (x ∷ []) a (one_ascii x (small x parts.0)) more.front; rest = more.rest }
 
 special_ascii : (style : Style) (x : ℕ) → is_special style x ≡ true → x < 128
 special_ascii Mail x h = grind (arith, nat_tests)
@@ -159,7 +119,7 @@ joined_line (piece ∷ []) all = all.0
 joined_line (piece ∷ next ∷ pieces) all =
     line_append piece (32 ∷ join_with_byte 32 (next ∷ pieces)) all.0 (line_append (32 ∷ []) (join_with_byte 32 (next ∷ pieces)) (ascii_line (32 ∷ []) refl refl) (joined_line (next ∷ pieces) all.1))
 
-run_line : (run : List TokenValue) → AreLineTokens run → IsLine (octets_of run)
+pub run_line : (run : List TokenValue) → AreLineTokens run → IsLine (octets_of run)
 run_line [] all = line_none
 run_line (t ∷ run) all = line_append t.octets (octets_of run) all.0 (run_line run all.1)
 

@@ -3,12 +3,12 @@ use Rattle.std.proofs.Common.{◌≡◌, ℕ, ◌+◌, ◌-◌, ◌<◌, List, [
 use Rattle.std.specs.List.{flat_map}
 use Rattle.std.proofs.lemmas.Grind.{flat_map-append}
 use Rattle.std.proofs.lemmas.List.{append_assoc, append-nil, append_cancel_right, length-append, nil_from_length}
+use Rattle.encoded_words.proofs.QText.{first_is}
 use Rattle.field_tokens.specs.declared.Style.{Style}
 use Rattle.field_tokens.specs.declared.TokenKind.{TokenKind}
 use Rattle.field_tokens.specs.declared.TokenKind.TheVariants.{Atom, Quoted, Literal, Special, Gap, Comment}
 use Rattle.field_tokens.specs.declared.Token.{Token}
 use Rattle.field_tokens.specs.Tokens.{IsToken, BeginsWith, TokenValue, AreTokens, tokens_from, IsLine, HasTokens}
-use Rattle.field_tokens.proofs.Levels.{first_is}
 use Rattle.field_tokens.proofs.TokenLemmas.{token_once}
 
 abbrev value : TokenKind → List ℕ → TokenValue

@@ -7,11 +7,11 @@ use Rattle.std.specs.Str.{IsUtf8}
 use Rattle.mail_wire.specs.Octets.{is_white}
 use Rattle.mail_wire.proofs.OctetLemmas.{white_below}
 use Rattle.encoded_words.specs.CommentUnits.{TextItem, Plain, Pair, is_white_item}
+use Rattle.encoded_words.proofs.WritableUnits.{ends_ascii, behind_ascii, before_ascii, BeginsAscii, BothUtf8}
 use Rattle.field_tokens.specs.Trees.{spelling, Body, Before, body_octets}
 use Rattle.field_tokens.specs.private.Bodies.{BeginsNoItem}
 use Rattle.field_tokens.specs.Comments.{HasRunOf, comment_of}
 use Rattle.field_tokens.proofs.Texts.{spelling-append}
-use Rattle.field_tokens.proofs.TokenLines.{BothUtf8, BeginsAscii, before_ascii, behind_ascii, ends_ascii}
 
 -- what follows white
 pub behind_white : (white rest : List ℕ) → list_all is_white white ≡ true → IsUtf8 (white ++ rest) → IsUtf8 rest

@@ -1,6 +1,6 @@
 -- Comments that are written are read back.
 use Rattle.std.proofs.Common.{◌≡◌, ◌==◌, ℕ, ◌<◌, ◌≤◌, Bool, true, false, ◌||◌, not, ◌≢◌, List, [], ◌∷◌, ◌++◌, length, map, Option, Some, None, refl, sym, ap, ◌∙◌, subst, arith}
-use Rattle.std.proofs.lemmas.Bool.{and_parts}
+use Rattle.std.proofs.lemmas.Bool.{and_parts, or_left}
 use Rattle.std.proofs.lemmas.Bool.Decides.{nat_tests}
 use Rattle.std.proofs.lemmas.List.{append_assoc, append-nil, map-append, length-append}
 use Rattle.std.specs.List.{AllByRecursion, list_all, join_with_byte}
@@ -21,10 +21,10 @@ use Rattle.field_tokens.specs.Trees.{StandsInText, AreText, spelling, Body, Last
 use Rattle.field_tokens.specs.private.Bodies.{body_depth}
 use Rattle.field_tokens.specs.Comments.{IsComment, CommentValue, TextSays, BodySays, comment_of, CommentSays, RunPieces, TextPieces, White, Run, WrappedPieces, BodyPieces, CommentPieces, CommentsSay, CommentsPieces, AreWritableComments, IsWritten, IsAsciiComment, AreWritten}
 use Rattle.field_tokens.proofs.Texts.{AreText-append, spelling-append, HasRunOf-once, HasRunOf-black}
-use Rattle.field_tokens.proofs.BodyLemmas.{body_once}
 use Rattle.field_tokens.proofs.Insides.{IsComment-of, comment_within}
 use Rattle.field_tokens.proofs.Utf8Cuts.{body_utf8, run_of_utf8, inside_utf8}
 use Rattle.field_tokens.proofs.LinePieces.{AreTextItems-text, run_text, run_plain, HoldsPiece, CommentPieces-hold, CommentPieces-there}
+use Rattle.field_tokens.proofs.CommentValues.{one_body}
 
 -- each piece with a space before it
 abbrev spaced : List (List ℕ) → List ℕ
@@ -62,10 +62,6 @@ octets_text (x ∷ xs) all =
 all_weaker : (q : ℕ → Bool) → ((x : ℕ) → is_plain x ≡ true → q x ≡ true) → (pieces : List (List ℕ)) → AllByRecursion IsPlainPiece pieces → AllByRecursion (λ w. list_all q w ≡ true) pieces
 all_weaker q imp [] all = tt
 all_weaker q imp (w ∷ ws) all = (pass-weaker is_plain q imp w all.0.plain, all_weaker q imp ws all.1)
-
-or_left : (a b : Bool) → a ≡ true → (a || b) ≡ true
-or_left true b h = refl
-or_left false b h = cc h
 
 -- the last octet is not white
 record EndsBlack (octets : List ℕ) : Type 0 where
@@ -218,19 +214,13 @@ any_octets : (xs : List ℕ) → list_all (λ x. true) xs ≡ true
 any_octets [] = refl
 any_octets (x ∷ xs) = any_octets xs
 
--- one body is a comment's
-same_body : (octets : List ℕ) (a b : Body) → IsBody a → IsBody b → octets ≡ comment_of a → octets ≡ comment_of b → a ≡ b
-same_body octets a b p q e f =
-    let whole : 40 ∷ (body_octets a ++ 41 ∷ []) ≡ 40 ∷ (body_octets b ++ 41 ∷ []) = sym e ∙ f in
-    (body_once a b [] [] p q (cc whole)).0
-
 written : (b : Bool) (octets : List ℕ) (value : CommentValue) (pieces : List (List ℕ)) → IsUtf8 octets → IsComment octets → CommentSays octets value → list_all is_ascii octets ≡ b → (p : CommentPieces octets pieces)
     → WrappedPieces b octets (BodyPieces p.body) pieces → list_all is_ascii (join_with_byte 32 pieces) ≡ true → IsWritten value pieces
 written true octets value pieces u is says e p given ascii = record { is_comment = rw given is; says = rw given says; ascii = ascii }
 written false octets value pieces u is says e p given ascii =
     let c = comment_within octets is in
-    let depth : body_depth p.body < 64 = subst (λ b. body_depth b < 64) (same_body octets c.body p.body c.is_body p.is_body c.spelled p.spelled) c.shallow in
-    let said : BodySays p.body value = subst (λ b. BodySays b value) (same_body octets says.body p.body says.is_body p.is_body says.spelled p.spelled) says.says in
+    let depth : body_depth p.body < 64 = subst (λ b. body_depth b < 64) (one_body octets c.body p.body c.is_body p.is_body c.spelled p.spelled) c.shallow in
+    let said : BodySays p.body value = subst (λ b. BodySays b value) (one_body octets says.body p.body says.is_body p.is_body says.spelled p.spelled) says.says in
     let s = body_spaced p.body given.0 value p.is_body (inside_utf8 p.body (subst IsUtf8 p.spelled u)) given.1 said in
     let joined : join_with_byte 32 pieces ≡ comment_of s.body
     = ap (join_with_byte 32) given.2 ∙ joined-spaced (40 ∷ []) (given.0 ++ (41 ∷ []) ∷ []) ∙ ap (λ r. 40 ∷ r) (between given.0 ∙ ap (λ r. r ++ 41 ∷ []) (sym s.spelled)) in

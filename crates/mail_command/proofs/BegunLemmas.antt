@@ -1,5 +1,5 @@
 -- What the keeper of a session holds that was broken off.
-use Rattle.std.proofs.Common.{◌≡◌, ℕ, List, [], ◌++◌, length, Option, Some, None, sym, ap, subst, ◌∙◌, append_assoc, append-nil, arith, inl, inr}
+use Rattle.std.proofs.Common.{◌≡◌, ℕ, List, [], ◌++◌, length, Option, Some, None, sym, ap, subst, ◌∙◌, append_assoc, append-nil, arith}
 use Rattle.std.specs.Prelude.{IfSome, min}
 use Rattle.std.proofs.lemmas.List.{take_min, take-append-le}
 use Rattle.std.proofs.Math.Seq.{take-append_seam}
@@ -13,19 +13,13 @@ use Rattle.mail_store.specs.Answers.{OpensTo}
 use Rattle.mail_store.specs.Changing.{IsStoreOf, HoldsFirst}
 use Rattle.session_core.specs.Done.{StopsIn, FailsIn, IsDone}
 use Rattle.mail_store.specs.Following.{records_of, Follows}
-use Rattle.mail_store.specs.Kept.{nothing}
-use Rattle.mail_store.specs.Opening.{HasRecords}
-use Rattle.mail_store.specs.Records.{AreRecords}
 use Rattle.journal_records.specs.Spelling.{journal}
 use Rattle.mail_store.specs.StoreState.{StoreState}
 use Rattle.session_core.proofs.DoneLemmas.{records_in-append}
 use Rattle.mail_store.proofs.FollowLemmas.{followed, broken}
+use Rattle.mail_store.proofs.ReplayLemmas.{whole_journal}
 use Rattle.setup_command.proofs.AddingLemmas.{records_had, opened_store}
 use Rattle.setup_command.specs.Running.{HoldsBegun}
-
--- a journal has its records
-journal_has : (all : List Record) → AreRecords nothing all → HasRecords (journal all) all
-journal_has all such = inr ([], record { text = sym (append-nil (journal all)); records = such }, inl (omega arith))
 
 -- the keeper of a store has the first of whatever records begin with those that were put last
 HoldsFirst-made : (store : StoreState) (octets : Option (List ℕ)) (all made left : List Record) → IsStoreOf store octets (all ++ made) → HoldsFirst octets all (made ++ left)
@@ -33,7 +27,7 @@ HoldsFirst-made store octets all made left is = record {
   kept = journal (all ++ made);
   count = length made;
   holds = is.holds;
-  records = rw (take-append_seam made left) (journal_has (all ++ made) is.records);
+  records = rw (take-append_seam made left) (whole_journal (all ++ made) is.records);
 }
 
 -- the first of the front of some records are the first of all of them

@@ -9,7 +9,7 @@ use Rattle.std.proofs.lemmas.Grind.{flat_map-append}
 use Rattle.std.proofs.lemmas.List.{take_more, length-map}
 use Rattle.std.proofs.lemmas.List.Elements.{All-head, All-tail, All-map}
 use Rattle.std.proofs.lemmas.Option.{slice_get-get_or}
-use Rattle.std.proofs.lemmas.Bool.{ltb-false, cases_Bool, ne_eqb}
+use Rattle.std.proofs.lemmas.Bool.{ltb-false, cases_Bool, ne_eqb, or_parts}
 use Rattle.address_grammar.proofs.WritingLemmas.{path_again}
 use Rattle.mail_store.specs.declared.kept.Message.{Message}
 use Rattle.journal_records.specs.declared.records.Record.{Record}
@@ -26,7 +26,6 @@ use Rattle.journal_records.specs.Stored.{IsStored}
 use Rattle.mail_store.specs.StoreState.{StoreState, Indexes, AreIndexes}
 use Rattle.journal_records.specs.declared.limits.TheConstants.{TEXT_MAX, RECORD_MAX}
 use Rattle.mail_store.specs.declared.limits.TheConstants.{THINGS_MAX, MESSAGE_MAX, RECIPIENTS_MAX}
-use Rattle.mail_store.proofs.AccountLemmas.{or_parts}
 use Rattle.mail_store.proofs.ChangeLemmas.{has_room}
 use Rattle.mail_store.proofs.IndexLemmas.{first_folder_within}
 use Rattle.mail_store.specs.declared.delivery.Delivery.{Delivery}

@@ -5,7 +5,7 @@ use Rattle.std.specs.Prelude.{IfSome}
 use Rattle.std.specs.Option.{option_to_list, option_and_then}
 use Rattle.std.proofs.lemmas.List.{length-map}
 use Rattle.std.proofs.lemmas.List.Elements.{All-map}
-use Rattle.std.proofs.lemmas.Bool.{cases_Bool, ne_eqb}
+use Rattle.std.proofs.lemmas.Bool.{cases_Bool, ne_eqb, or_parts, false≢true}
 use Rattle.address_grammar.specs.Addresses.{address_text}
 use Rattle.mail_wire.specs.Keeping.{with_last}
 use Rattle.mail_store.specs.declared.contents.Content.{Content}
@@ -24,15 +24,11 @@ use Rattle.mail_store.specs.Records.{AreRecords, IsInOrder, recipient_count}
 use Rattle.journal_records.specs.Spelling.{record_text}
 use Rattle.journal_records.specs.Stored.{IsStored}
 use Rattle.mail_store.specs.StoreState.{StoreState, with_records, Indexes, AreIndexes}
-use Rattle.mail_store.proofs.AccountLemmas.{or_parts}
 use Rattle.mail_store.proofs.ChangeLemmas.{after_all-append, with_nothing}
 use Rattle.mail_store.proofs.DeliveryLemmas.{after-copies, copies_few, queue-room}
 use Rattle.mail_store.proofs.IndexLemmas.{AreIndexes-messages, AreIndexes-entry}
 
 -- ---- where nothing is written
-
-false_true : false ≡ true → ⊥
-false_true e = cc
 
 none_for : (kept : Kept) (date octets local : List ℕ) (none : Bool) (one : Record) → (eqb (length local) 0 && none) ≡ true
     → map (copy_for date octets) (inboxes_of kept local) ++ cond none [] (one ∷ []) ≡ []
@@ -40,7 +36,7 @@ none_for kept date octets [] true one e = refl
 none_for kept date octets [] false one e = absurd cc
 none_for kept date octets (x ∷ local) none one e =
     let some : eqb (length (x ∷ local)) 0 ≡ false = ne_eqb (suc (length local)) 0 (λ e. omega (arith, e)) in
-    absurd (false_true (rw some at e))
+    absurd (false≢true (rw some at e))
 
 for_none : (kept : Kept) (date octets local : List ℕ) (none : Bool) (one : Record) → map (copy_for date octets) (inboxes_of kept local) ++ cond none [] (one ∷ []) ≡ []
     → (eqb (length local) 0 && none) ≡ true

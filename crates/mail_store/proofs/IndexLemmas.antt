@@ -7,7 +7,7 @@ use Rattle.std.specs.Str.{bytes_eq}
 use Rattle.std.proofs.lemmas.List.Elements.{All-push, All-append, All-from_recursion, recursion_from_All}
 use Rattle.std.proofs.lemmas.List.Sums.{sum_by-cons, sum_by_push}
 use Rattle.std.proofs.lemmas.Bool.{cases_Bool, cases_eq, ne_eqb}
-use Rattle.std.proofs.lemmas.Option.{slice_get_past, slice_get-get_or}
+use Rattle.std.proofs.lemmas.Option.{slice_get_past, slice_get-get_or, same_Some, none-some}
 use Rattle.address_grammar.specs.declared.Address.{Address}
 use Rattle.address_grammar.specs.Paths.{HasPath, IsReading, ReadsPaths, in_angles}
 use Rattle.address_grammar.proofs.PathLemmas.{HasPath-once}
@@ -27,12 +27,6 @@ use Rattle.mail_store.specs.StoreState.{Indexes, AreIndexes}
 use Rattle.mail_store.proofs.ChainLemmas.{AreChained-folder, AreChained-same}
 use Rattle.mail_store.proofs.SameMessages.{AreSameMessages, length-same, stored-same, length-change_at}
 
-no_none : (i : ℕ) → None ≡ Some i → ⊥
-no_none i e = cc
-
-some_number : (a b : ℕ) → Some a ≡ Some b → a ≡ b
-some_number a b e = cc
-
 no_some : (i : ℕ) → Some i ≡ None → ⊥
 no_some i e = cc
 
@@ -40,7 +34,7 @@ no_some i e = cc
 
 -- a folder of an account that has one already
 pub first_folder-push_found : (account at : ℕ) (fs : List Folder) (x : Folder) (i : ℕ) → first_folder account at fs ≡ Some i → first_folder account at (fs ++ x ∷ []) ≡ Some i
-first_folder-push_found account at [] x i e = absurd (no_none i e)
+first_folder-push_found account at [] x i e = absurd (none-some i e)
 first_folder-push_found account at (f ∷ fs) x i e =
     elim (cases_Bool (eqb f.account account)) [
       | inl same ↦ rw same (rw same at e)
@@ -66,11 +60,11 @@ first_folder-push_other account at [] x other = rw other refl
 first_folder-push_other account at (f ∷ fs) x other = ap (λ (o : Option ℕ). cond (eqb f.account account) (Some at) o) (first_folder-push_other account (at + 1) fs x other)
 
 pub first_folder_within : (account at : ℕ) (fs : List Folder) (i : ℕ) → first_folder account at fs ≡ Some i → i < at + length fs
-first_folder_within account at [] i e = absurd (no_none i e)
+first_folder_within account at [] i e = absurd (none-some i e)
 first_folder_within account at (f ∷ fs) i e =
     elim (cases_Bool (eqb f.account account)) [
       | inl same ↦
-          let is : at ≡ i = some_number at i (rw same at e) in
+          let is : at ≡ i = same_Some at i (rw same at e) in
           omega (arith, is)
       | inr other ↦
           let ih = first_folder_within account (at + 1) fs i (rw other at e) in

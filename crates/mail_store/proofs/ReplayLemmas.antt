@@ -100,7 +100,7 @@ told_fault (Some octets) at n first store faults.Memory s w f = tt
 
 -- ---- after the repair
 
-whole_journal : (all : List Record) → AreRecords nothing all → HasRecords (journal all) all
+pub whole_journal : (all : List Record) → AreRecords nothing all → HasRecords (journal all) all
 whole_journal all records = inr ([], record { text = sym (append-nil (journal all)); records = records }, inl (omega arith))
 
 -- a prefix of an empty journal has no records

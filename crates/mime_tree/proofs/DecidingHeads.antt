@@ -1,19 +1,11 @@
 -- Whether lines begin with a head is decided.
-use Rattle.std.proofs.Common.{◌⊎◌, inl, inr, ℕ, ◌+◌, List, length, take, drop, refl, arith}
-use Rattle.utf8_fields.specs.declared.block.Block.{Block}
+use Rattle.std.proofs.Common.{inl, inr, ℕ, ◌+◌, List, length, take, drop, refl, arith}
 use Rattle.utf8_fields.proofs.DecidingBlocks.{Decided, decide_in}
 use Rattle.mime_tree.specs.Parts.{size}
-use Rattle.mime_tree.specs.Tree.{HasHead}
-
--- the head of lines
-pub record SomeHead (at : ℕ) (lines : List (List ℕ)) : Type 0 where
-  pub block : Block
-  pub body : ℕ
-  pub content : List (List ℕ)
-  pub head : HasHead at lines block body content
+use Rattle.mime_tree.specs.Faults.{HasSoundHead}
 
 -- lines have a head, or none
-pub decide_head : (at : ℕ) (lines : List (List ℕ)) → Decided (SomeHead at lines)
+pub decide_head : (at : ℕ) (lines : List (List ℕ)) → Decided (HasSoundHead at lines)
 decide_head at lines = elim (decide_in (length lines) lines at (omega arith)) [
   | inl some ↦ inl (record {
     block = record { fields = some.fields; end = some.end };

@@ -10,12 +10,13 @@ use Rattle.mime_tree.specs.declared.openings.Opening.TheVariants.{Nothing, Messa
 use Rattle.mime_tree.specs.Openings.{Opens}
 use Rattle.mime_tree.specs.Parts.{Part, parts_of, size}
 use Rattle.mime_tree.specs.Tree.{IsWithInner, EntityRelation, AreParts, IsDivided, IsOpened, IsEntity, HasTree, raws_of, depth_max}
-use Rattle.mime_tree.proofs.DecidingHeads.{SomeHead, decide_head}
+use Rattle.mime_tree.proofs.DecidingHeads.{decide_head}
 use Rattle.mime_tree.proofs.DecidingOpenings.{some_opening, raws_within}
 use Rattle.mime_tree.proofs.FieldsWithin.{head_within}
 use Rattle.mime_tree.proofs.LinesWithin.{AreLinesAt, ArePartsAt, all_lines, parts_of_at}
 use Rattle.mime_tree.proofs.OneOpening.{one_opening}
 use Rattle.mime_tree.proofs.OneTree.{IsOnce, same_head, same_entity}
+use Rattle.mime_tree.specs.Faults.{HasSoundHead}
 
 -- there is a list of entities of which this holds, or there is none
 abbrev Found : (List Entity → Type 0) → Type 0
@@ -75,7 +76,7 @@ decide_opened octets IsOne decides once (Parts boundary digest) number body cont
     ]
 
 -- the entity with this head, and those in it
-with_inner : (parent : Option ℕ) (depth at : ℕ) (lines : List (List ℕ)) (some : SomeHead at lines) (shape : Shape) (inner : List Entity)
+with_inner : (parent : Option ℕ) (depth at : ℕ) (lines : List (List ℕ)) (some : HasSoundHead at lines) (shape : Shape) (inner : List Entity)
     → (entities : List Entity) × IsWithInner parent depth at lines entities
 with_inner parent depth at lines some shape inner =
     let entity : Entity = record { parent = parent; depth = depth; at = at; body = some.body; end = at + size lines; shape = shape; block = some.block } in (
@@ -83,7 +84,7 @@ with_inner parent depth at lines some shape inner =
       record { entity = entity; content = some.content; inner = inner; entities_are = refl; head = some.head; parent_is = refl; depth_is = refl; at_is = refl; end_is = refl },
     )
 
-head_of : (parent : Option ℕ) (depth at : ℕ) (lines : List (List ℕ)) (entities : List Entity) → IsWithInner parent depth at lines entities → SomeHead at lines
+head_of : (parent : Option ℕ) (depth at : ℕ) (lines : List (List ℕ)) (entities : List Entity) → IsWithInner parent depth at lines entities → HasSoundHead at lines
 head_of parent depth at lines entities is = record { block = is.entity.block; body = is.entity.body; content = is.content; head = is.head }
 
 -- the entities of an entity that may be opened

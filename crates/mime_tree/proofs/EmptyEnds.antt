@@ -138,7 +138,7 @@ less_on_by b at passed line rest true delimiter h i next on = rw (parts_on-close
 less_on_by b at passed line rest false true h i next on = rw (parts_on-delimiter b at passed line rest h i, parts_on-delimiter b at passed line (with_empty rest) h i) (refl, inl refl, next)
 less_on_by b at passed line rest false false h i next on = rw (parts_on-on b at passed line rest h i, parts_on-on b at passed line (with_empty rest) h i) on
 
-empty_no_close : (b : List ℕ) → is_close b [] ≡ false
+pub empty_no_close : (b : List ℕ) → is_close b [] ≡ false
 unfolding is_close text_of
 empty_no_close b = refl
 

@@ -4,6 +4,7 @@ use Rattle.std.specs.List.{All, concat}
 use Rattle.std.proofs.lemmas.List.Elements.{All-head, All-tail}
 use Rattle.std.proofs.lemmas.List.Folds.{concat-append}
 use Rattle.mail_wire.specs.Lines.{crlf}
+use Rattle.mail_wire.proofs.AllLemmas.{all-append}
 use Rattle.utf8_fields.specs.declared.block.Field.{Field}
 use Rattle.utf8_fields.specs.declared.block.Block.{Block}
 use Rattle.utf8_fields.specs.Lines.{BeginsField, BeginsWhite}
@@ -13,11 +14,13 @@ use Rattle.mime_tree.specs.declared.entity.Shape.{Shape}
 use Rattle.mime_tree.specs.declared.entity.Shape.TheVariants.{Multipart}
 use Rattle.mime_tree.specs.declared.openings.Opening.{Opening}
 use Rattle.mime_tree.specs.declared.openings.Opening.TheVariants.{Nothing, Message, Parts}
-use Rattle.mime_tree.specs.Marks.{text_of, is_delimiter, is_close}
+use Rattle.mime_tree.specs.Marks.{is_delimiter, is_close}
 use Rattle.mime_tree.specs.Parts.{Part, parts_on, parts_of, size, cut_last}
 use Rattle.mime_tree.specs.Tree.{HasHead, IsWithInner, EntityRelation, AreParts, IsDivided, IsOpened, IsEntity, depth_max}
 use Rattle.mime_tree.proofs.PartLemmas.{parts_of-delimiter, parts_of-on, parts_on-close, parts_on-delimiter, parts_on-on}
-use Rattle.mime_tree.proofs.EndedLines.{IsFilled, AreFilled, all_append}
+use Rattle.mime_tree.proofs.EndedLines.{IsFilled, AreFilled}
+use Rattle.mime_tree.proofs.EmptyEnds.{empty_no_delimiter, empty_no_close}
+use Rattle.mime_tree.proofs.NextParts.{no_parts}
 
 -- the lines of fields aren't empty
 begins_filled : (name line : List ℕ) → BeginsField name line → IsFilled line
@@ -37,7 +40,7 @@ further_filled (line ∷ more) white = (white_filled line (All-head BeginsWhite 
 fields_filled : (lines : List (List ℕ)) (at : ℕ) (fields : List Field) (end : ℕ) → AreFields lines at fields end → AreFilled lines
 fields_filled lines at [] end are = rw are.0 tt
 fields_filled lines at (field ∷ fields) end are =
-    rw are.3 (all_append IsFilled (are.0 ∷ are.1) are.2 (begins_filled (take field.name.len are.0) are.0 are.4.begins, further_filled are.1 are.4.further) (fields_filled are.2 (at + field.raw.len) fields end are.5))
+    rw are.3 (all-append IsFilled (are.0 ∷ are.1) are.2 (begins_filled (take field.name.len are.0) are.0 are.4.begins, further_filled are.1 are.4.further) (fields_filled are.2 (at + field.raw.len) fields end are.5))
 
 -- The empty line is the last of those that follow the block's empty line.
 record FollowsBlock (header rest front : List (List ℕ)) : Type 0 where
@@ -118,21 +121,9 @@ abbrev DropsEmpty : EntityRelation → Type 0
 DropsEmpty IsOne = (parent : Option ℕ) (digest : Bool) (number at : ℕ) (front : List (List ℕ)) (entities : List Entity) → IsOne parent digest number at (front ++ [] ∷ []) entities
     → IsOne parent digest number at front entities
 
-empty_no_delimiter : (b : List ℕ) → is_delimiter b [] ≡ false
-unfolding is_delimiter text_of
-empty_no_delimiter b = refl
-
-empty_no_close : (b : List ℕ) → is_close b [] ≡ false
-unfolding is_close text_of
-empty_no_close b = refl
-
 pub parts_on-end : (b : List ℕ) (at : ℕ) (passed : List (List ℕ)) → parts_on b at passed [] ≡ record { at = at; lines = passed } ∷ []
 unfolding parts_on
 parts_on-end b at passed = refl
-
-pub parts_of-end : (b : List ℕ) (at : ℕ) → parts_of b at [] ≡ []
-unfolding parts_of
-parts_of-end b at = refl
 
 on_by : (IsOne : EntityRelation) → DropsEmpty IsOne → (b : List ℕ) (parent : Option ℕ) (digest : Bool) (number at : ℕ) (passed : List (List ℕ)) (line : List ℕ) (rest : List (List ℕ)) (entities : List Entity) (close delimiter : Bool)
     → is_close b line ≡ close → is_delimiter b line ≡ delimiter
@@ -190,8 +181,8 @@ of_by IsOne drops b digest number at line rest shape inner false delimiter_is ne
 parts_of-empty : (IsOne : EntityRelation) → DropsEmpty IsOne → (b : List ℕ) (digest : Bool) (number : ℕ) (shape : Shape) (inner : List Entity) (front : List (List ℕ)) (at : ℕ)
     → IsDivided IsOne digest number (parts_of b at (front ++ [] ∷ [])) shape inner → IsDivided IsOne digest number (parts_of b at front) shape inner
 parts_of-empty IsOne drops b digest number shape inner [] at is =
-    let none : parts_of b at ([] ∷ []) ≡ [] = parts_of-on b at [] [] (empty_no_delimiter b) ∙ parts_of-end b (at + 0) in
-    rw (parts_of-end b at) (rw none at is)
+    let none : parts_of b at ([] ∷ []) ≡ [] = parts_of-on b at [] [] (empty_no_delimiter b) ∙ no_parts b (at + 0) in
+    rw (no_parts b at) (rw none at is)
 parts_of-empty IsOne drops b digest number shape inner (line ∷ front) at is =
     of_by IsOne drops b digest number at line front shape inner (is_delimiter b line) refl (parts_of-empty IsOne drops b digest number shape inner front) is
 

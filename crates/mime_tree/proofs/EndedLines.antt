@@ -1,29 +1,17 @@
 -- Lines whose last CRLF is taken away, or put back.
-use Rattle.std.proofs.Common.{◌≡◌, ℕ, zero, suc, ◌+◌, ◌<◌, ◌⊎◌, inl, inr, List, [], ◌∷◌, ◌++◌, length, Bool, true, false, ◌&&◌, arith, refl, sym, ap, ◌∙◌, Some, append-nil, append_assoc}
+use Rattle.std.proofs.Common.{◌≡◌, ℕ, zero, suc, ◌+◌, ◌<◌, ◌⊎◌, inl, inr, List, [], ◌∷◌, ◌++◌, length, false, arith, refl, sym, ap, ◌∙◌, Some, append-nil, append_assoc}
+use Rattle.std.proofs.lemmas.Bool.{and_right}
 use Rattle.std.specs.Prelude.{slice_get, ◌==◌}
 use Rattle.std.specs.List.{AllByRecursion, concat}
 use Rattle.mail_wire.specs.Lines.{is_crlf, crlf}
 use Rattle.mail_wire.specs.Message.{IsSound}
 use Rattle.mail_wire.proofs.LineLemmas.{is_crlf_parts}
-use Rattle.utf8_fields.proofs.LineShapes.{EndsOnce, NeverEnds, AreLines}
+use Rattle.utf8_fields.proofs.LineShapes.{EndsOnce, NeverEnds, AreLines, before_once}
 use Rattle.mime_tree.specs.Marks.{text_of, is_delimiter, is_close}
 use Rattle.mime_tree.specs.Parts.{shortened, cut_last}
-use Rattle.mime_tree.proofs.Texts.{IsWhole, longer_whole, text_begins}
+use Rattle.mime_tree.proofs.Texts.{IsWhole, longer_whole, text_begins, text_of-crlf, text_of-other}
 use Rattle.mime_tree.proofs.PartLemmas.{is_delimiter-text, is_close-text}
 use Rattle.mime_tree.proofs.Standing.{AreEnded, IsUnmarked, AreUnmarked}
-
--- what is said of all of two lists
-pub all_append : (P : List ℕ → Type 0) (xs ys : List (List ℕ)) → AllByRecursion P xs → AllByRecursion P ys → AllByRecursion P (xs ++ ys)
-all_append P [] ys all more = more
-all_append P (x ∷ xs) ys all more = (all.0, all_append P xs ys all.1 more)
-
-pub all_front : (P : List ℕ → Type 0) (xs ys : List (List ℕ)) → AllByRecursion P (xs ++ ys) → AllByRecursion P xs
-all_front P [] ys all = tt
-all_front P (x ∷ xs) ys all = (all.0, all_front P xs ys all.1)
-
-pub all_back : (P : List ℕ → Type 0) (xs ys : List (List ℕ)) → AllByRecursion P (xs ++ ys) → AllByRecursion P ys
-all_back P [] ys all = all
-all_back P (x ∷ xs) ys all = all_back P xs ys all.1
 
 -- octets of a text and of what follows it
 in_front : (xs ys : List ℕ) (at x : ℕ) → slice_get xs at ≡ Some x → slice_get (xs ++ ys) at ≡ Some x
@@ -104,21 +92,13 @@ sound_ended text sound at (inr (inr lf)) = go (front_or_back text crlf at 10 lf.
         let second = lf_second back.k back.is in
         let place = back.place in lf.1 (length text) (omega arith) (in_back text crlf 0 (length text) (omega arith))
 
-text_of-cut : (x y : ℕ) (rest : List ℕ) → is_crlf x y ≡ true → text_of (x ∷ y ∷ rest) ≡ []
-unfolding text_of
-text_of-cut x y rest both = rw both refl
-
-text_of-on : (x y : ℕ) (rest : List ℕ) → is_crlf x y ≡ false → text_of (x ∷ y ∷ rest) ≡ x ∷ text_of (y ∷ rest)
-unfolding text_of
-text_of-on x y rest other = rw other refl
-
 -- an ended line is its text and CRLF
 pub ends_whole : (line : List ℕ) → EndsOnce line → IsWhole line
 ends_whole [] once = absurd once
 ends_whole (x ∷ []) once = absurd once
 ends_whole (x ∷ y ∷ []) once =
     let both = is_crlf_parts x y once in
-    record { joined = rw (text_of-cut x y [] once, both.0, both.1) refl }
+    record { joined = rw (text_of-crlf x y [] once, both.0, both.1) refl }
 ends_whole (x ∷ y ∷ z ∷ rest) once = longer_whole x y (z ∷ rest) once.0 (ends_whole (y ∷ z ∷ rest) once.1)
 
 never_longer : (x y : ℕ) (t : List ℕ) → is_crlf x y ≡ false → ((t ≡ []) ⊎ ((more : List ℕ) × (t ≡ y ∷ more))) → NeverEnds t → NeverEnds (x ∷ t)
@@ -129,31 +109,23 @@ never_longer x y t other (inr some) never = rw some.1 (other, rw some.1 at never
 pub text_never : (line : List ℕ) → EndsOnce line → NeverEnds (text_of line)
 text_never [] once = absurd once
 text_never (x ∷ []) once = absurd once
-text_never (x ∷ y ∷ []) once = rw (text_of-cut x y [] once) tt
+text_never (x ∷ y ∷ []) once = rw (text_of-crlf x y [] once) tt
 text_never (x ∷ y ∷ z ∷ rest) once =
-    rw (text_of-on x y (z ∷ rest) once.0) (never_longer x y (text_of (y ∷ z ∷ rest)) once.0 (text_begins y (z ∷ rest)) (text_never (y ∷ z ∷ rest) once.1))
+    rw (text_of-other x y (z ∷ rest) once.0) (never_longer x y (text_of (y ∷ z ∷ rest)) once.0 (text_begins y (z ∷ rest)) (text_never (y ∷ z ∷ rest) once.1))
 
 no_cr_pair : (x : ℕ) → is_crlf x 13 ≡ false
-no_cr_pair x = go (x == 13)
-  where
-    go : (b : Bool) → (b && (13 == 10)) ≡ false
-    go true = refl
-    go false = refl
+no_cr_pair x = and_right (x == 13) (13 == 10) refl
 
 -- a text with CRLF behind it
 pub text_of-never : (text : List ℕ) → NeverEnds text → text_of (text ++ crlf) ≡ text
-text_of-never [] never = text_of-cut 13 10 [] refl
-text_of-never (x ∷ []) never = text_of-on x 13 (10 ∷ []) (no_cr_pair x) ∙ ap (λ more. x ∷ more) (text_of-cut 13 10 [] refl)
-text_of-never (x ∷ y ∷ rest) never = text_of-on x y (rest ++ crlf) never.0 ∙ ap (λ more. x ∷ more) (text_of-never (y ∷ rest) never.1)
-
-before_end : (x y : ℕ) (more : List ℕ) → is_crlf x y ≡ false → EndsOnce (y ∷ more) → EndsOnce (x ∷ y ∷ more)
-before_end x y [] other once = absurd once
-before_end x y (z ∷ more) other once = (other, once)
+text_of-never [] never = text_of-crlf 13 10 [] refl
+text_of-never (x ∷ []) never = text_of-other x 13 (10 ∷ []) (no_cr_pair x) ∙ ap (λ more. x ∷ more) (text_of-crlf 13 10 [] refl)
+text_of-never (x ∷ y ∷ rest) never = text_of-other x y (rest ++ crlf) never.0 ∙ ap (λ more. x ∷ more) (text_of-never (y ∷ rest) never.1)
 
 pub never_ended : (text : List ℕ) → NeverEnds text → EndsOnce (text ++ crlf)
 never_ended [] never = refl
 never_ended (x ∷ []) never = (no_cr_pair x, refl)
-never_ended (x ∷ y ∷ rest) never = before_end x y (rest ++ crlf) never.0 (never_ended (y ∷ rest) never.1)
+never_ended (x ∷ y ∷ rest) never = before_once x y (rest ++ crlf) never.0 (never_ended (y ∷ rest) never.1)
 
 -- the line has an octet
 abbrev pub IsFilled : List ℕ → Type 0
@@ -171,20 +143,6 @@ pub filled_nothing : (lines : List (List ℕ)) → AreFilled lines → concat li
 filled_nothing [] filled none = refl
 filled_nothing ([] ∷ lines) filled none = absurd (filled.0 refl)
 filled_nothing ((x ∷ line) ∷ lines) filled none = cc none
-
--- ended lines, and lines behind them
-pub ended_lines : (lines more : List (List ℕ)) → AreEnded lines → AreLines more → AreLines (lines ++ more)
-ended_lines [] more ended are = are
-ended_lines (line ∷ lines) more ended are = (inl ended.0, ended_lines lines more ended.1 are)
-
--- lines before others are ended
-pub lines_ended : (lines : List (List ℕ)) (next : List ℕ) (more : List (List ℕ)) → AreLines (lines ++ next ∷ more) → AreEnded lines
-lines_ended [] next more are = tt
-lines_ended (line ∷ lines) next more are = (elim are.0 [ inl once ↦ once | inr never ↦ absurd (some lines never.1) ], lines_ended lines next more are.1)
-  where
-    some : (lines : List (List ℕ)) → lines ++ next ∷ more ≡ [] → ⊥
-    some [] none = cc none
-    some (first ∷ lines) none = cc none
 
 -- Lines are filled, or ended ones and an empty one.
 pub record HasEmptyLast (lines : List (List ℕ)) : Type 0 where

@@ -2,7 +2,7 @@
 use Rattle.std.proofs.Common.{◌≡◌, ℕ, zero, suc, ◌+◌, ◌<◌, Bool, true, false, ◌⊎◌, inl, inr, List, [], ◌∷◌, ◌++◌, length, take, nat_eq, not, refl, sym, ap, ◌∙◌, subst, arith, append_assoc, append-nil}
 use Rattle.std.specs.Str.{IsUtf8}
 use Rattle.std.specs.List.{AllByRecursion, list_all, flat_map, concat}
-use Rattle.std.proofs.lemmas.Bool.{and_parts, and_from}
+use Rattle.std.proofs.lemmas.Bool.{and_parts, and_from, not_from_false}
 use Rattle.std.proofs.lemmas.Bool.Decides.{nat_tests}
 use Rattle.std.proofs.lemmas.List.{take_at}
 use Rattle.std.proofs.lemmas.List.Folds.{list_all-append}
@@ -12,13 +12,15 @@ use Rattle.mail_wire.specs.Octets.{is_white, is_line_end}
 use Rattle.mail_wire.specs.Lines.{crlf, is_crlf}
 use Rattle.mail_wire.specs.Message.{IsNul, IsFaulty, IsSound}
 use Rattle.mail_wire.specs.Folds.{FoldedItem, Octet, Fold, IsFoldedItem, item_octets}
-use Rattle.field_tokens.proofs.TokenLines.{BothUtf8, ends_ascii, one_ascii}
+use Rattle.mail_wire.proofs.OctetLemmas.{white_below}
 use Rattle.utf8_fields.specs.declared.block.Field.{Field}
 use Rattle.utf8_fields.specs.Lines.{is_name_octet, BeginsField, BeginsWhite}
 use Rattle.utf8_fields.specs.Parts.{FieldParts, HasParts}
 use Rattle.utf8_fields.specs.Block.{IsFieldAt}
-use Rattle.utf8_fields.proofs.LineShapes.{EndsOnce, NeverEnds, AreLines, is_text}
+use Rattle.utf8_fields.proofs.LineShapes.{EndsOnce, NeverEnds, AreLines, is_text, before_once}
 use Rattle.utf8_fields.proofs.FirstField.{field_of}
+use Rattle.utf8_fields.proofs.HaveParts.{white_is_text, name_is_text, name_octet_below}
+use Rattle.encoded_words.proofs.WritableUnits.{ends_ascii, one_ascii, BothUtf8}
 use Rattle.mime_tree.proofs.Standing.{AreEnded}
 
 -- Text, and CRLF behind it. The last line lacks it where the ending of all is empty.
@@ -43,23 +45,8 @@ put_front ending front line after plain is = record {
   closes = is.closes;
 }
 
-not_false : (b : Bool) → b ≡ false → not b ≡ true
-not_false b h = rw h refl
-
 one_text : (x : ℕ) → is_line_end x ≡ false → list_all is_text (x ∷ []) ≡ true
-one_text x h = and_from (is_text x) true (not_false (is_line_end x) h) refl
-
-white_is_text : (x : ℕ) → is_white x ≡ true → is_text x ≡ true
-white_is_text x h = grind (arith, nat_tests)
-
-name_is_text : (x : ℕ) → is_name_octet x ≡ true → is_text x ≡ true
-name_is_text x h = grind (arith, nat_tests)
-
-white_below : (x : ℕ) → is_white x ≡ true → x < 128
-white_below x h = grind (arith, nat_tests)
-
-name_below : (x : ℕ) → is_name_octet x ≡ true → x < 128
-name_below x h = grind (arith, nat_tests)
+one_text x h = and_from (is_text x) true (not_from_false (is_line_end x) h) refl
 
 all_text : (p : ℕ → Bool) → ((x : ℕ) → p x ≡ true → is_text x ≡ true) → (xs : List ℕ) → list_all p xs ≡ true → list_all is_text xs ≡ true
 all_text p wider [] all = refl
@@ -106,10 +93,6 @@ texts_of ending is (Fold w ∷ items) are =
 -- no octet begins a CRLF but CR
 no_crlf : (x y : ℕ) → is_text x ≡ true → is_crlf x y ≡ false
 no_crlf x y h = grind (arith, nat_tests)
-
-before_once : (x y : ℕ) (more : List ℕ) → is_crlf x y ≡ false → EndsOnce (y ∷ more) → EndsOnce (x ∷ y ∷ more)
-before_once x y [] other once = absurd once
-before_once x y (z ∷ more) other once = (other, once)
 
 text_ends_once : (text : List ℕ) → list_all is_text text ≡ true → EndsOnce (text ++ crlf)
 text_ends_once [] all = refl
@@ -271,7 +254,7 @@ ending_utf8 ending (inr ended) = rw ended (IsUtf8-append (13 ∷ []) (10 ∷ [])
 
 field_utf8 : (octets : List ℕ) (f : FieldParts) → HasParts octets f → IsUtf8 octets
 field_utf8 octets f is = rw is.spelled (
-    all_utf8 is_name_octet name_below f.name (f.white ++ 58 ∷ (f.body ++ f.ending)) is.name
+    all_utf8 is_name_octet name_octet_below f.name (f.white ++ 58 ∷ (f.body ++ f.ending)) is.name
     (all_utf8 is_white white_below f.white (58 ∷ (f.body ++ f.ending)) is.white
     (IsUtf8-append (58 ∷ []) (f.body ++ f.ending) (one_ascii 58 colon_below) (IsUtf8-append f.body f.ending is.utf8 (ending_utf8 f.ending is.ending)))))
 

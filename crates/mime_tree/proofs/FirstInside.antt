@@ -1,5 +1,5 @@
 -- Where the first of the entities in another one stands, and that nothing comes of no lines.
-use Rattle.std.proofs.Common.{◌≡◌, ℕ, suc, zero, ◌+◌, ◌-◌, ◌≤◌, ◌⊎◌, inl, inr, List, [], ◌∷◌, ◌++◌, Bool, true, false, length, take, drop, map, Option, Some, refl, sym, ap, ◌∙◌, arith, subst, append_assoc, append-nil, length-append}
+use Rattle.std.proofs.Common.{◌≡◌, ℕ, suc, zero, ◌+◌, ◌-◌, ◌⊎◌, inl, inr, List, [], ◌∷◌, ◌++◌, Bool, true, false, length, take, drop, map, Option, Some, refl, sym, ap, ◌∙◌, arith, subst, append_assoc, append-nil, length-append}
 use Rattle.std.specs.Prelude.{slice_range}
 use Rattle.std.specs.List.{AllByRecursion, AllZip, concat}
 use Rattle.std.proofs.lemmas.List.Folds.{concat-append}
@@ -21,14 +21,7 @@ use Rattle.mime_tree.proofs.PartLemmas.{parts_of-delimiter, parts_of-on, parts_o
 use Rattle.mime_tree.proofs.Standing.{Stands}
 use Rattle.mime_tree.proofs.LinesAgain.{lines_of-front, lines_of-ended, lines_of-never, AreEnded-front, Stands-front, Stands-slice}
 use Rattle.mime_tree.proofs.EmptyEnds.{empty_no_delimiter}
-
-take_none : (octets : List ℕ) → take 0 octets ≡ []
-take_none [] = refl
-take_none (x ∷ octets) = refl
-
--- nothing stands between a place and one that isn't behind it
-pub nothing_between : (octets : List ℕ) (from to : ℕ) → to ≤ from → slice_range octets from to ≡ []
-nothing_between octets from to less = let none : to - from ≡ 0 = omega arith in ap (λ n. take n (drop from octets)) none ∙ take_none (drop from octets)
+use Rattle.mime_tree.proofs.InPlace.{slice_none}
 
 -- No lines have an entity without octets, and nothing is made of it.
 unfoldable pub MakesNothing : FieldRelation → List ℕ → EntityRelation → Type 0
@@ -62,14 +55,14 @@ nothing_with IsMade octets parent depth at entities made is rewrites inner =
     let moved : RewritesBlocks IsMade octets is.entity.body is.entity.body is.inner parts.1 = rw (body) (rw end at parts.4) in
     let rest = inner parts.1 moved in
     let at_is = is.at_is in
-    parts.3 ∙ rw (fields, rest, nothing_between octets at is.entity.at (omega arith)) refl
+    parts.3 ∙ rw (fields, rest, slice_none octets at is.entity.at (omega arith)) refl
 
 pub nothing_opened : (IsMade : FieldRelation) (octets : List ℕ) (IsOne : EntityRelation) → MakesNothing IsMade octets IsOne → (opening : Opening) (number at : ℕ) (shape : Shape) (inner : List Entity) (made : List ℕ)
     → IsOpened IsOne opening number at [] shape inner → RewritesBlocks IsMade octets at at inner made → made ≡ []
 unfolding MakesNothing parts_of
-nothing_opened IsMade octets IsOne nothing Nothing number at shape inner made is rewrites = (rw is.1 at rewrites) ∙ nothing_between octets at at (omega arith)
+nothing_opened IsMade octets IsOne nothing Nothing number at shape inner made is rewrites = (rw is.1 at rewrites) ∙ slice_none octets at at (omega arith)
 nothing_opened IsMade octets IsOne nothing Message number at shape inner made is rewrites = nothing (Some number) false (number + 1) at inner made is.1 rewrites
-nothing_opened IsMade octets IsOne nothing (Parts boundary digest) number at shape inner made is rewrites = (rw is.1 at rewrites) ∙ nothing_between octets at at (omega arith)
+nothing_opened IsMade octets IsOne nothing (Parts boundary digest) number at shape inner made is rewrites = (rw is.1 at rewrites) ∙ slice_none octets at at (omega arith)
 
 no_content : (parent : Option ℕ) (depth at : ℕ) (entities : List Entity) (is : IsWithInner parent depth at [] entities) → is.content ≡ []
 no_content parent depth at entities is = is.head.content_is ∙ ap (drop 1) (no_lines is.head.has_block.header is.head.has_block.rest is.head.has_block.lines).1
@@ -78,7 +71,7 @@ pub nothing_entity : (IsMade : FieldRelation) (levels : ℕ) (octets : List ℕ)
 unfolding MakesNothing IsEntity
 nothing_entity IsMade zero octets = λ parent digest number at entities made is rewrites.
     nothing_with IsMade octets parent _ at entities made is.0 rewrites
-    (λ inside inner. (rw is.2 at inner) ∙ nothing_between octets is.0.entity.body is.0.entity.body (omega arith))
+    (λ inside inner. (rw is.2 at inner) ∙ slice_none octets is.0.entity.body is.0.entity.body (omega arith))
 nothing_entity IsMade (suc levels) octets = λ parent digest number at entities made is rewrites.
     nothing_with IsMade octets parent _ at entities made is.0 rewrites
     (λ inside inner. nothing_opened IsMade octets (IsEntity levels octets) (nothing_entity IsMade levels octets) is.1 number is.0.entity.body is.0.entity.shape is.0.inner inside
@@ -191,7 +184,7 @@ back_from IsMade octets body to place entity inner made at_is rewrites =
         rewrites.0,
         rewrites.1,
         rewrites.2,
-        ap (λ text. text ++ (concat rewrites.0 ++ rewrites.1)) (sym (nothing_between octets place entity.at (omega arith))),
+        ap (λ text. text ++ (concat rewrites.0 ++ rewrites.1)) (sym (slice_none octets place entity.at (omega arith))),
         subst (λ n. RewritesBlocks IsMade octets entity.block.end n inner rewrites.1) end rewrites.4,
       );
     }
@@ -273,7 +266,7 @@ first_inside IsMade levels octets new Nothing number body content shape inner ma
 first_inside IsMade levels octets new Message number body content shape inner made new_body others are stands new_stands rewrites is so same =
     let here = next_there body (body + size content) inner (entity_begins levels octets (Some number) false (number + 1) body content inner is.1) in
     let there = next_there new_body (new_body + length made) others (entity_begins levels new (Some number) false (number + 1) new_body (lines_of made) others so.1) in
-    nothing_between new new_body (next_place (new_body + length made) others) (omega arith) ∙ sym (nothing_between octets body (next_place (body + size content) inner) (omega arith))
+    slice_none new new_body (next_place (new_body + length made) others) (omega arith) ∙ sym (slice_none octets body (next_place (body + size content) inner) (omega arith))
 first_inside IsMade levels octets new (Parts boundary digest) number body content shape inner made new_body others are stands new_stands rewrites is so same = go (parts_of boundary body content) refl
   where
     go : (parts : List Part) → parts ≡ parts_of boundary body content → slice_range new new_body (next_place (new_body + length made) others) ≡ slice_range octets body (next_place (body + size content) inner)

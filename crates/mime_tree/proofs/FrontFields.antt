@@ -6,6 +6,7 @@ use Rattle.std.proofs.lemmas.List.Folds.{concat-append}
 use Rattle.mail_wire.specs.Lines.{lines_of}
 use Rattle.mail_wire.specs.Message.{IsSound}
 use Rattle.mail_wire.proofs.LineLemmas.{concat_lines_of}
+use Rattle.mail_wire.proofs.AllLemmas.{all-append}
 use Rattle.utf8_fields.specs.declared.block.Field.{Field}
 use Rattle.utf8_fields.specs.Block.{IsFieldAt, AreFields, raw_of}
 use Rattle.utf8_fields.proofs.Raws.{raw_of-lines}
@@ -14,7 +15,7 @@ use Rattle.mime_tree.specs.Openings.{IsOtherField}
 use Rattle.mime_tree.specs.Tree.{IsEntity, HasTree, depth_max}
 use Rattle.mime_tree.proofs.Standing.{Stands, AreEnded}
 use Rattle.mime_tree.proofs.FieldLines.{field_lines}
-use Rattle.mime_tree.proofs.LinesAgain.{all_both, lines_of-front, Stands-whole, Stands-back, sound_append, sound_concat}
+use Rattle.mime_tree.proofs.LinesAgain.{lines_of-front, Stands-whole, Stands-back, sound_append, sound_concat}
 use Rattle.mime_tree.proofs.MovedTrees.{front_entity}
 
 -- the lines and the fields of raw fields
@@ -57,8 +58,8 @@ front_fields at (raw ∷ raws) all =
       whole = concat-append lines later.lines ∙ ap (λ text. text ++ concat later.lines) one.whole ∙ ap (λ text. raw ++ text) later.whole;
       are = (one.first, one.more, later.lines, refl, is_field, later.are);
       end_is = omega arith;
-      ended = all_both _ lines later.lines (one.ended field.ending) later.ended;
-      sound = all_both IsSound lines later.lines (recursion_from_All IsSound lines is_field.sound) later.sound;
+      ended = all-append _ lines later.lines (one.ended field.ending) later.ended;
+      sound = all-append IsSound lines later.lines (recursion_from_All IsSound lines is_field.sound) later.sound;
       raws_are = λ octets before after is place.
           let split : octets ≡ before ++ (raw ++ (concat raws ++ after)) = is ∙ ap (λ text. before ++ text) (append_assoc raw (concat raws) after) in
           let first = raw_of-lines octets before raw (concat raws ++ after) at one.field split place is_field.raw_at raw_len in

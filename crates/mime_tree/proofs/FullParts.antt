@@ -4,6 +4,7 @@ use Rattle.std.specs.List.{AllByRecursion, concat}
 use Rattle.std.proofs.lemmas.List.Folds.{concat-append}
 use Rattle.mail_wire.specs.Lines.{crlf}
 use Rattle.mail_wire.specs.Message.{IsSound}
+use Rattle.mail_wire.proofs.AllLemmas.{all-append, all-front, all-back}
 use Rattle.utf8_fields.proofs.LineShapes.{AreLines, AreLines-front, AreLines-back}
 use Rattle.mime_tree.specs.declared.entity.Entity.{Entity}
 use Rattle.mime_tree.specs.Parts.{size, cut_last}
@@ -12,9 +13,10 @@ use Rattle.mime_tree.specs.Rewriting.{FieldRelation, RewritesBlocks, next_place,
 use Rattle.mime_tree.proofs.Regions.{size-cons, size-append}
 use Rattle.mime_tree.proofs.Standing.{Stands, AreEnded, IsUnmarked, AreUnmarked, AreInOrder, HasNewLines, Keeps}
 use Rattle.mime_tree.proofs.InOrder.{in_order, split_blocks}
-use Rattle.mime_tree.proofs.EndedLines.{AreFilled, HasEmptyLast, all_append, all_front, all_back, ended_filled, ended_lines, filled_nothing, filled_or, gap_of, cut_concat, cut_are, cut_sound, cut_unmarked, put_ending}
+use Rattle.mime_tree.proofs.EndedLines.{AreFilled, HasEmptyLast, ended_filled, filled_nothing, filled_or, gap_of, cut_concat, cut_are, cut_sound, cut_unmarked, put_ending}
 use Rattle.mime_tree.proofs.EmptyLast.{drop_empty}
 use Rattle.mime_tree.proofs.InPlace.{stands_front, stands_back, order_from, is_copied, nothing_made, same_append}
+use Rattle.mime_tree.proofs.LinesAgain.{AreLines-ended}
 
 -- the new lines of an entity, none of them empty, and none where there were none
 pub record HasPart (IsMade : FieldRelation) (levels : ℕ) (octets : List ℕ) (parent : Option ℕ) (digest : Bool) (number at : ℕ) (lines : List (List ℕ)) (entities : List Entity) (new : List ℕ) (new_at : ℕ) (made : List ℕ)
@@ -39,8 +41,8 @@ fill IsMade levels octets parent digest number at lines entities new new_at made
         others = has.others;
         whole = sym (append-nil (concat empty.front)) ∙ sym (concat-append empty.front ([] ∷ [])) ∙ ap concat (sym empty.whole) ∙ has.whole;
         are = AreLines-front empty.front ([] ∷ []) (rw empty.whole at has.are);
-        sound = λ sound. all_front IsSound empty.front ([] ∷ []) (rw empty.whole at has.sound sound);
-        unmarked = λ boundary unmarked. all_front (IsUnmarked boundary) empty.front ([] ∷ []) (rw empty.whole at has.unmarked boundary unmarked);
+        sound = λ sound. all-front IsSound empty.front ([] ∷ []) (rw empty.whole at has.sound sound);
+        unmarked = λ boundary unmarked. all-front (IsUnmarked boundary) empty.front ([] ∷ []) (rw empty.whole at has.unmarked boundary unmarked);
         holds = drop_empty levels new parent digest number new_at empty.front has.others (rw empty.whole at has.holds);
         same = has.same;
       };
@@ -228,13 +230,13 @@ joined IsMade levels octets new parent digest number at passed line rest first m
         others = has.full.others ++ tail.has.others;
         whole = concat-append has.full.full (line ∷ tail.has.new_lines) ∙ rw (has.full.whole, tail.has.whole)
             (append_assoc has.first_made (gap_of passed) (line ++ has.behind) ∙ ap (λ back. has.first_made ++ back) (sym (append_assoc (gap_of passed) line has.behind)) ∙ sym has.made_is);
-        are = ended_lines has.full.full (line ∷ tail.has.new_lines) has.full.ended (line_on line rest tail.has.new_lines (AreLines-back passed (line ∷ rest) are) tail.has.are tail.none);
+        are = AreLines-ended has.full.full (line ∷ tail.has.new_lines) has.full.ended (line_on line rest tail.has.new_lines (AreLines-back passed (line ∷ rest) are) tail.has.are tail.none);
         sound = λ sound.
-            let behind = all_back IsSound passed (line ∷ rest) sound in
-            all_append IsSound has.full.full (line ∷ tail.has.new_lines) (has.full.sound (all_front IsSound passed (line ∷ rest) sound)) (behind.0, tail.has.sound behind.1);
+            let behind = all-back IsSound passed (line ∷ rest) sound in
+            all-append IsSound has.full.full (line ∷ tail.has.new_lines) (has.full.sound (all-front IsSound passed (line ∷ rest) sound)) (behind.0, tail.has.sound behind.1);
         unmarked = λ boundary unmarked.
-            let behind = all_back (IsUnmarked boundary) passed (line ∷ rest) unmarked in
-            all_append (IsUnmarked boundary) has.full.full (line ∷ tail.has.new_lines) (has.full.unmarked boundary (all_front (IsUnmarked boundary) passed (line ∷ rest) unmarked))
+            let behind = all-back (IsUnmarked boundary) passed (line ∷ rest) unmarked in
+            all-append (IsUnmarked boundary) has.full.full (line ∷ tail.has.new_lines) (has.full.unmarked boundary (all-front (IsUnmarked boundary) passed (line ∷ rest) unmarked))
             (behind.0, tail.has.unmarked boundary behind.1);
         holds = holds;
         same = same_append IsMade octets (at + size (passed ++ line ∷ rest)) first more new (new_at + length made) has.full.others tail.has.others same tail_same;

@@ -1,5 +1,6 @@
 -- The header of an entity, under open boundaries.
 use Rattle.std.proofs.Common.{◌≡◌, ℕ, ◌+◌, List, [], ◌∷◌, ◌++◌, Bool, true, false, ◌||◌, arith, refl, sym, ap, ◌∙◌, append-nil, append_assoc}
+use Rattle.std.proofs.lemmas.Bool.{or_parts}
 use Rattle.std.specs.List.{concat}
 use Rattle.mail_wire.specs.Lines.{lines_of, crlf}
 use Rattle.mime_tree.specs.Marks.{text_of}
@@ -28,13 +29,6 @@ pub after_header-on : (s : List (List ℕ)) (line : List ℕ) (rest : List (List
 unfolding after_header
 after_header-on s line rest goes = rw goes refl
 
-pub or_left : (a b : Bool) → (a || b) ≡ false → a ≡ false
-or_left true b h = h
-or_left false b h = refl
-
-pub or_by_first : (a b : Bool) → a ≡ true → (a || b) ≡ true
-or_by_first a b h = rw h refl
-
 pub after_header-begins : (s lines : List (List ℕ)) → begins_marked s lines ≡ true → after_header s lines ≡ lines
 unfolding begins_marked after_header
 after_header-begins s [] begins = refl
@@ -50,10 +44,10 @@ region_by : (s : List (List ℕ)) (line : List ℕ) (rest : List (List ℕ)) (b 
     → region s rest ≡ header s rest ++ region s (after_header s rest) → region s (line ∷ rest) ≡ header s (line ∷ rest) ++ region s (after_header s (line ∷ rest))
 region_by s line rest true c h i next = rw (header-stop s line rest h, after_header-stop s line rest h) refl
 region_by s line rest false true h i next =
-    rw (header-cut s line rest h i, after_header-on s line rest h, after_header-begins s rest i, region-begins s rest i, region-cut s line rest (or_left (is_marked s line) (is_empty_line line) h) i)
+    rw (header-cut s line rest h i, after_header-on s line rest h, after_header-begins s rest i, region-begins s rest i, region-cut s line rest (or_parts (is_marked s line) (is_empty_line line) h).0 i)
     (sym (append-nil (shortened (text_of line))))
 region_by s line rest false false h i next =
-    rw (header-on s line rest h i, after_header-on s line rest h, region-on s line rest (or_left (is_marked s line) (is_empty_line line) h) i) (ap (λ all. line ∷ all) next)
+    rw (header-on s line rest h i, after_header-on s line rest h, region-on s line rest (or_parts (is_marked s line) (is_empty_line line) h).0 i) (ap (λ all. line ∷ all) next)
 
 pub region-header : (s lines : List (List ℕ)) → region s lines ≡ header s lines ++ region s (after_header s lines)
 unfolding region header after_header

@@ -2,6 +2,7 @@
 use Rattle.std.proofs.Common.{◌≡◌, ◌≢◌, ℕ, ◌+◌, ◌-◌, ◌<◌, ◌≤◌, List, [], ◌∷◌, ◌++◌, length, take, drop, Bool, true, false, ◌||◌, arith, refl, sym, ap, ◌∙◌, ◌⊎◌, inl, inr, length-append, append-nil, append_assoc}
 use Rattle.std.specs.Prelude.{◌==◌, IsTrue}
 use Rattle.std.specs.List.{All, concat}
+use Rattle.std.proofs.lemmas.Bool.{or_parts}
 use Rattle.std.proofs.lemmas.Bool.Decides.{nat_tests}
 use Rattle.std.proofs.lemmas.Slice.Eq.{bytes_eq-Decides}
 use Rattle.std.proofs.lemmas.List.{take_at, drop-take, length-take-le, length-drop}
@@ -27,7 +28,7 @@ use Rattle.mime_tree.specs.Openings.{AreFieldsWithin}
 use Rattle.mime_tree.specs.private.Reading.{IsHeadRead, region_at}
 use Rattle.mime_tree.proofs.Texts.{text_of-text, lines_of-are}
 use Rattle.mime_tree.proofs.Regions.{region-begins, region-cut, region-on, after-on, size-append}
-use Rattle.mime_tree.proofs.Headers.{or_left, header-stop, header-cut, header-on, header-begins, after_header-begins, after_header-stop, after_header-on, region-header, lines_of-header, header-first, header-end, header-open}
+use Rattle.mime_tree.proofs.Headers.{header-stop, header-cut, header-on, header-begins, after_header-begins, after_header-stop, after_header-on, region-header, lines_of-header, header-first, header-end, header-open}
 use Rattle.mime_tree.proofs.LinesAt.{size_at, nothing_at, nothing_begins}
 
 -- where the header ends
@@ -213,7 +214,7 @@ stops_at s (first ∷ lines) line rest is = stops_by s first lines line rest (is
 after_by : (s : List (List ℕ)) (line : List ℕ) (rest : List (List ℕ)) (b : Bool) → (is_marked s line || is_empty_line line) ≡ b → after s (after_header s rest) ≡ after s rest
     → after s (after_header s (line ∷ rest)) ≡ after s (line ∷ rest)
 after_by s line rest true h next = ap (after s) (after_header-stop s line rest h)
-after_by s line rest false h next = ap (after s) (after_header-on s line rest h) ∙ next ∙ sym (after-on s line rest (or_left (is_marked s line) (is_empty_line line) h))
+after_by s line rest false h next = ap (after s) (after_header-on s line rest h) ∙ next ∙ sym (after-on s line rest (or_parts (is_marked s line) (is_empty_line line) h).0)
 
 pub after-after_header : (s lines : List (List ℕ)) → after s (after_header s lines) ≡ after s lines
 unfolding after after_header

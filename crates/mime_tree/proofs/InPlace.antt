@@ -18,8 +18,10 @@ use Rattle.mime_tree.proofs.Regions.{size-cons, size-append}
 use Rattle.mime_tree.proofs.PartLemmas.{parts_on-close, parts_on-delimiter, parts_on-on}
 use Rattle.mime_tree.proofs.Standing.{Stands, AreInOrder, AreEnded}
 use Rattle.mime_tree.proofs.InOrder.{in_order, in_order-append, slices_join, split_blocks}
-use Rattle.mime_tree.proofs.EndedLines.{gap_of, cut_concat, lines_ended}
-use Rattle.mime_tree.proofs.EmptyLast.{parts_on-end, parts_of-end, parts_on-some}
+use Rattle.mime_tree.proofs.EndedLines.{gap_of, cut_concat}
+use Rattle.mime_tree.proofs.EmptyLast.{parts_on-end, parts_on-some}
+use Rattle.mime_tree.proofs.LinesAgain.{AreEnded-front}
+use Rattle.mime_tree.proofs.NextParts.{no_parts}
 
 -- a text stands where its front stands, and its back behind that
 pub stands_front : (octets : List ℕ) (at : ℕ) (a b : List ℕ) → Stands octets at (a ++ b) → Stands octets at a
@@ -139,12 +141,12 @@ order_by : (levels : ℕ) (octets b : List ℕ) (parent : Option ℕ) (digest : 
     → AreParts (IsEntity levels octets) parent digest number (parts_on b at passed (line ∷ rest)) entities → AreInOrder at to entities
 order_by levels octets b parent digest number at to passed line rest entities true delimiter close_is delimiter_is lines sum next are =
     let parts = rw (parts_on-close b at passed line rest close_is) at are in
-    let cut = cut_size passed (lines_ended passed line rest lines) in
+    let cut = cut_size passed (AreEnded-front passed line rest lines) in
     let first = in_order levels octets parent digest number at (cut_last passed) parts.0 parts.3 in
     rw (parts.2, parts.4) (in_order-append at (at + size (cut_last passed)) to parts.0 [] first (omega arith))
 order_by levels octets b parent digest number at to passed line rest entities false true close_is delimiter_is lines sum next are =
     let parts = rw (parts_on-delimiter b at passed line rest close_is delimiter_is) at are in
-    let cut = cut_size passed (lines_ended passed line rest lines) in
+    let cut = cut_size passed (AreEnded-front passed line rest lines) in
     let first = in_order levels octets parent digest number at (cut_last passed) parts.0 parts.3 in
     let one = size-cons line rest in
     let more = next (number + length parts.0) (at + size passed + length line) [] parts.1 (behind passed lines) (omega arith) parts.4 in
@@ -177,7 +179,7 @@ opened_nothing IsMade IsOne octets next Nothing number at from to shape inner ma
     let none = rw is.1 at rewritten in none ∙ slice_none octets from to (omega arith)
 opened_nothing IsMade IsOne octets next Message number at from to shape inner made begins ends is rewritten = next (Some number) false (number + 1) at from to inner made begins ends is.1 rewritten
 opened_nothing IsMade IsOne octets next (Parts boundary digest) number at from to shape inner made begins ends is rewritten =
-    let divided = rw (parts_of-end boundary at) at is in
+    let divided = rw (no_parts boundary at) at is in
     let none = rw divided.1 at rewritten in none ∙ slice_none octets from to (omega arith)
 
 record HasNothing (at : ℕ) (block : List Field) (end body : ℕ) (content : List (List ℕ)) : Type 0 where

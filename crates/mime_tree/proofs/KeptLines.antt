@@ -1,15 +1,15 @@
 -- The lines of fields that keep their lines.
-use Rattle.std.proofs.Common.{◌≡◌, ℕ, ◌+◌, Bool, true, false, ◌⊎◌, inl, inr, List, [], ◌∷◌, ◌++◌, length, map, nat_eq, ◌&&◌, refl, sym, ap, ◌∙◌, subst, arith, append_assoc, append-nil, length-append}
+use Rattle.std.proofs.Common.{◌≡◌, ℕ, ◌+◌, Bool, true, false, ◌⊎◌, inl, inr, List, [], ◌∷◌, ◌++◌, length, map, nat_eq, refl, sym, ap, ◌∙◌, subst, arith, append_assoc, append-nil, length-append}
 use Rattle.std.specs.List.{AllZip, AllByRecursion, flat_map, concat, starts_with}
 use Rattle.std.proofs.lemmas.Bool.Decides.{nat_tests}
-use Rattle.std.proofs.lemmas.Bool.{both_ways}
+use Rattle.std.proofs.lemmas.Bool.{both_ways, and_right}
 use Rattle.std.proofs.lemmas.List.Folds.{concat-append}
 use Rattle.std.proofs.lemmas.List.Elements.{recursion_from_All}
 use Rattle.mail_wire.specs.Octets.{is_white, is_line_end}
 use Rattle.mail_wire.specs.Lines.{crlf, is_crlf}
 use Rattle.mail_wire.specs.Message.{IsNul, IsSound}
 use Rattle.mail_wire.specs.Folds.{FoldedItem, Octet, Fold, IsFoldedItem, item_octets}
-use Rattle.mail_wire.proofs.AllLemmas.{all-append}
+use Rattle.mail_wire.proofs.AllLemmas.{all-append, all-front, all-back}
 use Rattle.utf8_fields.specs.declared.block.Field.{Field}
 use Rattle.utf8_fields.specs.Lines.{BeginsWhite}
 use Rattle.utf8_fields.specs.Parts.{FieldParts, HasParts}
@@ -19,10 +19,11 @@ use Rattle.utf8_fields.proofs.FirstField.{field_of}
 use Rattle.utf8_fields.proofs.Raws.{raw_of-lines}
 use Rattle.mime_tree.specs.Marks.{text_of, dashes, is_delimiter, is_close}
 use Rattle.mime_tree.specs.Rewriting.{KeepsLine}
-use Rattle.mime_tree.proofs.Texts.{text_begins}
+use Rattle.mime_tree.proofs.Texts.{text_begins, text_of-crlf, text_of-other}
 use Rattle.mime_tree.proofs.Padded.{is_padded-append}
 use Rattle.mime_tree.proofs.FieldLines.{HasFieldLines, field_lines, no_nul_in_lines}
 use Rattle.mime_tree.proofs.Standing.{Stands, AreEnded, IsUnmarked, AreUnmarked, HasNewBlock}
+use Rattle.mime_tree.proofs.LinesAgain.{AreEnded-front, AreLines-ended}
 
 -- a line whose text doesn't begin with hyphens isn't one of a boundary
 unmarked_text : (boundary line : List ℕ) → starts_with nat_eq (text_of line) dashes ≡ false → IsUnmarked boundary line
@@ -36,19 +37,7 @@ two_dashes : (x y : ℕ) (a b : List ℕ) → starts_with nat_eq (x ∷ y ∷ a)
 two_dashes x y a b = refl
 
 one_dash : (x : ℕ) → starts_with nat_eq (x ∷ []) dashes ≡ false
-one_dash x = by (nat_eq 45 x)
-  where
-    by : (b : Bool) → (b && false) ≡ false
-    by true = refl
-    by false = refl
-
-text_of-crlf : (x y : ℕ) (rest : List ℕ) → is_crlf x y ≡ true → text_of (x ∷ y ∷ rest) ≡ []
-unfolding text_of
-text_of-crlf x y rest both = rw both refl
-
-text_of-other : (x y : ℕ) (rest : List ℕ) → is_crlf x y ≡ false → text_of (x ∷ y ∷ rest) ≡ x ∷ text_of (y ∷ rest)
-unfolding text_of
-text_of-other x y rest other = rw other refl
+one_dash x = and_right (nat_eq 45 x) false refl
 
 -- a text doesn't begin with hyphens where its line doesn't
 text_apart : (line rest : List ℕ) → starts_with nat_eq (line ++ rest) dashes ≡ false → starts_with nat_eq (text_of line) dashes ≡ false
@@ -202,30 +191,9 @@ stands_raw : (octets : List ℕ) (at : ℕ) (a b : List ℕ) (field : Field) →
 stands_raw octets at a b field stands at_is len =
     raw_of-lines octets stands.before a (b ++ stands.after) at field (stands.whole ∙ ap (λ rest. stands.before ++ rest) (append_assoc a b stands.after)) stands.place at_is len
 
--- lines before others have their CRLF each
-front_ended : (xs : List (List ℕ)) (y : List ℕ) (ys : List (List ℕ)) → AreLines (xs ++ y ∷ ys) → AreEnded xs
-front_ended [] y ys are = tt
-front_ended (line ∷ xs) y ys are = (elim are.0 [ inl once ↦ once | inr never ↦ absurd (some xs never.1) ], front_ended xs y ys are.1)
-  where
-    some : (xs : List (List ℕ)) → xs ++ y ∷ ys ≡ [] → ⊥
-    some [] none = cc none
-    some (x ∷ xs) none = cc none
-
-join_ended : (xs ys : List (List ℕ)) → AreEnded xs → AreLines ys → AreLines (xs ++ ys)
-join_ended [] ys ended are = are
-join_ended (line ∷ xs) ys ended are = (inl ended.0, join_ended xs ys ended.1 are)
-
 join_lines : (xs ys : List (List ℕ)) → AreLines xs → (ys ≡ []) ⊎ AreEnded xs → AreLines ys → AreLines (xs ++ ys)
 join_lines xs ys are (inl none) others = rw (none, append-nil) are
-join_lines xs ys are (inr ended) others = join_ended xs ys ended others
-
-all_front : (P : List ℕ → Type 0) (xs ys : List (List ℕ)) → AllByRecursion P (xs ++ ys) → AllByRecursion P xs
-all_front P [] ys all = tt
-all_front P (x ∷ xs) ys all = (all.0, all_front P xs ys all.1)
-
-all_back : (P : List ℕ → Type 0) (xs ys : List (List ℕ)) → AllByRecursion P (xs ++ ys) → AllByRecursion P ys
-all_back P [] ys all = all
-all_back P (x ∷ xs) ys all = all_back P xs ys all.1
+join_lines xs ys are (inr ended) others = AreLines-ended xs ys ended others
 
 no_lines : (octets : List ℕ) (lines : List (List ℕ)) (at : ℕ) (fields : List Field) (end : ℕ) → AreFields lines at fields end → map (raw_of octets) fields ≡ [] → lines ≡ []
 no_lines octets lines at [] end are none = are.0
@@ -238,7 +206,7 @@ last_or_ended : (IsOne : List ℕ → List ℕ → Type 0) (octets new : List �
 last_or_ended IsOne octets new old rest at [] end fields_are are [] zip lines new_at others new_end others_are raws = inl (no_lines new lines new_at others new_end others_are raws)
 last_or_ended IsOne octets new old rest at [] end fields_are are (m ∷ made) zip lines new_at others new_end others_are raws = absurd zip
 last_or_ended IsOne octets new old rest at (field ∷ fields) end fields_are are made zip lines new_at others new_end others_are raws =
-    inr (front_ended old fields_are.0 (fields_are.1 ++ fields_are.2) (subst (λ lines. AreLines (old ++ lines)) fields_are.3 are))
+    inr (AreEnded-front old fields_are.0 (fields_are.1 ++ fields_are.2) (subst (λ lines. AreLines (old ++ lines)) fields_are.3 are))
 
 -- The lines of one field before those of others.
 put_block : (new : List ℕ) (new_at : ℕ) (old rest : List (List ℕ)) (m : List ℕ) (made : List (List ℕ)) (kept : HasKeptLines old new_at m)
@@ -255,9 +223,9 @@ put_block new new_at old rest m made kept later stands len last =
       raws = ap (λ one. one ∷ map (raw_of new) later.fields) (stands_raw new new_at m (concat made) kept.field stands kept.is_field.raw_at len) ∙ ap (λ others. m ∷ others) later.raws;
       are = join_lines first_lines later.lines kept.are (by last) later.are;
       sound = all-append IsSound first_lines later.lines (recursion_from_All IsSound first_lines kept.is_field.sound) later.sound;
-      ended = λ all. all-append EndsOnce first_lines later.lines (kept.ended (all_front EndsOnce old rest all)) (later.ended (all_back EndsOnce old rest all));
+      ended = λ all. all-append EndsOnce first_lines later.lines (kept.ended (all-front EndsOnce old rest all)) (later.ended (all-back EndsOnce old rest all));
       unmarked = λ boundary all.
-          all-append (IsUnmarked boundary) first_lines later.lines (kept.unmarked boundary (all_front (IsUnmarked boundary) old rest all)) (later.unmarked boundary (all_back (IsUnmarked boundary) old rest all));
+          all-append (IsUnmarked boundary) first_lines later.lines (kept.unmarked boundary (all-front (IsUnmarked boundary) old rest all)) (later.unmarked boundary (all-back (IsUnmarked boundary) old rest all));
     }
   where
     by : (later.lines ≡ []) ⊎ AreEnded old → (later.lines ≡ []) ⊎ AreEnded (kept.first ∷ kept.more)

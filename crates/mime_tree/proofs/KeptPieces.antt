@@ -2,6 +2,7 @@
 use Rattle.std.proofs.Common.{◌≡◌, ℕ, ◌+◌, ◌≤◌, List, [], ◌∷◌, ◌++◌, length, Bool, true, false, arith, refl, sym, ap, ◌∙◌, Option, Some, append-nil, append_assoc, length-append}
 use Rattle.std.specs.Prelude.{slice_range}
 use Rattle.std.specs.List.{concat}
+use Rattle.mail_wire.proofs.AllLemmas.{all-append}
 use Rattle.utf8_fields.proofs.LineShapes.{AreLines, AreLines-back}
 use Rattle.mime_tree.specs.declared.entity.Entity.{Entity}
 use Rattle.mime_tree.specs.declared.entity.Shape.{Shape}
@@ -13,10 +14,12 @@ use Rattle.mime_tree.proofs.Regions.{size-cons, size-append}
 use Rattle.mime_tree.proofs.PartLemmas.{parts_of-delimiter, parts_of-on, parts_on-close, parts_on-delimiter, parts_on-on}
 use Rattle.mime_tree.proofs.Standing.{Stands, IsUnmarked, AreUnmarked, AreInOrder, Keeps}
 use Rattle.mime_tree.proofs.InOrder.{slices_join, in_order}
-use Rattle.mime_tree.proofs.EndedLines.{all_append, lines_ended, gap_of}
-use Rattle.mime_tree.proofs.EmptyLast.{parts_on-end, parts_of-end, divided_parts, parts_divided}
+use Rattle.mime_tree.proofs.EndedLines.{gap_of}
+use Rattle.mime_tree.proofs.EmptyLast.{parts_on-end, divided_parts, parts_divided}
 use Rattle.mime_tree.proofs.InPlace.{stands_front, stands_back, stands_slice, slice_none, order_from, is_copied, same_further, same_length, parts_begin, parts_order}
 use Rattle.mime_tree.proofs.FullParts.{part_kept, HasFirst, first_kept, HasTidyLines, joined, line_on}
+use Rattle.mime_tree.proofs.LinesAgain.{AreEnded-front}
+use Rattle.mime_tree.proofs.NextParts.{no_parts}
 
 -- lines that are no marks are passed over
 parts_on-passed : (b : List ℕ) (at : ℕ) (lines passed rest : List (List ℕ)) → AreUnmarked b lines → parts_on b at passed (lines ++ rest) ≡ parts_on b at (passed ++ lines) rest
@@ -113,7 +116,7 @@ close_kept IsMade levels octets new keeps b parent digest number at passed line 
     let line_size = size-cons line rest in
     let all_size = size-append passed (line ∷ rest) in
     let to_is : at + size passed + length line + size rest ≡ at + size (passed ++ line ∷ rest) = omega arith in
-    let has = first_kept IsMade levels octets new keeps parent digest number at passed line rest first [] made new_at (lines_ended passed line rest are) is (omega arith) stands rewritten new_stands in
+    let has = first_kept IsMade levels octets new keeps parent digest number at passed line rest first [] made new_at (AreEnded-front passed line rest are) is (omega arith) stands rewritten new_stands in
     let tail = tail_copied IsMade octets (at + size passed + length line) (at + size (passed ++ line ∷ rest)) rest new (new_at + size has.full.full + length line) has.behind (AreLines-back passed (line ∷ rest) are).1
     has.text_behind to_is has.rewritten in
     let made_sum = has.made_sum in
@@ -143,7 +146,7 @@ delimiter_kept IsMade levels octets new keeps b parent digest number at passed l
     let to_is : at + size passed + length line + size rest ≡ at + size (passed ++ line ∷ rest) = omega arith in
     let lines = (AreLines-back passed (line ∷ rest) are).1 in
     let order = parts_order levels octets b parent digest (at + size (passed ++ line ∷ rest)) rest (number + length first) (at + size passed + length line) [] more lines (omega arith) are_more in
-    let has = first_kept IsMade levels octets new keeps parent digest number at passed line rest first more made new_at (lines_ended passed line rest are) is order stands rewritten new_stands in
+    let has = first_kept IsMade levels octets new keeps parent digest number at passed line rest first more made new_at (AreEnded-front passed line rest are) is order stands rewritten new_stands in
     let renamed = rewrites_to IsMade octets (at + size passed + length line) (at + size (passed ++ line ∷ rest)) (at + size passed + length line + size rest) more has.behind to_is has.rewritten in
     let tail = next (number + length first) (at + size passed + length line) [] more has.behind (new_at + size has.full.full + length line) are_more lines tt has.text_behind renamed has.new_behind in
     let parts : parts_on b new_at [] (has.full.full ++ line ∷ tail.has.new_lines) ≡ record { at = new_at; lines = cut_last has.full.full } ∷ parts_on b (new_at + size has.full.full + length line) [] tail.has.new_lines =
@@ -179,7 +182,7 @@ step_by IsMade levels octets new keeps b parent digest line rest false false clo
     let longer = append_assoc passed (line ∷ []) rest in
     let is = rw (parts_on-on b at passed line rest close_is delimiter_is) at parts in
     let here : IsUnmarked b line = record { delimiter = delimiter_is; close = close_is } in
-    let kept = next number at (passed ++ line ∷ []) entities made new_at is (rw longer are) (all_append (IsUnmarked b) passed (line ∷ []) unmarked (here, tt)) (rw longer stands) (rw longer rewritten) new_stands in
+    let kept = next number at (passed ++ line ∷ []) entities made new_at is (rw longer are) (all-append (IsUnmarked b) passed (line ∷ []) unmarked (here, tt)) (rw longer stands) (rw longer rewritten) new_stands in
     rw longer at kept
 
 parts_kept : (IsMade : FieldRelation) (levels : ℕ) (octets new : List ℕ) → Keeps IsMade octets new (IsEntity levels octets) (IsEntity levels new) → (b : List ℕ) (parent : Option ℕ) (digest : Bool) (rest : List (List ℕ))
@@ -200,7 +203,7 @@ parts_kept IsMade levels octets new keeps b parent digest (line ∷ rest) =
 divided_order : (levels : ℕ) (octets b : List ℕ) (digest : Bool) (number to : ℕ) (shape : Shape) (inner : List Entity) (lines : List (List ℕ)) (at : ℕ) → AreLines lines → at + size lines ≡ to
     → IsDivided (IsEntity levels octets) digest number (parts_of b at lines) shape inner → AreInOrder at to inner
 divided_order levels octets b digest number to shape inner [] at are sum is =
-    let divided = rw (parts_of-end b at) at is in rw divided.1 (omega arith)
+    let divided = rw (no_parts b at) at is in rw divided.1 (omega arith)
 divided_order levels octets b digest number to shape inner (line ∷ rest) at are sum is =
     go (is_delimiter b line) refl (let one = size-cons line rest in omega arith) (divided_order levels octets b digest number to shape inner rest (at + length line) are.1)
   where
@@ -278,7 +281,7 @@ division_by IsMade levels octets new keeps b digest number shape line rest false
 pub division_kept : (IsMade : FieldRelation) (levels : ℕ) (octets new : List ℕ) → Keeps IsMade octets new (IsEntity levels octets) (IsEntity levels new) → (b : List ℕ) (digest : Bool) (number : ℕ) (shape : Shape)
     (lines : List (List ℕ)) → IsDivisionKept IsMade levels octets new b digest number shape lines
 division_kept IsMade levels octets new keeps b digest number shape [] = λ at inner made new_at is are stands rewritten new_stands.
-    let divided = rw (parts_of-end b at) at is in
+    let divided = rw (no_parts b at) at is in
     let nothing = rw divided.1 at rewritten in
     record {
       has = record {
@@ -288,7 +291,7 @@ division_kept IsMade levels octets new keeps b digest number shape [] = λ at in
         are = tt;
         sound = λ sound. tt;
         unmarked = λ boundary unmarked. tt;
-        holds = rw (parts_of-end b new_at) (divided.0, refl);
+        holds = rw (no_parts b new_at) (divided.0, refl);
         same = rw divided.1 tt;
       };
       none = λ none. refl;

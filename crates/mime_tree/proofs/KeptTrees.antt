@@ -5,6 +5,7 @@ use Rattle.std.proofs.lemmas.List.Elements.{recursion_from_All}
 use Rattle.mail_wire.specs.Lines.{lines_of}
 use Rattle.mail_wire.specs.Message.{IsSound}
 use Rattle.mail_wire.proofs.LineLemmas.{concat_lines_of}
+use Rattle.mail_wire.proofs.AllLemmas.{all-front}
 use Rattle.utf8_fields.proofs.LineShapes.{AreLines, AreLines-lines_of}
 use Rattle.mime_tree.specs.declared.entity.Entity.{Entity}
 use Rattle.mime_tree.specs.declared.entity.Shape.{Shape}
@@ -18,7 +19,7 @@ use Rattle.mime_tree.specs.Rewriting.{FieldRelation, RewritesBlocks, KeepsTrees,
 use Rattle.mime_tree.proofs.Standing.{Stands, IsUnmarked, AreInOrder, Keeps}
 use Rattle.mime_tree.proofs.InOrder.{opened_in_order}
 use Rattle.mime_tree.proofs.KeptParts.{opened_kept}
-use Rattle.mime_tree.proofs.LinesAgain.{all_front, lines_again, Stands-slice, Stands-whole, sound_concat, sound_each}
+use Rattle.mime_tree.proofs.LinesAgain.{lines_again, Stands-slice, Stands-whole, sound_concat, sound_each}
 use Rattle.mime_tree.proofs.EmptyEnds.{MayLoseEmpty, entity_less, opened_less}
 use Rattle.mime_tree.proofs.FirstInside.{nothing_opened, nothing_entity, all_copied, first_inside}
 use Rattle.mime_tree.proofs.FrontFields.{front_tree}
@@ -28,7 +29,7 @@ use Rattle.mime_tree.proofs.NewEntities.{cut_entity, IsKeptInside, leaf_entity, 
 each_again : (P : List ℕ → Type 0) (lines : List (List ℕ)) (made : List ℕ) → concat lines ≡ made → AreLines lines → AllByRecursion P lines → AllByRecursion P (lines_of made)
 each_again P lines made whole are all = elim (lines_again lines are) [
   | inl same ↦ subst (AllByRecursion P) (same ∙ ap lines_of whole) all
-  | inr same ↦ subst (λ text. AllByRecursion P (lines_of text)) whole (all_front P (lines_of (concat lines)) ([] ∷ []) (subst (AllByRecursion P) same all))
+  | inr same ↦ subst (λ text. AllByRecursion P (lines_of text)) whole (all-front P (lines_of (concat lines)) ([] ∷ []) (subst (AllByRecursion P) same all))
 ]
 
 -- A content that isn't opened is copied.

@@ -10,19 +10,6 @@ use Rattle.utf8_fields.proofs.LineShapes.{AreLines, EndsOnce, NeverEnds}
 use Rattle.utf8_fields.proofs.Raws.{slice_range-behind}
 use Rattle.mime_tree.proofs.Standing.{Stands, AreEnded}
 
--- what holds of each of two lists
-pub all_front : {X : Type 0} (P : X → Type 0) (xs ys : List X) → AllByRecursion P (xs ++ ys) → AllByRecursion P xs
-all_front P [] ys all = tt
-all_front P (x ∷ xs) ys all = (all.0, all_front P xs ys all.1)
-
-pub all_back : {X : Type 0} (P : X → Type 0) (xs ys : List X) → AllByRecursion P (xs ++ ys) → AllByRecursion P ys
-all_back P [] ys all = all
-all_back P (x ∷ xs) ys all = all_back P xs ys all.1
-
-pub all_both : {X : Type 0} (P : X → Type 0) (xs ys : List X) → AllByRecursion P xs → AllByRecursion P ys → AllByRecursion P (xs ++ ys)
-all_both P [] ys front back = back
-all_both P (x ∷ xs) ys front back = (front.0, all_both P xs ys front.1 back)
-
 -- a line with its CRLF is the first one, whatever follows
 pub lines_of-ended : (line rest : List ℕ) → EndsOnce line → lines_of (line ++ rest) ≡ line ∷ lines_of rest
 lines_of-ended [] rest once = absurd once

@@ -181,7 +181,7 @@ size_at octets at fits = rw (concat_lines_of (drop at octets)) (omega (arith, le
 some_left : (n : ℕ) → true ≡ (suc n == 0) → ⊥
 some_left n none = grind (arith, nat_tests)
 
-no_mark : (lines : List (List ℕ)) → begins_marked [] lines ≡ false
+pub no_mark : (lines : List (List ℕ)) → begins_marked [] lines ≡ false
 unfolding begins_marked is_marked_text
 no_mark [] = refl
 no_mark (line ∷ rest) = refl

@@ -11,6 +11,7 @@ use Rattle.utf8_fields.specs.Parts.{FieldParts, HasParts}
 use Rattle.utf8_fields.specs.Block.{IsFieldAt, AreFields, raw_of}
 use Rattle.utf8_fields.proofs.FirstField.{field_of}
 use Rattle.utf8_fields.proofs.Raws.{raw_of-lines}
+use Rattle.utf8_fields.proofs.Fields.{AreFields-append}
 use Rattle.mime_tree.specs.declared.entity.Entity.{Entity}
 use Rattle.mime_tree.specs.declared.entity.Shape.{Shape}
 use Rattle.mime_tree.specs.declared.openings.Opening.{Opening}
@@ -24,18 +25,6 @@ use Rattle.mime_tree.proofs.PartLemmas.{parts_of-delimiter, parts_of-on, parts_o
 use Rattle.mime_tree.proofs.Standing.{Stands}
 use Rattle.mime_tree.proofs.LinesAgain.{Stands-front, Stands-back}
 use Rattle.mime_tree.proofs.NewEntities.{rest-split, IsAlone, leaf_entity, open_entity}
-
--- fields before others
-pub fields_append : (lines more : List (List ℕ)) (at middle end : ℕ) (fields others : List Field) → AreFields lines at fields middle → AreFields more middle others end → AreFields (lines ++ more) at (fields ++ others) end
-fields_append lines more at middle end [] others are next = rw (are.0, are.1) next
-fields_append lines more at middle end (field ∷ fields) others are next = (
-  are.0,
-  are.1,
-  are.2 ++ more,
-  ap (λ all. all ++ more) are.3 ∙ append_assoc (are.0 ∷ are.1) are.2 more,
-  are.4,
-  fields_append are.2 more (at + field.raw.len) middle end fields others are.5 next,
-)
 
 -- the fields of the same lines at another place
 record HasMovedFields (octets new : List ℕ) (lines : List (List ℕ)) (fields : List Field) (new_at : ℕ) : Type 0 where
@@ -249,7 +238,7 @@ moved_with octets new parent depth at lines entities is front fields middle new_
     let old_all : Stands octets at (concat header ++ concat rest) = subst (Stands octets at) joined old in
     let new_all : Stands new middle (concat header ++ concat rest) = subst (Stands new middle) joined stands in
     let moved = moved_fields octets new header at is.entity.block.fields is.entity.block.end middle block.fields_are (Stands-front octets at (concat header) (concat rest) old_all) (Stands-front new middle (concat header) (concat rest) new_all) in
-    let all_fields = fields_append front header new_at middle moved.end fields moved.others are moved.are in
+    let all_fields = AreFields-append front header new_at middle moved.end fields moved.others are moved.are in
     let old_end : is.entity.block.end ≡ at + size header = fields_size header at is.entity.block.fields is.entity.block.end block.fields_are in
     let new_end : moved.end ≡ middle + size header = fields_size header middle moved.others moved.end moved.are in
     let old_body : at + size header + size (take 1 rest) ≡ is.entity.body = ap (λ n. n + size (take 1 rest)) (sym old_end) ∙ sym head.body_is in

@@ -6,6 +6,7 @@ use Rattle.std.proofs.lemmas.List.Folds.{concat-append}
 use Rattle.mail_wire.specs.Lines.{lines_of, crlf}
 use Rattle.mail_wire.specs.Message.{IsSound}
 use Rattle.mail_wire.proofs.LineLemmas.{concat_lines_of}
+use Rattle.mail_wire.proofs.AllLemmas.{all-append, all-front, all-back}
 use Rattle.utf8_fields.specs.Block.{EndsBlock}
 use Rattle.utf8_fields.proofs.LineShapes.{AreLines, AreLines-front, AreLines-back, AreLines-lines_of, EndsOnce}
 use Rattle.mime_tree.specs.declared.entity.Entity.{Entity}
@@ -20,8 +21,8 @@ use Rattle.mime_tree.proofs.Heads.{fields_size}
 use Rattle.mime_tree.proofs.Standing.{Stands, AreEnded, IsUnmarked, AreUnmarked, HasNewBlock, AreInOrder}
 use Rattle.mime_tree.proofs.NewBlocks.{new_block}
 use Rattle.mime_tree.proofs.InOrder.{split_blocks, slices_join, head_places}
-use Rattle.mime_tree.proofs.LinesAgain.{all_front, all_back, all_both, AreEnded-front, AreLines-ended, Stands-front, Stands-back, Stands-slice}
-use Rattle.mime_tree.proofs.FirstInside.{nothing_between}
+use Rattle.mime_tree.proofs.LinesAgain.{AreEnded-front, AreLines-ended, Stands-front, Stands-back, Stands-slice}
+use Rattle.mime_tree.proofs.InPlace.{slice_none}
 
 -- the lines behind a header, with another content
 pub new_rest : List (List ℕ) → List (List ℕ) → List (List ℕ)
@@ -143,7 +144,7 @@ has_made IsMade octets parent depth at lines entities made is order rewrites =
       fields = parts.0;
       inside = cut.1;
       zip = parts.2;
-      whole = parts.3 ∙ ap (λ text. text ++ (concat parts.0 ++ parts.1)) (nothing_between octets at is.entity.at (omega arith)) ∙ ap (λ text. concat parts.0 ++ text) (cut.2 ∙ ap (λ text. text ++ cut.1) cut.3);
+      whole = parts.3 ∙ ap (λ text. text ++ (concat parts.0 ++ parts.1)) (slice_none octets at is.entity.at (omega arith)) ∙ ap (λ text. concat parts.0 ++ text) (cut.2 ∙ ap (λ text. text ++ cut.1) cut.3);
       rewrites = cut.4;
     }
 
@@ -326,6 +327,6 @@ new_entity IsMade octets new parent depth at lines entities made new_at is cut o
         → AllByRecursion P (cut.block.lines ++ new_rest is.head.has_block.rest (lines_of cut.inside))
     all_new P front inner all =
         let both = subst (AllByRecursion P) is.head.has_block.lines all in
-        let behind = all_back P is.head.has_block.header is.head.has_block.rest both in
-        all_both P cut.block.lines (new_rest is.head.has_block.rest (lines_of cut.inside)) (front (all_front P is.head.has_block.header is.head.has_block.rest both))
+        let behind = all-back P is.head.has_block.header is.head.has_block.rest both in
+        all-append P cut.block.lines (new_rest is.head.has_block.rest (lines_of cut.inside)) (front (all-front P is.head.has_block.header is.head.has_block.rest both))
         (rest-all P is.head.has_block.rest (lines_of cut.inside) behind (inner (subst (AllByRecursion P) (sym is.head.content_is) (drop-all P is.head.has_block.rest behind))))

@@ -20,7 +20,7 @@ pub record IsPreamble (s : List (List ℕ)) (b octets : List ℕ) (parts : List 
   pub same : parts ≡ parts_of b at (region s (lines_at octets at))
   pub passed : HasPassed s octets from at
 
-no_parts : (b : List ℕ) (at : ℕ) → parts_of b at [] ≡ []
+pub no_parts : (b : List ℕ) (at : ℕ) → parts_of b at [] ≡ []
 unfolding parts_of
 no_parts b at = refl
 

@@ -1,8 +1,9 @@
 -- The first fault of octets that have no tree is one.
-use Rattle.std.proofs.Common.{◌≡◌, ◌≢◌, ℕ, suc, zero, List, [], ◌∷◌, Bool, false, Some, inl, inr, refl, sym, ap, ◌∙◌, ◌⊎◌, subst, arith}
+use Rattle.std.proofs.Common.{◌≡◌, ◌≢◌, ℕ, suc, zero, List, [], ◌∷◌, Bool, false, inl, inr, refl, sym, ap, ◌∙◌, ◌⊎◌, subst, arith}
 use Rattle.std.proofs.lemmas.Bool.{cases_lt}
 use Rattle.mail_wire.specs.Lines.{lines_of}
-use Rattle.mail_wire.specs.Message.{Stands, IsFaulty, IsSoundBelow}
+use Rattle.mail_wire.specs.Message.{IsFaulty, IsSoundBelow}
+use Rattle.mail_wire.proofs.MessageLemmas.{one_octet}
 use Rattle.utf8_fields.specs.declared.block.FieldFault.{FieldFault}
 use Rattle.utf8_fields.specs.declared.block.FieldFault.TheVariants.{NotField as FieldNotField, NotUtf8 as FieldNotUtf8, Memory as FieldMemory}
 use Rattle.utf8_fields.proofs.NoFault.{no_fault}
@@ -27,10 +28,6 @@ octet_faulty octets place (BareLf at) is = inr (inr is.1)
 octet_faulty octets place (NotField at) is = absurd is
 octet_faulty octets place (NotUtf8 at) is = absurd is
 octet_faulty octets place Memory is = absurd is
-
--- one octet stands at a place
-one_octet : (octets : List ℕ) (place x y : ℕ) → Stands octets place x → Stands octets place y → x ≡ y
-one_octet octets place x y a b = let same : Some x ≡ Some y = sym a ∙ b in cc same
 
 same_octet : (octets : List ℕ) (place : ℕ) (fault other : TreeFault) → IsFaultAt octets place fault → IsFaultAt octets place other → fault ≡ other
 same_octet octets place (Nul at) (Nul at') a b = ap Nul (a.0 ∙ sym b.0)

@@ -2,8 +2,9 @@
 use Rattle.std.proofs.Common.{◌≡◌, ℕ, zero, suc, ◌+◌, ◌<◌, List, [], ◌∷◌, ◌++◌, length, take, drop, Bool, true, false, ◌&&◌, ◌||◌, nat_eq, arith, refl, sym, ap, ◌∙◌, Option, Some, None, append_assoc}
 use Rattle.std.specs.Prelude.{if◌then◌else◌}
 use Rattle.std.specs.List.{starts_with, list_all}
+use Rattle.std.proofs.lemmas.Bool.{and_parts}
 use Rattle.std.proofs.lemmas.Bool.Decides.{nat_tests}
-use Rattle.std.specs.Prelude.{is_some, not}
+use Rattle.std.specs.Prelude.{is_some}
 use Rattle.std.proofs.Common.{get_or}
 use Rattle.std.proofs.lemmas.List.{take_more, take-append-drop}
 use Rattle.std.proofs.lemmas.List.Folds.{list_any-append}
@@ -39,22 +40,14 @@ begins_dashes : (t : List ℕ) → list_all is_white t ≡ true → starts_with 
 begins_dashes [] white begins = cc
 begins_dashes (x ∷ t) white begins = grind (arith, nat_tests)
 
-and_first : (a b : Bool) → (a && b) ≡ true → a ≡ true
-and_first true b h = refl
-and_first false b h = h
-
-and_second : (a b : Bool) → (a && b) ≡ true → b ≡ true
-and_second true b h = h
-and_second false b h = absurd (let clash : false ≡ true = h in cc)
-
 -- no line is both
 pub one_mark : (boundary text : List ℕ) → is_padded (dashes ++ boundary) text ≡ true → is_padded (dashes ++ boundary ++ dashes) text ≡ true → ⊥
 one_mark boundary text delimiter close =
     let p : List ℕ = dashes ++ boundary in
-    let white = and_second (starts_with nat_eq text p) (list_all is_white (drop (length p) text)) delimiter in
+    let white = (and_parts (starts_with nat_eq text p) (list_all is_white (drop (length p) text)) delimiter).1 in
     let both = is_padded-append p dashes text ∙ refl in
-    let after = and_second (starts_with nat_eq text p) (is_padded dashes (drop (length p) text)) (sym both ∙ close) in
-    let begins = and_first (starts_with nat_eq (drop (length p) text) dashes) (list_all is_white (drop 2 (drop (length p) text))) after in
+    let after = (and_parts (starts_with nat_eq text p) (is_padded dashes (drop (length p) text)) (sym both ∙ close)).1 in
+    let begins = (and_parts (starts_with nat_eq (drop (length p) text) dashes) (list_all is_white (drop 2 (drop (length p) text))) after).0 in
     begins_dashes (drop (length p) text) white begins
 
 -- by the steps that the reader takes
@@ -144,11 +137,3 @@ delimiter-other boundary text dashed is some none = sym (delimiter_steps boundar
 pub delimiter-tail : (boundary text dashed tail : List ℕ) → dashed ≡ drop 2 text → starts_with nat_eq text dashes ≡ true → starts_with nat_eq dashed boundary ≡ true → tail ≡ drop (length boundary) dashed
     → list_all is_white tail ≡ is_padded (dashes ++ boundary) text
 delimiter-tail boundary text dashed tail is some begins tail_is = sym (delimiter_steps boundary text ∙ rw (some, ← is, begins, ← tail_is) refl)
-
-pub not_is_true : (b : Bool) → not b ≡ true → b ≡ false
-not_is_true true h = let clash : false ≡ true = h in cc
-not_is_true false h = refl
-
-pub not_is_false : (b : Bool) → not b ≡ false → b ≡ true
-not_is_false true h = refl
-not_is_false false h = let clash : true ≡ false = h in cc

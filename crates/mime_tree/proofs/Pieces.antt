@@ -1,5 +1,6 @@
 -- One part after another.
 use Rattle.std.proofs.Common.{◌≡◌, ℕ, ◌+◌, List, [], ◌∷◌, ◌++◌, Bool, true, false, ◌||◌, arith, refl, sym, ap, ◌∙◌, append-nil, append_assoc}
+use Rattle.std.proofs.lemmas.Bool.{or_right}
 use Rattle.std.specs.Prelude.{if◌then◌else◌}
 use Rattle.mime_tree.specs.Marks.{text_of, is_delimiter, is_close}
 use Rattle.mime_tree.specs.Parts.{shortened, size, cut_last, parts_on}
@@ -78,7 +79,7 @@ PartsGoOn s b at passed q lines = parts_on b at passed (region s lines) ≡ reco
 own_close : (s : List (List ℕ)) (b : List ℕ) (at : ℕ) (passed : List (List ℕ)) (q : ℕ) (line : List ℕ) (rest : List (List ℕ)) → is_marked s line ≡ false → is_close b line ≡ true → PartsGoOn s b at passed q (line ∷ rest)
 unfolding piece
 own_close s b at passed q line rest outer close =
-    let own : (is_delimiter b line || is_close b line) ≡ true = rw close (or_true (is_delimiter b line)) in
+    let own : (is_delimiter b line || is_close b line) ≡ true = rw close (or_right (is_delimiter b line) true refl) in
     rw (
       kept_mark s line rest outer (close_has_text b line close),
       parts_on-close b at passed (kept s line rest) (region s rest) (is_close-kept s b line rest ∙ close),
@@ -87,10 +88,6 @@ own_close s b at passed q line rest outer close =
       own,
       close,
     ) refl
-  where
-    or_true : (a : Bool) → (a || true) ≡ true
-    or_true true = refl
-    or_true false = refl
 
 own_delimiter : (s : List (List ℕ)) (b : List ℕ) (at : ℕ) (passed : List (List ℕ)) (q : ℕ) (line : List ℕ) (rest : List (List ℕ)) → at + size passed ≡ q → is_marked s line ≡ false → is_delimiter b line ≡ true
     → is_close b line ≡ false → PartsGoOn s b at passed q (line ∷ rest)

@@ -8,11 +8,11 @@ use Rattle.utf8_fields.proofs.Heads.{first_line_begins}
 use Rattle.mime_tree.specs.Marks.{text_of}
 use Rattle.mime_tree.specs.Parts.{shortened}
 
-text_of-crlf : (x y : ℕ) (rest : List ℕ) → is_crlf x y ≡ true → text_of (x ∷ y ∷ rest) ≡ []
+pub text_of-crlf : (x y : ℕ) (rest : List ℕ) → is_crlf x y ≡ true → text_of (x ∷ y ∷ rest) ≡ []
 unfolding text_of
 text_of-crlf x y rest both = rw both refl
 
-text_of-other : (x y : ℕ) (rest : List ℕ) → is_crlf x y ≡ false → text_of (x ∷ y ∷ rest) ≡ x ∷ text_of (y ∷ rest)
+pub text_of-other : (x y : ℕ) (rest : List ℕ) → is_crlf x y ≡ false → text_of (x ∷ y ∷ rest) ≡ x ∷ text_of (y ∷ rest)
 unfolding text_of
 text_of-other x y rest other = rw other refl
 

@@ -9,21 +9,17 @@ use Rattle.mime_tree.specs.private.Open.{is_marked_text, begins_marked, region}
 use Rattle.mime_tree.specs.Tree.{HasTree}
 use Rattle.mime_tree.specs.Faults.{IsTreeFault, IsFaultOf, told_of}
 use Rattle.mime_tree.specs.private.Reading.{region_at, IsEntityRead}
+use Rattle.mime_tree.proofs.LinesAt.{no_mark}
 
 none_by : (line : List ℕ) (rest : List (List ℕ)) → region [] rest ≡ rest → (b : Bool) → begins_marked [] rest ≡ b → b ≡ false → region [] (line ∷ rest) ≡ line ∷ rest
 unfolding region is_marked_text
 none_by line rest same b b_is other = rw (b_is ∙ other) (ap (λ all. line ∷ all) same)
 
-begins-none : (lines : List (List ℕ)) → begins_marked [] lines ≡ false
-unfolding begins_marked is_marked_text
-begins-none [] = refl
-begins-none (line ∷ rest) = refl
-
 -- with no open boundary all lines are the entity's
 pub region-none : (lines : List (List ℕ)) → region [] lines ≡ lines
 unfolding region is_marked_text
 region-none [] = refl
-region-none (line ∷ rest) = none_by line rest (region-none rest) (begins_marked [] rest) refl (begins-none rest)
+region-none (line ∷ rest) = none_by line rest (region-none rest) (begins_marked [] rest) refl (no_mark rest)
 
 pub whole_tree : (octets : List ℕ) (entities : List Entity) (stop : Stop) → IsSound octets → IsEntityRead 32 [] octets None false (record { from = 0; at = 0 }) [] entities stop → HasTree octets entities
 whole_tree octets entities stop message read = record { is_message = message; root = rw read.added (rw region-none at read.entity) }

@@ -14,6 +14,7 @@ use Rattle.field_tokens.specs.Squeezed.{is_blank, octets_of, words_of}
 use Rattle.field_tokens.proofs.TokenLists.{AreTokens-once}
 use Rattle.field_tokens.proofs.Parts.{octets_of-tokens}
 use Rattle.field_tokens.proofs.SqueezedLemmas.{no_token}
+use Rattle.field_tokens.proofs.SqueezedValues.{value_at}
 use Rattle.param_2231.proofs.ChangedTokens.{octets_between}
 use Rattle.mime_tree.specs.Openings.{is_identity_name, KeepsOctets}
 
@@ -65,16 +66,12 @@ pub FindsWord-absent : (tokens : List Token) (found : Option Token) (k : ℕ) �
 FindsWord-absent tokens None k is past = λ token one. absurd (let clash : token ∷ [] ≡ [] = sym one ∙ words_all tokens None k is past in cc)
 FindsWord-absent tokens (Some found) k is past = tt
 
--- a token by its octets in the text
-abbrev pub valued : List ℕ → Token → TokenValue
-valued text token = record { kind = token.kind; octets = octets_at text token.span }
-
 abbrev of_kind : TokenKind → List ℕ → TokenValue
 of_kind kind octets = record { kind = kind; octets = octets }
 
 -- the words by their places, and by their octets
 words_valued : (text front rest : List ℕ) (at : ℕ) (vs : List TokenValue) → text ≡ front ++ (octets_of vs ++ rest) → at ≡ length front
-    → map (valued text) (filter is_word (tokens_from at vs)) ≡ words_of vs
+    → map (value_at text) (filter is_word (tokens_from at vs)) ≡ words_of vs
 words_valued text front rest at [] e place = refl
 words_valued text front rest at (v ∷ vs) e place =
     let first : text ≡ front ++ (v.octets ++ (octets_of vs ++ rest)) = e ∙ ap (λ r. front ++ r) (append_assoc v.octets (octets_of vs) rest) in
@@ -83,7 +80,7 @@ words_valued text front rest at (v ∷ vs) e place =
     let octets = octets_between front v.octets (octets_of vs ++ rest) text at first place in
     elim (cases_Bool (is_blank v.kind)) [
       | inl blank ↦ rw (blank) others
-      | inr word ↦ rw (word) (ap (λ o. of_kind v.kind o ∷ map (valued text) (filter is_word (tokens_from (at + length v.octets) vs))) octets ∙ ap (λ r. v ∷ r) others)
+      | inr word ↦ rw (word) (ap (λ o. of_kind v.kind o ∷ map (value_at text) (filter is_word (tokens_from (at + length v.octets) vs))) octets ∙ ap (λ r. v ∷ r) others)
     ]
 
 abbrev IsWithin : List ℕ → Token → Type 0
@@ -107,21 +104,21 @@ words_within text front rest at (v ∷ vs) e place =
 -- The one word of a text by its octets.
 pub record IsWordOf (text : List ℕ) (values : List TokenValue) (word : Token) : Type 0 where
   pub within : word.span.at + word.span.len ≤ length text
-  pub words : words_of values ≡ valued text word ∷ []
+  pub words : words_of values ≡ value_at text word ∷ []
 
 pub one_word : (text : List ℕ) (tokens : List Token) (word : Token) → (has : HasTokens Mime text tokens) → filter is_word tokens ≡ word ∷ [] → IsWordOf text has.values word
 one_word text tokens word has one =
     let whole : text ≡ octets_of has.values ++ [] = sym (octets_of-tokens Mime has.values text has.are_tokens) ∙ sym (append-nil (octets_of has.values)) in
     let placed : filter is_word (tokens_from 0 has.values) ≡ word ∷ [] = ap (filter is_word) (sym has.placed) ∙ one in
     let all : AllByRecursion (IsWithin text) (word ∷ []) = subst (AllByRecursion (IsWithin text)) placed (words_within text [] [] 0 has.values whole refl) in
-    record { within = all.0; words = sym (words_valued text [] [] 0 has.values whole refl) ∙ ap (map (valued text)) placed }
+    record { within = all.0; words = sym (words_valued text [] [] 0 has.values whole refl) ∙ ap (map (value_at text)) placed }
 
 pub word_keeps : (text : List ℕ) (tokens : List Token) (word : Token) → HasTokens Mime text tokens → filter is_word tokens ≡ word ∷ [] → word.kind ≡ Atom
     → is_identity_name (octets_at text word.span) ≡ true → KeepsOctets text
 word_keeps text tokens word has one kind named = record {
   tokens = has.values;
   has = record { is_line = has.is_line; are_tokens = has.are_tokens };
-  atom = valued text word;
+  atom = value_at text word;
   words = (one_word text tokens word has one).words;
   kind = kind;
   named = named;
@@ -131,10 +128,10 @@ same_one : (v w : TokenValue) → v ∷ [] ≡ w ∷ [] → v ≡ w
 same_one v w e = cc e
 
 -- the word that says how the octets are kept
-kept_word : (text : List ℕ) (tokens : List Token) (word : Token) → HasTokens Mime text tokens → filter is_word tokens ≡ word ∷ [] → (keeps : KeepsOctets text) → valued text word ≡ keeps.atom
+kept_word : (text : List ℕ) (tokens : List Token) (word : Token) → HasTokens Mime text tokens → filter is_word tokens ≡ word ∷ [] → (keeps : KeepsOctets text) → value_at text word ≡ keeps.atom
 kept_word text tokens word has one keeps =
     let same : has.values ≡ keeps.tokens = AreTokens-once Mime text has.values keeps.tokens has.are_tokens keeps.has.are_tokens in
-    same_one (valued text word) keeps.atom (sym (one_word text tokens word has one).words ∙ ap words_of same ∙ keeps.words)
+    same_one (value_at text word) keeps.atom (sym (one_word text tokens word has one).words ∙ ap words_of same ∙ keeps.words)
 
 pub kept_kind : (text : List ℕ) (tokens : List Token) (word : Token) → HasTokens Mime text tokens → filter is_word tokens ≡ word ∷ [] → KeepsOctets text → word.kind ≡ Atom
 kept_kind text tokens word has one keeps = ap (λ (v : TokenValue). v.kind) (kept_word text tokens word has one keeps) ∙ keeps.kind
@@ -143,7 +140,7 @@ pub kept_name : (text : List ℕ) (tokens : List Token) (word : Token) → HasTo
     → is_identity_name (octets_at text word.span) ≡ true
 kept_name text tokens word has one keeps = ap (λ (v : TokenValue). is_identity_name v.octets) (kept_word text tokens word has one keeps) ∙ keeps.named
 
-one_of : (text : List ℕ) (tokens : List Token) (v : TokenValue) → map (valued text) tokens ≡ v ∷ [] → (token : Token) × (tokens ≡ token ∷ [])
+one_of : (text : List ℕ) (tokens : List Token) (v : TokenValue) → map (value_at text) tokens ≡ v ∷ [] → (token : Token) × (tokens ≡ token ∷ [])
 one_of text [] v e = cc e
 one_of text (t ∷ []) v e = (t, refl)
 one_of text (t ∷ u ∷ ts) v e = absurd (omega (arith, ap length e))

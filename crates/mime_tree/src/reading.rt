@@ -60,6 +60,40 @@ pub struct Opened {
     pub stop: Stop,
 }
 
+/// An entity that is to be read.
+#[derive(Clone, Copy)]
+pub struct Place {
+    /// The number of the entity that it is in.
+    pub parent: Option<usize>,
+    /// Whether it is in a digest.
+    pub digest: bool,
+    pub start: Start,
+    /// How many levels of entities may be in it.
+    pub levels: u32,
+}
+
+/// A content that is to be read.
+#[derive(Clone, Copy)]
+pub struct Content {
+    /// The number of its entity.
+    pub number: usize,
+    pub start: Start,
+    /// How many levels of entities may be in it.
+    pub levels: u32,
+}
+
+/// A content with parts that are to be read.
+#[derive(Clone, Copy)]
+pub struct Division {
+    /// The number of its entity.
+    pub number: usize,
+    /// Whether it is a digest.
+    pub digest: bool,
+    pub start: Start,
+    /// How many levels of entities may be in a part.
+    pub levels: u32,
+}
+
 // Whether the line that stands there is marked.
 fn is_marked_at(octets: &[u8], boundaries: &[Octets], at: usize) -> bool
     requires fits { at ≤ length octets.now }
@@ -253,39 +287,38 @@ fn read_parts(
     entities: &mut Entities,
     boundaries: &mut Vec<Octets>,
     boundary: Octets,
-    digest: bool,
-    number: usize,
-    start: Start,
-    levels: u32,
+    division: Division,
 ) -> Result<Opened, FieldFault>
-    requires start { IsStart boundaries.old.items octets.now start }
-    requires number { number + 1 ≡ length entities.old }
-    requires levels { levels ≤ 32 }
-    ensures read { let outer = boundaries.old.items in let parts = parts_of boundary start.at (region_at outer octets.now start.from) in
-        IfOk result (IsDividedRead levels outer octets.now parts digest number start.from entities.old entities.new) }
-    ensures fault { let outer = boundaries.old.items in let parts = parts_of boundary start.at (region_at outer octets.now start.from) in
-        IfErr result (IsFaultAmong (IsEntity levels octets.now) (IsFaultOf levels octets.now) digest parts) }
+    requires start { IsStart boundaries.old.items octets.now division.start }
+    requires number { division.number + 1 ≡ length entities.old }
+    requires levels { division.levels ≤ 32 }
+    ensures read { let outer = boundaries.old.items in let parts = parts_of boundary division.start.at (region_at outer octets.now division.start.from) in
+        IfOk result (IsDividedRead division.levels outer octets.now parts division.digest division.number division.start.from entities.old entities.new) }
+    ensures fault { let outer = boundaries.old.items in let parts = parts_of boundary division.start.at (region_at outer octets.now division.start.from) in
+        IfErr result (IsFaultAmong (IsEntity division.levels octets.now) (IsFaultOf division.levels octets.now) division.digest parts) }
     ensures restored { OnOk result (boundaries.new.items ≡ boundaries.old.items) }
 {
     let mut shape = Shape::Leaf;
     let mut own = boundary;
-    let mut next = first_part(octets, boundaries.as_slice(), own.as_slice(), start);
+    let mut next = first_part(
+        octets,
+        boundaries.as_slice(),
+        own.as_slice(),
+        division.start,
+    );
     'parts: loop {
         match next {
             Next::End(stop) => return Ok(Opened { shape, stop }),
-            Next::Part(part) => {
+            Next::Part(start) => {
                 shape = Shape::Multipart;
                 boundaries.push(own)?;
-                let stop = read_entity(
-                    alloc,
-                    octets,
-                    entities,
-                    boundaries,
-                    Some(number),
-                    digest,
-                    part,
-                    levels,
-                )?;
+                let part = Place {
+                    parent: Some(division.number),
+                    digest: division.digest,
+                    start,
+                    levels: division.levels,
+                };
+                let stop = read_entity(alloc, octets, entities, boundaries, part)?;
                 own = take_last(boundaries);
                 next = next_part(octets, boundaries.as_slice(), own.as_slice(), stop);
             }
@@ -301,19 +334,17 @@ fn read_inside(
     entities: &mut Entities,
     boundaries: &mut Vec<Octets>,
     opening: Opening,
-    number: usize,
-    content: Start,
-    levels: u32,
+    content: Content,
 ) -> Result<Opened, FieldFault>
-    requires content { IsStart boundaries.old.items octets.now content }
-    requires number { number + 1 ≡ length entities.old }
-    requires levels { levels ≤ 32 }
-    ensures read { IfOk result (IsInsideRead levels boundaries.old.items octets.now opening number content entities.old entities.new) }
-    ensures fault { IfErr result (λ fault. fault ≡ FieldFault.Memory ⊎ IsFaultWithin levels octets.now opening content.at (region_at boundaries.old.items octets.now content.from) fault) }
+    requires start { IsStart boundaries.old.items octets.now content.start }
+    requires number { content.number + 1 ≡ length entities.old }
+    requires levels { content.levels ≤ 32 }
+    ensures read { IfOk result (IsInsideRead content.levels boundaries.old.items octets.now opening content.number content.start entities.old entities.new) }
+    ensures fault { IfErr result (λ fault. fault ≡ FieldFault.Memory ⊎ IsFaultWithin content.levels octets.now opening content.start.at (region_at boundaries.old.items octets.now content.start.from) fault) }
     ensures restored { OnOk result (boundaries.new.items ≡ boundaries.old.items) }
 {
-    if levels == 0 {
-        let stop = skip_lines(octets, boundaries.as_slice(), content.from);
+    if content.levels == 0 {
+        let stop = skip_lines(octets, boundaries.as_slice(), content.start.from);
         return Ok(Opened {
             shape: Shape::Leaf,
             stop,
@@ -321,39 +352,34 @@ fn read_inside(
     }
     match opening {
         Opening::Nothing => {
-            let stop = skip_lines(octets, boundaries.as_slice(), content.from);
+            let stop = skip_lines(octets, boundaries.as_slice(), content.start.from);
             Ok(Opened {
                 shape: Shape::Leaf,
                 stop,
             })
         }
         Opening::Message => {
-            let stop = read_entity(
-                alloc,
-                octets,
-                entities,
-                boundaries,
-                Some(number),
-                false,
-                content,
-                levels - 1,
-            )?;
+            let message = Place {
+                parent: Some(content.number),
+                digest: false,
+                start: content.start,
+                levels: content.levels - 1,
+            };
+            let stop = read_entity(alloc, octets, entities, boundaries, message)?;
             Ok(Opened {
                 shape: Shape::Message,
                 stop,
             })
         }
-        Opening::Parts { boundary, digest } => read_parts(
-            alloc,
-            octets,
-            entities,
-            boundaries,
-            boundary,
-            digest,
-            number,
-            content,
-            levels - 1,
-        ),
+        Opening::Parts { boundary, digest } => {
+            let division = Division {
+                number: content.number,
+                digest,
+                start: content.start,
+                levels: content.levels - 1,
+            };
+            read_parts(alloc, octets, entities, boundaries, boundary, division)
+        }
     }
 }
 
@@ -364,35 +390,35 @@ fn read_entity(
     octets: &[u8],
     entities: &mut Entities,
     boundaries: &mut Vec<Octets>,
-    parent: Option<usize>,
-    digest: bool,
-    start: Start,
-    levels: u32,
+    place: Place,
 ) -> Result<Stop, FieldFault>
-    requires start { IsStart boundaries.old.items octets.now start }
-    requires levels { levels ≤ 32 }
-    ensures read { IfOk result (IsEntityRead levels boundaries.old.items octets.now parent digest start entities.old entities.new) }
-    ensures fault { IfErr result (IsFaultOf levels octets.now digest start.at (region_at boundaries.old.items octets.now start.from)) }
+    requires start { IsStart boundaries.old.items octets.now place.start }
+    requires levels { place.levels ≤ 32 }
+    ensures read { IfOk result (IsEntityRead place.levels boundaries.old.items octets.now place.parent place.digest place.start entities.old entities.new) }
+    ensures fault { IfErr result (IsFaultOf place.levels octets.now place.digest place.start.at (region_at boundaries.old.items octets.now place.start.from)) }
     ensures restored { OnOk result (boundaries.new.items ≡ boundaries.old.items) }
 {
     let number = entities.len();
+    let start = place.start;
     let head = read_head(alloc, octets, boundaries.as_slice(), start)?;
-    let content = head.content;
-    let Ok(opening) = opening_of(alloc, octets, head.block.fields.as_slice(), digest) else {
+    let content = Content {
+        number,
+        start: head.content,
+        levels: place.levels,
+    };
+    let Ok(opening) = opening_of(alloc, octets, head.block.fields.as_slice(), place.digest) else {
         return Err(FieldFault::Memory);
     };
     entities.push(Entity {
-        parent,
-        depth: DEPTH_MAX + 1 - levels,
+        parent: place.parent,
+        depth: DEPTH_MAX + 1 - place.levels,
         at: start.at,
-        body: content.at,
+        body: content.start.at,
         end: start.at,
         shape: Shape::Leaf,
         block: head.block,
     })?;
-    let opened = read_inside(
-        alloc, octets, entities, boundaries, opening, number, content, levels,
-    )?;
+    let opened = read_inside(alloc, octets, entities, boundaries, opening, content)?;
     entities.settle(
         number,
         end_of(start.from, start.at, opened.stop),
@@ -426,16 +452,13 @@ pub fn read_sound_tree(alloc: Global, octets: &[u8]) -> Result<Tree, TreeFault>
     let mut entities = Entities::new(alloc);
     let mut boundaries = Vec::new(alloc);
     let start = Start { from: 0, at: 0 };
-    match read_entity(
-        alloc,
-        octets,
-        &mut entities,
-        &mut boundaries,
-        None,
-        false,
+    let message = Place {
+        parent: None,
+        digest: false,
         start,
-        DEPTH_MAX,
-    ) {
+        levels: DEPTH_MAX,
+    };
+    match read_entity(alloc, octets, &mut entities, &mut boundaries, message) {
         Ok(_) => Ok(Tree { entities }),
         Err(fault) => Err(told(fault)),
     }

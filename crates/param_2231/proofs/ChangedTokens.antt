@@ -1,7 +1,6 @@
 -- The octets of one atom of a text are changed to as many others: all tokens keep their places.
 use Rattle.std.proofs.Common.{◌≡◌, ℕ, ◌+◌, ◌<◌, true, false, List, [], ◌∷◌, ◌++◌, length, take, drop, refl, sym, ap, ◌∙◌, subst, arith}
 use Rattle.std.proofs.lemmas.Bool.{both_ways, and_parts}
-use Rattle.std.proofs.lemmas.Grind.{flat_map-append}
 use Rattle.std.proofs.lemmas.List.{append_assoc, length-append, take_at, drop_at}
 use Rattle.std.specs.List.{AllByRecursion, list_all}
 use Rattle.mail_wire.specs.Octets.{is_white}
@@ -93,10 +92,7 @@ same_places a b x y text changed (t ∷ ts) at e f p q =
           (other ∙ sym (append_assoc b t.octets (octets_of ts ++ y))) (omega (arith, p, length-append a t.octets)) (omega (arith, q, length-append b t.octets)),
     )
 
-pub octets_of-append : (a b : List TokenValue) → octets_of (a ++ b) ≡ octets_of a ++ octets_of b
-octets_of-append a b = flat_map-append (λ (t : TokenValue). t.octets) a b
-
-tokens_from-append : (at : ℕ) (a b : List TokenValue) → tokens_from at (a ++ b) ≡ tokens_from at a ++ tokens_from (at + length (octets_of a)) b
+pub tokens_from-append : (at : ℕ) (a b : List TokenValue) → tokens_from at (a ++ b) ≡ tokens_from at a ++ tokens_from (at + length (octets_of a)) b
 tokens_from-append at [] b = ap (λ n. tokens_from n b) (omega arith)
 tokens_from-append at (t ∷ a) b =
     ap (λ r. token_at at t ∷ r) (tokens_from-append (at + length t.octets) a b

@@ -1,14 +1,12 @@
 -- Whether sections are pieces is decided.
-use Rattle.std.proofs.Common.{◌≡◌, ◌≢◌, ℕ, zero, suc, ◌+◌, ◌*◌, ◌<◌, ◌≤◌, Bool, true, false, not, eqb, ◌&&◌, ◌||◌, ◌⊎◌, inl, inr, List, [], ◌∷◌, ◌++◌, length, filter, Option, Some, None, refl, sym, ap, ◌∙◌, subst, arith}
+use Rattle.std.proofs.Common.{◌≡◌, ◌≢◌, ℕ, zero, suc, ◌+◌, ◌*◌, ◌<◌, ◌≤◌, Bool, true, false, ◌&&◌, ◌||◌, ◌⊎◌, inl, inr, List, [], ◌∷◌, ◌++◌, length, filter, Option, Some, None, refl, sym, ap, ◌∙◌, subst, arith}
 use Rattle.std.proofs.lemmas.Bool.{cases_Bool, cases_eq, cases_lt, and_parts, and_from, both_ways, true≢false}
-use Rattle.std.proofs.lemmas.Bool.Decides.{nat_tests}
 use Rattle.std.proofs.lemmas.List.{append-nil, length-append}
 use Rattle.std.specs.Char.{digit_value}
 use Rattle.std.specs.List.{list_all}
 use Rattle.std.specs.Str.{str_to_ascii_lowercase}
 use Rattle.mail_wire.specs.Octets.{is_ascii}
 use Rattle.encoded_words.specs.Words.{is_name_octet}
-use Rattle.encoded_words.specs.private.Parts.{lacks}
 use Rattle.field_tokens.specs.declared.Token.{Token}
 use Rattle.field_tokens.specs.Tokens.{octets_at}
 use Rattle.field_tokens.specs.Squeezed.{run_octets}
@@ -16,6 +14,7 @@ use Rattle.param_grammar.specs.declared.ParamKind.{ParamKind}
 use Rattle.param_grammar.specs.Escapes.{EscapedItem, Plain, Escape, IsEscapedItem, item_spelling, IsEscaped, BeginsEscaped}
 use Rattle.param_grammar.specs.Extended.{IsExtended}
 use Rattle.mail_wire.specs.Numbers.{is_digit}
+use Rattle.encoded_words.proofs.Deciding.{cut_at}
 use Rattle.param_grammar.specs.Names.{leads_with_zero, IsNumber, NameParts, IsBase, HasNameParts, HasSuffix}
 use Rattle.param_grammar.specs.Bodies.{is_atom, is_mark_at, are_quoted, are_plain, is_parameter, is_main, is_filled, solid, sections_of, content_of, is_first, SaysOctets, IsParameterOf, IsPieceOf, IsPiece, ArePieces, IsBody}
 use Rattle.param_grammar.proofs.EscapeLemmas.{ReadsTo, ReadsTo-none, ReadsTo-push, IsEscaped-read, not-IsEscaped, BeginsEscaped-plain, BeginsEscaped-escape}
@@ -79,27 +78,10 @@ decide_escaped text = escaped_by (length text) text [] text (ReadsTo-none text) 
 
 -- ---- values
 
-record IsCut (m : ℕ) (xs before after : List ℕ) : Type 0 where
-  whole : xs ≡ before ++ m ∷ after
-  first : lacks m before ≡ true
-
-eqb_same : (x m : ℕ) → eqb x m ≡ true → x ≡ m
-eqb_same x m e = grind (arith, nat_tests)
-
-cut_or_lacks : (m : ℕ) (xs : List ℕ) → ((before after : List ℕ) × IsCut m xs before after) ⊎ (lacks m xs ≡ true)
-cut_or_lacks m [] = inr refl
-cut_or_lacks m (x ∷ xs) = elim (cases_Bool (eqb x m)) [
-  | inl is ↦ inl ([], xs, record { whole = ap (λ y. y ∷ xs) (eqb_same x m is); first = refl })
-  | inr other ↦ elim (cut_or_lacks m xs) [
-    | inl c ↦ inl (x ∷ c.0, c.1, record { whole = ap (λ r. x ∷ r) c.2.whole; first = and_from (not (eqb x m)) (lacks m c.0) (ap not other) c.2.first })
-    | inr l ↦ inr (and_from (not (eqb x m)) (lacks m xs) (ap not other) l)
-  ]
-]
-
 decide_extended : (value : List ℕ) → FoundTwo (IsExtended value)
-decide_extended value = elim (cut_or_lacks 39 value) [
+decide_extended value = elim (cut_at 39 value) [
   | inr l ↦ inr (not-IsExtended-first value l)
-  | inl a ↦ elim (cut_or_lacks 39 a.1) [
+  | inl a ↦ elim (cut_at 39 a.1) [
     | inr l ↦ inr (not-IsExtended-second value a.0 a.1 a.2.whole a.2.first l)
     | inl b ↦ elim (cases_Bool (list_all is_name_octet a.0)) [
       | inr other ↦ inr (not-IsExtended-charset value a.0 a.1 a.2.whole a.2.first other)
@@ -190,7 +172,7 @@ abbrev parts : List ℕ → Option (List ℕ) → Bool → NameParts
 parts base number extended = record { base = base; number = number; is_extended = extended }
 
 decide_name : (name : List ℕ) → Found (HasNameParts name)
-decide_name name = elim (cut_or_lacks 42 name) [
+decide_name name = elim (cut_at 42 name) [
   | inr l ↦ elim (decide_base name) [
     | inr other ↦ inr (not-HasNameParts-base name name None (sym (append-nil name)) l other)
     | inl is ↦ inl (parts name None false, HasNameParts-made name name None None false (sym (append-nil name)) l is (refl, refl))

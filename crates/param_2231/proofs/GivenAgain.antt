@@ -1,14 +1,15 @@
 -- What pieces give stands for them.
-use Rattle.std.proofs.Common.{◌≡◌, ℕ, zero, suc, ◌==◌, Bool, true, false, not, ◌&&◌, if◌then◌else◌, inl, inr, List, [], ◌∷◌, ◌++◌, length, drop, is_some, refl, sym, ap, ◌∙◌, subst, arith}
-use Rattle.std.proofs.lemmas.Bool.{cases_Bool, and_parts, and_from, cond-true, cond-false}
+use Rattle.std.proofs.Common.{◌≡◌, ℕ, zero, suc, ◌==◌, Bool, true, false, not, if◌then◌else◌, inl, inr, List, [], ◌∷◌, ◌++◌, length, drop, is_some, refl, sym, ap, ◌∙◌, subst, arith}
+use Rattle.std.proofs.lemmas.Bool.{cases_Bool, and_parts, cond-true, cond-false}
 use Rattle.std.proofs.lemmas.List.{append_assoc, map-append}
 use Rattle.std.proofs.lemmas.List.Folds.{list_all-append}
 use Rattle.std.specs.List.{AllByRecursion, flat_map, list_all}
 use Rattle.std.specs.Str.{str_to_ascii_lowercase}
 use Rattle.mail_wire.specs.Octets.{is_ascii}
-use Rattle.mail_wire.proofs.AllLemmas.{all-append, pass-append}
+use Rattle.mail_wire.proofs.AllLemmas.{all-append, pass-append, pass-take, pass-drop, pass-front, pass-back}
 use Rattle.encoded_words.specs.Words.{is_name_octet}
 use Rattle.encoded_words.specs.private.Parts.{lacks}
+use Rattle.encoded_words.proofs.WrittenPieces.{both_hold}
 use Rattle.field_tokens.specs.declared.Style.TheVariants.{Mime}
 use Rattle.field_tokens.specs.TokenOctets.{is_atom_octet}
 use Rattle.field_tokens.specs.Tokens.{IsToken, TokenValue, AreTokens}
@@ -19,25 +20,13 @@ use Rattle.param_grammar.specs.Bodies.{is_first, SaysOctets, unquoted, inner}
 use Rattle.param_grammar.specs.Joining.{is_part_of, parts_named, numbered, has_number, first_parts, joined_unit, ParamValue, unit_at, goes_on, params_of, is_ascii_parameter, is_doubled}
 use Rattle.param_2231.specs.Layout.{GivesWhere, PiecesGive}
 use Rattle.param_2231.proofs.CoresAgain.{is_octet, is_quoted_string, content, HasCore}
-use Rattle.param_2231.proofs.PlacedAgain.{all_take, all_drop, filter_all, is_atom_kind}
 use Rattle.param_2231.proofs.WordsAgain.{is_word_octet, lower-all, lower-word, lower-ascii, lower-lacks, lower-twice, CanBeWritten, unit_writes, unquoted-all, escaped-octets}
 use Rattle.param_2231.proofs.MadePiecesAgain.{IsMade, IsName, GivesMade, OneMade, SeriesMade, AreGiven, param_given, written_all}
 use Rattle.param_2231.proofs.JoinedAgain.{StandsFor, Copied, Nothing, One, Series, StandForAll, part_named, parts_append}
+use Rattle.param_2231.proofs.GlobalLemmas.{kind_is}
+use Rattle.param_2231.proofs.SameOctets.{all_filter}
 
 -- ---- what pieces of a text hold
-
-both_all : (p q : ℕ → Bool) (xs : List ℕ) → list_all p xs ≡ true → list_all q xs ≡ true → list_all (λ x. p x && q x) xs ≡ true
-both_all p q [] a b = refl
-both_all p q (x ∷ xs) a b =
-    let c = and_parts (p x) (list_all p xs) a in
-    let d = and_parts (q x) (list_all q xs) b in
-    and_from (p x && q x) (list_all (λ y. p y && q y) xs) (and_from (p x) (q x) c.0 d.0) (both_all p q xs c.1 d.1)
-
-front_all : (p : ℕ → Bool) (xs ys : List ℕ) → list_all p (xs ++ ys) ≡ true → list_all p xs ≡ true
-front_all p xs ys h = (and_parts (list_all p xs) (list_all p ys) (sym (list_all-append p xs ys) ∙ h)).0
-
-rest_all : (p : ℕ → Bool) (xs ys : List ℕ) → list_all p (xs ++ ys) ≡ true → list_all p ys ≡ true
-rest_all p xs ys h = (and_parts (list_all p xs) (list_all p ys) (sym (list_all-append p xs ys) ∙ h)).1
 
 lower_length : (xs : List ℕ) → length (str_to_ascii_lowercase xs) ≡ length xs
 lower_length [] = refl
@@ -55,10 +44,10 @@ core_name piece has =
     let c = has.is_core in
     let b : List ℕ = c.parts.base in
     let are : AreTokens Mime (c.atom ∷ c.equals ∷ c.value) (octets_of (c.atom ∷ c.equals ∷ c.value)) = subst (λ ts. AreTokens Mime ts (octets_of ts)) c.core_is has.stands.are_tokens in
-    let atom = subst (λ k. IsToken Mime k c.atom.octets are.0) (is_atom_kind c.atom.kind c.is_name) are.2 in
+    let atom = subst (λ k. IsToken Mime k c.atom.octets are.0) (kind_is c.atom.kind c.is_name) are.2 in
     let suffix : List ℕ = number_suffix c.parts.number ++ star_suffix c.parts.is_extended in
-    let atoms : list_all (is_atom_octet Mime) b ≡ true = front_all (is_atom_octet Mime) b suffix (sym (ap (list_all (is_atom_octet Mime)) c.has_parts.spelled) ∙ atom.1.passes) in
-    let words : list_all is_word_octet b ≡ true = both_all (is_atom_octet Mime) is_ascii b atoms c.has_parts.base.ascii in
+    let atoms : list_all (is_atom_octet Mime) b ≡ true = pass-front (is_atom_octet Mime) b suffix (sym (ap (list_all (is_atom_octet Mime)) c.has_parts.spelled) ∙ atom.1.passes) in
+    let words : list_all is_word_octet b ≡ true = both_hold (is_atom_octet Mime) is_ascii b atoms c.has_parts.base.ascii in
     subst IsName (sym c.base_is) (record {
       base = lower_base b c.has_parts.base;
       first = lower-lacks 42 (omega arith) b c.has_parts.first;
@@ -76,7 +65,7 @@ content_octets : (value : List TokenValue) → list_all is_octet (octets_of valu
 content_octets value h = by (is_quoted_string value)
   where
     by : (b : Bool) → list_all is_octet (if b then unquoted (inner (octets_of value)) else octets_of value) ≡ true
-    by true = unquoted-all is_octet (inner (octets_of value)) (all_take is_octet _ (drop 1 (octets_of value)) (all_drop is_octet 1 (octets_of value) h))
+    by true = unquoted-all is_octet (inner (octets_of value)) (pass-take is_octet _ (drop 1 (octets_of value)) (pass-drop is_octet 1 (octets_of value) h))
     by false = h
 
 says_good : (extended first : Bool) (said : List ℕ) (piece : Piece) → list_all is_octet said ≡ true → SaysOctets extended first said piece.charset piece.octets → IsGood piece
@@ -86,16 +75,16 @@ says_good true false said piece h says =
 says_good true true said piece h says =
     let is = says.1 in
     let whole : list_all is_octet (piece.charset ++ 39 ∷ (is.language ++ 39 ∷ says.0)) ≡ true = sym (ap (list_all is_octet) is.spelled) ∙ h in
-    let behind : list_all is_octet (is.language ++ 39 ∷ says.0) ≡ true = rest_all is_octet (piece.charset ++ 39 ∷ []) (is.language ++ 39 ∷ says.0)
+    let behind : list_all is_octet (is.language ++ 39 ∷ says.0) ≡ true = pass-back is_octet (piece.charset ++ 39 ∷ []) (is.language ++ 39 ∷ says.0)
     (ap (list_all is_octet) (append_assoc piece.charset (39 ∷ []) (is.language ++ 39 ∷ says.0)) ∙ whole) in
-    let text : list_all is_octet says.0 ≡ true = rest_all is_octet (is.language ++ 39 ∷ []) says.0 (ap (list_all is_octet) (append_assoc is.language (39 ∷ []) says.0) ∙ behind) in
+    let text : list_all is_octet says.0 ≡ true = pass-back is_octet (is.language ++ 39 ∷ []) says.0 (ap (list_all is_octet) (append_assoc is.language (39 ∷ []) says.0) ∙ behind) in
     record { names = is.charset_is; first = is.charset_first; octets = escaped-octets says.0 piece.octets says.2 text }
 
 pub core_good : (piece : Piece) → HasCore piece → IsGood piece
 core_good piece has =
     let c = has.is_core in
     let whole : list_all is_octet (octets_of (c.atom ∷ c.equals ∷ c.value)) ≡ true = sym (ap (λ ts. list_all is_octet (octets_of ts)) c.core_is) ∙ has.stands.octets in
-    let value : list_all is_octet (octets_of c.value) ≡ true = rest_all is_octet c.equals.octets (octets_of c.value) (rest_all is_octet c.atom.octets (octets_of (c.equals ∷ c.value)) whole) in
+    let value : list_all is_octet (octets_of c.value) ≡ true = pass-back is_octet c.equals.octets (octets_of c.value) (pass-back is_octet c.atom.octets (octets_of (c.equals ∷ c.value)) whole) in
     says_good c.parts.is_extended (is_first c.parts.number) (content c.value) piece (content_octets c.value value) c.says
 
 pub all_good : (pieces : List Piece) → AllByRecursion HasCore pieces → AllByRecursion IsGood pieces
@@ -108,18 +97,18 @@ flat_all q f (p ∷ ps) each all = pass-append q (f p) (flat_map f ps) (each p a
 
 first_good : (n : ℕ) (parts : List Piece) → AllByRecursion IsGood parts → AllByRecursion IsGood (first_parts n parts)
 first_good zero parts all = tt
-first_good (suc n) parts all = all-append IsGood (first_parts n parts) (numbered n parts) (first_good n parts all) (filter_all IsGood (has_number n) parts all)
+first_good (suc n) parts all = all-append IsGood (first_parts n parts) (numbered n parts) (first_good n parts all) (all_filter IsGood (has_number n) parts all)
 
 joined_writes : (parts : List Piece) → AllByRecursion IsGood parts → CanBeWritten (joined_unit parts)
 joined_writes parts all =
-    let zeroth : AllByRecursion IsGood (numbered 0 parts) = filter_all IsGood (has_number 0) parts all in
+    let zeroth : AllByRecursion IsGood (numbered 0 parts) = all_filter IsGood (has_number 0) parts all in
     unit_writes (flat_map (λ (p : Piece). p.charset) (numbered 0 parts)) (flat_map (λ (p : Piece). p.octets) (first_parts (length parts) parts))
     (flat_all is_name_octet (λ (p : Piece). p.charset) (numbered 0 parts) (λ p good. good.names) zeroth) (flat_all (λ x. not (x == 39)) (λ (p : Piece). p.charset) (numbered 0 parts) (λ p good. good.first) zeroth)
     (flat_all is_octet (λ (p : Piece). p.octets) (first_parts (length parts) parts) (λ p good. good.octets) (first_good (length parts) parts all))
 
 pub unit_at_writes : (all : List Piece) (p : Piece) → AllByRecursion IsGood all → IsGood p → CanBeWritten (unit_at all p)
 unit_at_writes all p good is = elim (cases_Bool (is_some p.number)) [
-  | inl s ↦ subst CanBeWritten (sym (cond-true _ _ _ s)) (joined_writes (parts_named p.base all) (filter_all IsGood (is_part_of p.base) all good))
+  | inl s ↦ subst CanBeWritten (sym (cond-true _ _ _ s)) (joined_writes (parts_named p.base all) (all_filter IsGood (is_part_of p.base) all good))
   | inr u ↦ subst CanBeWritten (sym (cond-false _ _ _ u)) (unit_writes p.charset p.octets is.names is.first is.octets)
 ]
 

@@ -3,28 +3,28 @@ use Rattle.std.proofs.Common.{◌≡◌, ◌↔◌, ℕ, ◌+◌, ◌<◌, ◌�
 use Rattle.std.proofs.lemmas.Bool.{cases_Bool, cond-true, cond-false, true≢false}
 use Rattle.std.proofs.lemmas.List.{append_assoc, append-nil, length-append, take_at, drop_at, drop_more}
 use Rattle.std.proofs.lemmas.Slice.Eq.{bytes_eq-Decides}
-use Rattle.std.specs.Str.{IsUtf8, bytes_eq, str_to_ascii_lowercase}
+use Rattle.std.specs.Str.{IsUtf8, bytes_eq}
 use Rattle.encoded_words.specs.Words.{UnitValue, Text}
 use Rattle.encoded_words.specs.private.Values.{value_of}
+use Rattle.encoded_words.proofs.WritableUnits.{BothUtf8}
 use Rattle.field_tokens.specs.declared.Style.TheVariants.{Mime}
 use Rattle.field_tokens.specs.declared.Token.{Token}
 use Rattle.field_tokens.specs.declared.TokenKind.{TokenKind}
 use Rattle.field_tokens.specs.declared.TokenKind.TheVariants.{Atom, Quoted, Literal, Special, Gap, Comment}
 use Rattle.field_tokens.specs.Tokens.{IsToken, TokenValue, AreTokens, tokens_from, HasTokens}
-use Rattle.field_tokens.specs.Squeezed.{is_comment, comments_of, run_octets}
+use Rattle.field_tokens.specs.Squeezed.{is_comment, comments_of}
 use Rattle.field_tokens.specs.Comments.{IsComment, CommentPieces, CommentsPieces, AddsPieces}
 use Rattle.field_tokens.proofs.TokenLists.{token_at, AreTokens-once, HasTokens-once}
-use Rattle.field_tokens.proofs.TokenLines.{BothUtf8, token_utf8}
+use Rattle.field_tokens.proofs.TokenLines.{token_utf8}
 use Rattle.param_grammar.specs.declared.ParamKind.{ParamKind}
 use Rattle.param_grammar.specs.declared.Piece.{Piece}
 use Rattle.param_grammar.specs.declared.role.Role.{Role}
 use Rattle.param_grammar.specs.declared.role.Role.TheVariants.{GoesOn, Begins}
-use Rattle.param_grammar.specs.Bodies.{solid, IsBody, WritesBody}
-use Rattle.param_grammar.specs.Joining.{ParamValue, params_of, AreParams, goes_on, unit_at, is_ascii_parameter, is_doubled, IsRole, AreRoles, HasSaidBody}
-use Rattle.param_2231.specs.Layout.{ParamPieces, GivesWhere, PieceGives, PiecesGive, with_semicolons, written_main, ParamsPieces}
+use Rattle.param_grammar.specs.Bodies.{IsBody}
+use Rattle.param_grammar.specs.Joining.{ParamValue, params_of, goes_on, unit_at, is_ascii_parameter, is_doubled, IsRole, AreRoles, HasSaidBody}
+use Rattle.param_2231.specs.Layout.{ParamPieces, GivesWhere, PieceGives, PiecesGive, with_semicolons}
 use Rattle.param_2231.specs.private.Parts.{IsWritableUnit}
 use Rattle.param_2231.specs.private.Given.{RoleGives, IsWritableRole, ended, GiveComments}
-use Rattle.param_grammar.proofs.BodyLemmas.{IsBody-once}
 use Rattle.param_grammar.proofs.SectionLemmas.{no_token}
 use Rattle.param_2231.proofs.ParamsSome.{unit_at-writable}
 
@@ -270,37 +270,3 @@ no_tokens kind text none main params b = none b.tokens b.has_tokens
 
 pub by_tokens : (kind : ParamKind) (text main : List ℕ) (params : List ParamValue) (tokens : List Token) → HasTokens Mime text tokens → (b : HasSaidBody kind text main params) → IsBody kind text tokens main b.pieces
 by_tokens kind text main params tokens has b = subst (λ ts. IsBody kind text ts main b.pieces) (HasTokens-once Mime text b.tokens tokens b.has_tokens has) b.is_body
-
-pub no_body : (kind : ParamKind) (text : List ℕ) (tokens : List Token) → HasTokens Mime text tokens → ((main : List ℕ) (pieces : List Piece) → IsBody kind text tokens main pieces → ⊥)
-    → (main : List ℕ) (params : List ParamValue) → HasSaidBody kind text main params → ⊥
-no_body kind text tokens has none main params b = none main b.pieces (by_tokens kind text main params tokens has b)
-
-pub no_params : (kind : ParamKind) (text written : List ℕ) (tokens : List Token) (pieces : List Piece) → HasTokens Mime text tokens → WritesBody kind text tokens written pieces
-    → ((params : List ParamValue) → AreParams pieces params → ⊥) → (main : List ℕ) (params : List ParamValue) → HasSaidBody kind text main params → ⊥
-no_params kind text written tokens pieces has w none main params b =
-    let same : b.pieces ≡ pieces = (IsBody-once kind text tokens main (str_to_ascii_lowercase written) b.pieces pieces (by_tokens kind text main params tokens has b) w.body).1 in
-    none params (subst (λ ps. AreParams ps params) same b.are_params)
-
--- what is read as a body with parameters
-abbrev said_body : (kind : ParamKind) (text written : List ℕ) (tokens : List Token) (pieces : List Piece) → (has : HasTokens Mime text tokens) → (w : WritesBody kind text tokens written pieces) → (params : List ParamValue)
-    → AreParams pieces params → HasSaidBody kind text (str_to_ascii_lowercase written) params
-said_body kind text written tokens pieces has w params are = record { tokens = tokens; has_tokens = has; pieces = pieces; is_body = w.body; are_params = are }
-
-pub ParamsPieces-made : (kind : ParamKind) (open_global : Bool) (text written main : List ℕ) (tokens : List Token) (pieces : List Piece) (given made all : List (List ℕ)) → HasTokens Mime text tokens
-    → WritesBody kind text tokens written pieces → ((params : List ParamValue) × AreParams pieces params) → main ≡ written_main open_global kind (str_to_ascii_lowercase written) written
-    → AddsPieces (PiecesGive pieces (params_of pieces) [] pieces) (main ∷ []) given → made ≡ with_semicolons given → AddsPieces (GiveComments text tokens) made all → ParamsPieces kind open_global text all
-ParamsPieces-made kind open_global text written main tokens pieces given made all has w are main_is gives made_is adds =
-    let lower : List ℕ = str_to_ascii_lowercase written in
-    let first : List ℕ = run_octets text (solid w.body.first) in
-    let opened : main ≡ written_main open_global kind lower first = main_is ∙ ap (written_main open_global kind lower) w.written_is in
-    let front : made ≡ with_semicolons (written_main open_global kind lower first ∷ gives.pieces) = made_is ∙ ap with_semicolons (gives.added ∙ ap (λ m. m ∷ gives.pieces) opened) in
-    record {
-      main = lower;
-      params = are.0;
-      body = said_body kind text written tokens pieces has w are.0 are.1;
-      given = gives.pieces;
-      give = subst (λ params. PiecesGive pieces params [] pieces gives.pieces) (sym are.1.params_are) gives.holds;
-      comments = adds.pieces;
-      comments_are = adds.holds has;
-      pieces_are = adds.added ∙ ap (λ m. m ++ adds.pieces) front;
-    }

@@ -20,20 +20,20 @@ use Rattle.field_tokens.specs.Squeezed.{is_blank, octets_of, words_of, comments_
 use Rattle.field_tokens.specs.Comments.{CommentValue, CommentsSay}
 use Rattle.field_tokens.proofs.TokenLists.{AreTokens-once, HasTokens-once, token_at}
 use Rattle.field_tokens.proofs.TokenLines.{AreLineTokens, tokens_lines, line_none, line_append, ascii_line}
-use Rattle.field_tokens.proofs.Parts.{octets_of-tokens, comments_of-append, StopsBehind-append}
+use Rattle.field_tokens.proofs.Parts.{octets_of-tokens, comments_of-append, StopsBehind-append, octets_of-append}
 use Rattle.param_grammar.specs.declared.ParamKind.{ParamKind}
 use Rattle.param_grammar.specs.declared.ParamKind.TheVariants.{Content}
 use Rattle.param_grammar.specs.Bodies.{solid, is_atom, is_mark_at, IsBody}
 use Rattle.param_grammar.specs.Joining.{ParamValue, HasSaidBody, SaysParams}
 use Rattle.param_2231.specs.GlobalTypes.{HasSubtype, NamesGlobal, with_rfc822}
 use Rattle.param_grammar.proofs.BodyLemmas.{IsBody-once}
-use Rattle.param_2231.proofs.ChangedTokens.{atom_of, Changed, atom_changed, AreSameAt, octets_between, same_places, octets_of-append, tokens_from-start, same_tokens}
+use Rattle.param_2231.proofs.ChangedTokens.{atom_of, Changed, atom_changed, AreSameAt, octets_between, same_places, tokens_from-start, same_tokens}
 use Rattle.param_2231.proofs.SameOctets.{first_part}
 use Rattle.param_2231.proofs.GlobalPlaces.{solid-words, find_word, main_size, body_subtype, global_body, body_changed}
 
 -- ---- the subtype is an atom
 
-kind_is : (kind : TokenKind) → is_atom kind ≡ true → kind ≡ Atom
+pub kind_is : (kind : TokenKind) → is_atom kind ≡ true → kind ≡ Atom
 kind_is Atom e = refl
 kind_is Quoted e = cc e
 kind_is Literal e = cc e
@@ -94,7 +94,7 @@ pub record IsThird (tokens : List Token) (at : ℕ) : Type 0 where
   pub are : tokens ≡ first ∷ second ∷ third ∷ more
   pub at_is : third.span.at ≡ at
 
-solid_append : (a b : List Token) → solid (a ++ b) ≡ solid a ++ solid b
+pub solid_append : (a b : List Token) → solid (a ++ b) ≡ solid a ++ solid b
 solid_append a b = filter-append (λ (token : Token). not (is_blank token.kind)) a b
 
 third_of : (xs ys : List Token) (t : Token) (at : ℕ) → length xs ≡ 2 → t.span.at ≡ at → IsThird (xs ++ t ∷ ys) at

@@ -1,6 +1,6 @@
 -- The main part of a Content-Type is the first three words of its text.
-use Rattle.std.proofs.Common.{◌≡◌, ℕ, zero, suc, ◌+◌, ◌<◌, Bool, true, false, not, ◌&&◌, eqb, inl, inr, List, [], ◌∷◌, ◌++◌, length, filter, refl, sym, ap, ◌∙◌, subst, arith}
-use Rattle.std.proofs.lemmas.Bool.{cases_Bool, cond-true, and_parts, and_from, eq-eqb, not-true, true≢false}
+use Rattle.std.proofs.Common.{◌≡◌, ℕ, zero, suc, ◌+◌, ◌<◌, Bool, true, false, not, ◌&&◌, inl, inr, List, [], ◌∷◌, ◌++◌, length, filter, refl, sym, ap, ◌∙◌, subst, arith}
+use Rattle.std.proofs.lemmas.Bool.{cases_Bool, cond-true, and_parts, and_from}
 use Rattle.std.proofs.lemmas.List.{append-nil, length-map, map-append}
 use Rattle.std.proofs.lemmas.List.Elements.{filter-append}
 use Rattle.std.proofs.lemmas.Slice.Eq.{bytes_eq-Decides}
@@ -9,6 +9,7 @@ use Rattle.std.specs.Str.{bytes_eq, str_to_ascii_lowercase}
 use Rattle.std.specs.Prelude.{codes}
 use Rattle.mail_wire.specs.Octets.{is_ascii}
 use Rattle.encoded_words.specs.private.Parts.{lacks}
+use Rattle.encoded_words.proofs.Cuts.{not_in, rest_lacks}
 use Rattle.field_tokens.specs.declared.Token.{Token}
 use Rattle.field_tokens.specs.Tokens.{TokenValue, tokens_from, octets_at}
 use Rattle.field_tokens.specs.Squeezed.{is_blank, run_octets, words_of}
@@ -177,12 +178,6 @@ body_subtype P text tokens tf tr t main pieces e size kept is =
     record { behind = behind; subtype = subtype_of text is.first behind.tail tf tr t (sym behind.whole ∙ e) size kept is.is_main_part }
 
 -- ---- the octets of the main part
-
-not_in : (c h : ℕ) (xs : List ℕ) → lacks c (h ∷ xs) ≡ true → h ≡ c → ⊥
-not_in c h xs l e = let parts = and_parts (not (eqb h c)) (lacks c xs) l in true≢false (sym (eq-eqb h c e) ∙ not-true (eqb h c) parts.0)
-
-rest_lacks : (c h : ℕ) (xs : List ℕ) → lacks c (h ∷ xs) ≡ true → lacks c xs ≡ true
-rest_lacks c h xs l = (and_parts (not (eqb h c)) (lacks c xs) l).1
 
 not_lacking : (c : ℕ) (a x v : List ℕ) → a ++ c ∷ x ≡ v → lacks c v ≡ true → ⊥
 not_lacking c [] x [] e l = cc e

@@ -10,6 +10,7 @@ use Rattle.std.specs.List.{AllByRecursion, list_any, list_all}
 use Rattle.std.specs.Str.{bytes_eq}
 use Rattle.mail_wire.specs.Octets.{is_ascii}
 use Rattle.encoded_words.specs.Words.{UnitValue}
+use Rattle.encoded_words.proofs.Deciding.{decide_same}
 use Rattle.param_grammar.specs.declared.Piece.{Piece}
 use Rattle.param_grammar.specs.Extended.{unit_of}
 use Rattle.param_grammar.specs.Joining.{is_part_of, parts_named, AreNumbered, joined_unit, ParamValue, unit_at, goes_on, params_behind, params_of, AreParams, is_ascii_parameter, is_doubled}
@@ -49,12 +50,6 @@ stand_behind : (all before mb : List Piece) (piece : Piece) (first : List Piece)
 stand_behind all before mb piece first a s = StandForAll-append all [] before (piece ∷ []) mb first a (first, [], sym (append-nil first), s, refl)
 
 -- ---- names
-
-base_decides : (a b : List ℕ) → (a ≡ b) ⊎ (a ≢ b)
-base_decides a b = elim (cases_Bool (bytes_eq a b)) [
-  | inl t ↦ inl ((bytes_eq-Decides a b).0 t)
-  | inr f ↦ inr (λ e. true≢false (sym ((bytes_eq-Decides a b).1 e) ∙ f))
-]
 
 not_named : (b : List ℕ) (p : Piece) → p.base ≢ b → is_part_of b p ≡ false
 not_named b p n = elim (cases_Bool (bytes_eq p.base b)) [
@@ -195,7 +190,7 @@ go_on_at b before (x ∷ xs) p ys all e = rw (append_assoc before (x ∷ []) xs)
 -- behind no part of this name, pieces that go on don't have it
 none_named : (b : List ℕ) (before xs : List Piece) → list_any (is_part_of b) before ≡ false → GoOn b before xs → NoneNamed b xs
 none_named b before [] h all = tt
-none_named b before (x ∷ xs) h all = elim (base_decides x.base b) [
+none_named b before (x ∷ xs) h all = elim (decide_same x.base b) [
   | inl e ↦ absurd (true≢false (sym (part (is_some x.number) (subst (λ n. (is_some x.number && list_any (is_part_of n) before) ≡ true) e (all.0 e))) ∙ h))
   | inr n ↦ (n, none_named b (before ++ x ∷ []) xs (list_any-append (is_part_of b) before (x ∷ []) ∙ rw (h, not_named b x n) refl) all.1)
 ]
@@ -294,7 +289,7 @@ decide_series b all before (p ∷ xs) made stand = by (decide_series b all (befo
     by more (Copied ascii e) = onward more (ap (parts_named b) (e ∙ sym (cond-true _ _ _ ascii)))
     by more (Nothing high goes e) = onward more (ap (parts_named b) e ∙ sym (high_none b all p high))
     by more (One high begins m n named unit e) = onward more (ap (parts_named b) e ∙ named_one b m (unnumbered b m (ap is_some n)) ∙ sym (high_none b all p high))
-    by more (Series high begins single is) = elim (base_decides p.base b) [
+    by more (Series high begins single is) = elim (decide_same p.base b) [
       | inr n ↦ onward more (series_other b p.base stand.0 n is.parts ∙ sym (high_none b all p high))
       | inl e ↦ inr (record {
         x = [];

@@ -13,6 +13,7 @@ pub mod ParamWriting
 pub mod ParamsOnce
 pub mod ParamsSome
 pub mod GivenLemmas
+pub mod WrittenBody
 pub mod DecidePieces
 pub mod DecideParams
 pub mod ChangedTokens

@@ -233,7 +233,7 @@ parts_named_so name unit n (part ∷ parts) = ((refl, refl), parts_named_so name
 has_at : (n k : ℕ) (name : List ℕ) (unit : UnitValue) (part : List ℕ) → has_number n (part_piece name unit k part) ≡ (k == n)
 has_at n k name unit part = ap (λ v. v == n) (number_back k)
 
-apart : (k n : ℕ) → n < k → (k == n) ≡ false
+pub apart : (k n : ℕ) → n < k → (k == n) ≡ false
 apart k n h = grind (arith, nat_tests)
 
 apart_more : (k n : ℕ) → k < n → (k == n) ≡ false

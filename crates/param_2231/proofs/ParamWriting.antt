@@ -1,6 +1,6 @@
 -- The pieces of a parameter are put one behind another, and are one list.
 use Rattle.std.proofs.Common.{◌≡◌, ℕ, suc, ◌+◌, ◌<◌, ◌≤◌, ◌==◌, Bool, true, false, not, ◌||◌, ltb, inl, inr, List, [], ◌∷◌, ◌++◌, length, refl, sym, ap, ◌∙◌, subst, arith}
-use Rattle.std.proofs.lemmas.Bool.{cases_lt, true≢false}
+use Rattle.std.proofs.lemmas.Bool.{cases_lt, true≢false, or_parts}
 use Rattle.std.proofs.lemmas.Bool.Decides.{nat_tests}
 use Rattle.std.proofs.lemmas.List.{append_assoc, append-nil, length-append, nil_from_length}
 use Rattle.std.specs.List.{concat}
@@ -53,11 +53,6 @@ pub WritesParts-end : (name : List ℕ) (unit : UnitValue) (rest : List ℕ) (ol
 WritesParts-end name unit rest old mid number end so_far =
     subst (AddsPieces (ParamPieces false name unit) old) (append-nil mid) (so_far.onward [] tt (nil_from_length rest end))
 
--- a value that needn't be whole, and isn't short
-pub no_whole : (whole short : Bool) → (whole || short) ≡ false → (whole ≡ false) × (short ≡ false)
-no_whole true short e = cc e
-no_whole false short e = (refl, e)
-
 pub not_short_some : (unit : UnitValue) → is_short unit ≡ false → 0 < length (octets_in unit)
 not_short_some unit long = by (octets_in unit) long
   where
@@ -99,7 +94,7 @@ pub ParamPieces-some : (whole : Bool) (name : List ℕ) (unit : UnitValue) → I
 ParamPieces-some whole name unit can = by (whole || is_short unit) refl
   where
     parts_of : (parts : List (List ℕ)) → (whole || is_short unit) ≡ false → AreParts unit parts → octets_in unit ≡ concat parts → (pieces : List (List ℕ)) × ParamPieces whole name unit pieces
-    parts_of [] long are cut = let some = not_short_some unit (no_whole whole (is_short unit) long).1 in absurd (omega (arith, some, ap length cut))
+    parts_of [] long are cut = let some = not_short_some unit (or_parts whole (is_short unit) long).1 in absurd (omega (arith, some, ap length cut))
     parts_of (first ∷ parts) long are cut = (numbered_piece name 0 (charset_part unit ++ escaped first) ∷ numbered_pieces name 1 parts, Parts first parts long are cut refl)
 
     by : (b : Bool) → (whole || is_short unit) ≡ b → (pieces : List (List ℕ)) × ParamPieces whole name unit pieces

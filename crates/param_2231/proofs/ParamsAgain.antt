@@ -7,17 +7,17 @@ use Rattle.std.specs.List.{AllByRecursion, list_all, join_with_byte}
 use Rattle.mail_wire.specs.Octets.{is_ascii}
 use Rattle.mail_wire.proofs.AllLemmas.{all-append}
 use Rattle.field_tokens.specs.declared.Style.TheVariants.{Mime}
-use Rattle.field_tokens.specs.Groups.{IsGroup}
 use Rattle.field_tokens.specs.TokenOctets.{is_line_octet}
-use Rattle.field_tokens.specs.Tokens.{comment_marks, TokenValue, AreTokens, tokens_from, IsLine, HasTokens}
+use Rattle.field_tokens.specs.Tokens.{TokenValue, AreTokens, tokens_from, HasTokens}
 use Rattle.field_tokens.specs.Squeezed.{run_octets, octets_of, comments_of}
-use Rattle.field_tokens.specs.Comments.{CommentValue, CommentsSay, CommentsPieces, AreWritableComments, AreLineComments, IsAsciiComment, AreWritten, IsLinePiece}
+use Rattle.field_tokens.specs.Comments.{CommentValue, CommentsSay, CommentsPieces, AreWritableComments, AreLineComments, AreWritten, IsLinePiece}
 use Rattle.field_tokens.proofs.TokenLists.{AreTokens-once, HasTokens-once}
 use Rattle.field_tokens.proofs.Parts.{AreTokens-begin, AreTokens-end, tokens_some}
 use Rattle.field_tokens.proofs.SqueezedValues.{values_at}
-use Rattle.field_tokens.proofs.TokenLines.{ascii_line, joined_line, comments_are_writable, comments_are_plain}
-use Rattle.field_tokens.proofs.LinePieces.{CommentsPieces-line, CommentsPieces-there}
+use Rattle.field_tokens.proofs.TokenLines.{joined_line, comments_are_writable, comments_are_plain}
+use Rattle.field_tokens.proofs.LinePieces.{CommentsPieces-line}
 use Rattle.field_tokens.proofs.WrittenComments.{CommentsPieces-written}
+use Rattle.field_tokens.proofs.PieceLemmas.{spaced, no_pieces, no_comments, comments_groups, join_alike, pieces_lines}
 use Rattle.param_grammar.specs.declared.ParamKind.{ParamKind}
 use Rattle.param_grammar.specs.declared.Piece.{Piece}
 use Rattle.param_grammar.specs.Bodies.{solid, IsBody}
@@ -28,7 +28,7 @@ use Rattle.param_grammar.proofs.BodyLemmas.{IsBody-once}
 use Rattle.param_2231.proofs.JoinedAgain.{AreParams-again}
 use Rattle.param_2231.proofs.CoresAgain.{CanStand, HasCore}
 use Rattle.param_2231.proofs.PlacedAgain.{kept_solid, CanBeCopied, body_copied}
-use Rattle.param_2231.proofs.SectionsAgain.{behind, comment_tail, IsTail, tail_is, kept_begins, core_tokens, behind_tokens, made_ends, made_comments, cores_of, cores_stand, body_made, made_octets, semicolons_some}
+use Rattle.param_2231.proofs.SectionsAgain.{behind, IsTail, tail_is, kept_begins, core_tokens, behind_tokens, made_ends, made_comments, cores_of, cores_stand, body_made, made_octets, semicolons_some}
 use Rattle.param_2231.proofs.MadePiecesAgain.{IsMade, written_all}
 use Rattle.param_2231.proofs.GivenAgain.{AllGiven, pieces_given}
 use Rattle.param_2231.proofs.MainAgain.{MainAgain, main_again}
@@ -54,30 +54,11 @@ one_body kind text main other params others p q =
 
 -- ---- the pieces joined
 
-no_pieces : (comments pieces : List (List ℕ)) → CommentsPieces comments pieces → comments ≡ [] → pieces ≡ []
-no_pieces [] pieces are e = are
-no_pieces (c ∷ cs) pieces are e = cc e
-
-no_comments : (comments pieces : List (List ℕ)) → CommentsPieces comments pieces → pieces ≡ [] → comments ≡ []
-no_comments [] pieces are e = refl
-no_comments (c ∷ cs) pieces are e = absurd (omega (arith, CommentsPieces-there (c ∷ cs) pieces (omega arith) are, ap length e))
-
-join_alike : (first : List ℕ) (made pieces : List (List ℕ)) → (made ≡ [] → pieces ≡ []) → (pieces ≡ [] → made ≡ []) → join_with_byte 32 made ≡ join_with_byte 32 pieces
-    → join_with_byte 32 (first ∷ made) ≡ join_with_byte 32 (first ∷ pieces)
-join_alike first [] [] a b e = refl
-join_alike first [] (p ∷ pieces) a b e = let some = a refl in cc some
-join_alike first (m ∷ made) [] a b e = let some = b refl in cc some
-join_alike first (m ∷ made) (p ∷ pieces) a b e = ap (λ r. first ++ (32 ∷ r)) e
-
 join_after : (front made pieces : List (List ℕ)) → (made ≡ [] → pieces ≡ []) → (pieces ≡ [] → made ≡ []) → join_with_byte 32 made ≡ join_with_byte 32 pieces
     → join_with_byte 32 (front ++ made) ≡ join_with_byte 32 (front ++ pieces)
 join_after [] made pieces a b e = e
 join_after (x ∷ []) made pieces a b e = join_alike x made pieces a b e
 join_after (x ∷ y ∷ front) made pieces a b e = ap (λ r. x ++ (32 ∷ r)) (join_after (y ∷ front) made pieces a b e)
-
-comments_groups : (cs : List (List ℕ)) → AllByRecursion IsAsciiComment cs → AllByRecursion (IsGroup comment_marks) cs
-comments_groups [] all = tt
-comments_groups (c ∷ cs) all = (all.0.is_comment, comments_groups cs all.1)
 
 -- ---- the pieces on lines
 
@@ -117,10 +98,6 @@ semicolon_lines [] all = tt
 semicolon_lines (p ∷ []) all = all
 semicolon_lines (p ∷ q ∷ ps) all = (semicolon_line p all.0, semicolon_lines (q ∷ ps) all.1)
 
-lines_of : (pieces : List (List ℕ)) → AllByRecursion IsLinePiece pieces → AllByRecursion IsLine pieces
-lines_of [] all = tt
-lines_of (w ∷ ws) all = (ascii_line w all.0.ascii all.0.line, lines_of ws all.1)
-
 -- ---- what is made of a main part, pieces and comments
 
 -- A main part, pieces that were made, and the pieces of comments are read as that.
@@ -133,7 +110,7 @@ made_again kind open_global main params values w made comments written again are
     let pieces : List (List ℕ) = front ++ written in
     let text : List ℕ = join_with_byte 32 pieces in
     let cores : AllByRecursion HasCore made = made_cores made are_made in
-    let tail : List TokenValue = comment_tail c.made in
+    let tail : List TokenValue = spaced c.made in
     let ts : List TokenValue = again.core ++ behind (cores_of made cores) tail in
     let is_tail : IsTail tail = tail_is c.made (comments_groups c.made c.are_comments) in
     let stand : AllByRecursion CanStand (cores_of made cores) = cores_stand made cores in
@@ -150,7 +127,7 @@ made_again kind open_global main params values w made comments written again are
       says = record {
         body = record {
           tokens = tokens_from 0 ts;
-          has_tokens = record { is_line = joined_line pieces (lines_of pieces each); values = ts; are_tokens = are; placed = refl };
+          has_tokens = record { is_line = joined_line pieces (pieces_lines pieces each); values = ts; are_tokens = are; placed = refl };
           pieces = made;
           is_body = body_made kind text (served_main open_global kind main) again.core made cores tail again.is_main main_stands is_tail (values_at Mime text ts are);
           are_params = are_params;

@@ -1,13 +1,12 @@
 -- A value is cut into parts, and in one way.
-use Rattle.std.proofs.Common.{◌≡◌, ℕ, zero, suc, ◌+◌, ◌*◌, ◌<◌, ◌≤◌, ◌⊎◌, true, false, inl, inr, List, [], ◌∷◌, ◌++◌, length, take, drop, get_or, refl, sym, ap, ◌∙◌, subst, arith}
-use Rattle.std.proofs.lemmas.Bool.{cases_Bool, cases_lt, and_parts, cond-true, cond-false}
+use Rattle.std.proofs.Common.{◌≡◌, ℕ, zero, suc, ◌+◌, ◌*◌, ◌<◌, ◌≤◌, ◌⊎◌, inl, inr, List, [], ◌∷◌, ◌++◌, length, take, drop, get_or, refl, sym, ap, ◌∙◌, subst, arith}
+use Rattle.std.proofs.lemmas.Bool.{cases_Bool, cases_lt}
 use Rattle.std.proofs.lemmas.List.{length-append, length-take-le, take-append-drop, take_at, append_cancel_left}
-use Rattle.std.proofs.lemmas.Str.{IsCharBoundary-start, IsCharBoundary-at_seam, IsUtf8-drop, len_utf8_bounds, length-encode}
-use lib.Utf8.{scalar}
-use Rattle.std.specs.Char.{encode_utf8, len_utf8}
+use Rattle.std.proofs.lemmas.Str.{IsCharBoundary-start, IsUtf8-drop}
 use Rattle.std.specs.List.{concat}
-use Rattle.std.specs.Str.{IsUtf8, IsCharBoundary, encode_utf8_all, all_scalars}
+use Rattle.std.specs.Str.{IsUtf8, IsCharBoundary}
 use Rattle.encoded_words.specs.Words.{UnitValue, Text, Opaque}
+use Rattle.encoded_words.proofs.Chunks.{first_boundary}
 use Rattle.param_grammar.specs.Escapes.{is_attribute_octet, escaped_octet, escaped}
 use Rattle.param_2231.specs.Layout.{EndsPart, IsPartOf, AreParts}
 use Rattle.param_2231.specs.private.Parts.{IsCuttable, IsFitting, IsLastBoundary, IsLastEnd}
@@ -122,14 +121,6 @@ ends_within : (unit : UnitValue) (octets : List ℕ) (n : ℕ) → EndsPart unit
 ends_within (Text said) octets n ends = ends.0
 ends_within (Opaque charset said source) octets n ends = ends
 
--- the first character of a text ends within four octets
-first_character : (cs octets : List ℕ) → all_scalars cs ≡ true → encode_utf8_all cs ≡ octets → 0 < length octets → (i : ℕ) × (0 < i) × (i ≤ 4) × IsCharBoundary octets i
-first_character [] octets ok e some = absurd (omega (arith, ap length e, some))
-first_character (c ∷ cs) octets ok e some =
-    let n : length (encode_utf8 c) ≡ len_utf8 c = length-encode c in
-    let b = len_utf8_bounds c in
-    (length (encode_utf8 c), omega arith, omega arith, IsCharBoundary-at_seam octets (encode_utf8 c) (encode_utf8_all cs) (sym e) (cs, ((and_parts (scalar c) (all_scalars cs) ok).1, refl)))
-
 end_moves : (unit : UnitValue) (octets : List ℕ) (fits end : ℕ) → 0 < length octets → IsCuttable unit octets → IsFitting octets fits → IsLastEnd unit octets fits end → 0 < end
 end_moves (Opaque charset said source) octets fits end some can f is = elim (cases_lt 0 end) [
   | inl moved ↦ moved
@@ -138,7 +129,7 @@ end_moves (Opaque charset said source) octets fits end some can f is = elim (cas
 end_moves (Text said) octets fits end some can f is = elim (cases_lt 0 end) [
   | inl moved ↦ moved
   | inr none ↦
-      let first = first_character can.0 octets can.1.0 can.1.1 some in
+      let first = first_boundary can.0 octets can.1.0 can.1.1 some in
       absurd (is.last first.0 (omega (arith, none, first.1)) (fitting_room octets fits first.0 f (omega (arith, first.2)) first.3.0) first.3)
 ]
 

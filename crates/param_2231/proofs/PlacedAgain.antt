@@ -1,13 +1,13 @@
 -- The parameters of a text can stand in another text.
-use Rattle.std.proofs.Common.{◌≡◌, ℕ, zero, suc, ◌+◌, ◌<◌, Bool, true, false, not, ◌||◌, cond, inl, inr, List, [], ◌∷◌, ◌++◌, length, take, drop, map, filter, codes, refl, sym, ap, ◌∙◌, subst, arith}
-use Rattle.std.proofs.lemmas.Bool.{cases_Bool, true≢false, and_parts, and_from}
+use Rattle.std.proofs.Common.{◌≡◌, ℕ, ◌+◌, ◌<◌, Bool, true, false, not, ◌||◌, cond, inl, inr, List, [], ◌∷◌, ◌++◌, length, take, drop, map, filter, codes, refl, sym, ap, ◌∙◌, subst, arith}
+use Rattle.std.proofs.lemmas.Bool.{cases_Bool, true≢false, and_parts}
 use Rattle.std.proofs.lemmas.Bool.Decides.{Decides-eqb}
 use Rattle.std.proofs.lemmas.Slice.Eq.{bytes_eq-Decides}
 use Rattle.std.proofs.lemmas.List.{append_assoc, length-append, take_at, drop_at, take-append-drop}
-use Rattle.std.specs.List.{AllByRecursion, list_all, list_any, slice_split, onto_first}
+use Rattle.std.specs.List.{AllByRecursion, list_all, list_any}
 use Rattle.mail_wire.specs.Octets.{is_white}
 use Rattle.mail_wire.specs.Spans.{Stops}
-use Rattle.mail_wire.proofs.AllLemmas.{pass-append}
+use Rattle.mail_wire.proofs.AllLemmas.{pass-append, pass-take, pass-drop}
 use Rattle.encoded_words.proofs.Octets.{bytes-IsUtf8}
 use Rattle.field_tokens.specs.declared.Style.TheVariants.{Mime}
 use Rattle.field_tokens.specs.declared.Token.{Token}
@@ -16,13 +16,15 @@ use Rattle.field_tokens.specs.declared.TokenKind.TheVariants.{Atom, Quoted, Lite
 use Rattle.field_tokens.specs.TokenOctets.{is_atom_octet, is_line_octet}
 use Rattle.field_tokens.specs.Tokens.{IsToken, TokenValue, AreTokens, tokens_from, octets_at, HasTokens}
 use Rattle.field_tokens.specs.Squeezed.{is_blank, octets_of}
-use Rattle.field_tokens.proofs.TokenLists.{token_octets_some}
+use Rattle.field_tokens.proofs.TokenLists.{token_octets_some, token_at}
 use Rattle.field_tokens.proofs.Parts.{IsToken-alike, IsToken-before, stops_more, stops_front}
 use Rattle.field_tokens.proofs.SqueezedValues.{value_at, AreKept, kept_no_gap}
 use Rattle.param_grammar.specs.declared.ParamKind.{ParamKind}
 use Rattle.param_grammar.specs.declared.Piece.{Piece}
 use Rattle.param_grammar.specs.Bodies.{is_mark_at, solid, is_atom, is_filled, touches_first, touch, IsPiece, ArePieces, IsBody}
 use Rattle.param_2231.proofs.CoresAgain.{is_mark, is_plain, is_quoted_string, is_unquoted, CanStand, HasCore, IsPiece-core, value_to, is_octet}
+use Rattle.param_2231.proofs.GlobalLemmas.{kind_is}
+use Rattle.param_2231.proofs.SameOctets.{all_filter, all_split}
 
 -- ---- tokens where they stand
 
@@ -35,21 +37,6 @@ pub record IsPlaced (text : List ℕ) (token : Token) : Type 0 where
 abbrev pub ArePlaced : List ℕ → List Token → Type 0
 ArePlaced text tokens = AllByRecursion (IsPlaced text) tokens
 
-pub all_take : (p : ℕ → Bool) (n : ℕ) (xs : List ℕ) → list_all p xs ≡ true → list_all p (take n xs) ≡ true
-all_take p zero xs h = refl
-all_take p (suc n) [] h = refl
-all_take p (suc n) (x ∷ xs) h =
-    let parts = and_parts (p x) (list_all p xs) h in
-    and_from (p x) (list_all p (take n xs)) parts.0 (all_take p n xs parts.1)
-
-pub all_drop : (p : ℕ → Bool) (n : ℕ) (xs : List ℕ) → list_all p xs ≡ true → list_all p (drop n xs) ≡ true
-all_drop p zero xs h = h
-all_drop p (suc n) [] h = refl
-all_drop p (suc n) (x ∷ xs) h = all_drop p n xs (and_parts (p x) (list_all p xs) h).1
-
-abbrev token_at : ℕ → TokenValue → Token
-token_at at t = record { kind = t.kind; span = record { at = at; len = length t.octets } }
-
 placed_from : (text front rest : List ℕ) (ts : List TokenValue) → list_all is_line_octet text ≡ true → list_all is_octet text ≡ true → text ≡ front ++ rest → AreTokens Mime ts rest → ArePlaced text (tokens_from (length front) ts)
 placed_from text front rest [] line octets e are = tt
 placed_from text front rest (t ∷ ts) line octets e are =
@@ -61,28 +48,10 @@ placed_from text front rest (t ∷ ts) line octets e are =
     let after : drop (length front + length t.octets) text ≡ are.0 = ap (λ n. drop n text) (sym place) ∙ ap (drop (length (front ++ t.octets))) onward ∙ drop_at (front ++ t.octets) are.0 (length (front ++ t.octets)) refl in
     let is : IsToken Mime t.kind (octets_at text (token_at (length front) t).span) (drop (length front + length t.octets) text) =
     subst (λ o. IsToken Mime t.kind o (drop (length front + length t.octets) text)) (sym head) (subst (IsToken Mime t.kind t.octets) (sym after) are.2) in
-    (record { is_token = is; line = all_take is_line_octet (length t.octets) (drop (length front) text) (all_drop is_line_octet (length front) text line); octets = all_take is_octet (length t.octets) (drop (length front) text) (all_drop is_octet (length front) text octets) }, rw (place) at more)
+    (record { is_token = is; line = pass-take is_line_octet (length t.octets) (drop (length front) text) (pass-drop is_line_octet (length front) text line); octets = pass-take is_octet (length t.octets) (drop (length front) text) (pass-drop is_octet (length front) text octets) }, rw (place) at more)
 
 pub tokens_placed : (text : List ℕ) (tokens : List Token) → HasTokens Mime text tokens → ArePlaced text tokens
 tokens_placed text tokens has = subst (ArePlaced text) (sym has.placed) (placed_from text [] text has.values has.is_line.plain (bytes-IsUtf8 text has.is_line.utf8) refl has.are_tokens)
-
--- what holds of each token holds in each section
-split_all : {X : Type 0} (P : X → Type 0) (p : X → Bool) (xs : List X) → AllByRecursion P xs → AllByRecursion (AllByRecursion P) (slice_split p xs)
-split_all {X = X} P p [] all = (tt, tt)
-split_all {X = X} P p (x ∷ xs) all = more (p x) (slice_split p xs) (split_all P p xs all.1)
-  where
-    more : (b : Bool) (parts : List (List X)) → AllByRecursion (AllByRecursion P) parts → AllByRecursion (AllByRecursion P) (cond b ([] ∷ parts) (onto_first x parts))
-    more true parts h = (tt, h)
-    more false [] h = ((all.0, tt), tt)
-    more false (part ∷ parts) h = ((all.0, h.0), h.1)
-
-pub filter_all : {X : Type 0} (P : X → Type 0) (p : X → Bool) (xs : List X) → AllByRecursion P xs → AllByRecursion P (filter p xs)
-filter_all P p [] all = tt
-filter_all P p (x ∷ xs) all = more (p x) (filter_all P p xs all.1)
-  where
-    more : (b : Bool) → AllByRecursion P (filter p xs) → AllByRecursion P (cond b (x ∷ filter p xs) (filter p xs))
-    more true h = (all.0, h)
-    more false h = h
 
 -- ---- single tokens
 
@@ -102,17 +71,9 @@ before_none kind octets x is = IsToken-alike Mime kind octets x [] (λ p stops. 
 pub before_mark : (kind : TokenKind) (octets x : List ℕ) (m : ℕ) (rest : List ℕ) → is_blank kind ≡ false → is_atom_octet Mime m ≡ false → IsToken Mime kind octets x → IsToken Mime kind octets (m ∷ rest)
 before_mark kind octets x m rest kept a is = IsToken-before Mime kind octets (m ∷ rest) (kept_no_gap kind kept) a (before_none kind octets x is)
 
-pub is_atom_kind : (kind : TokenKind) → is_atom kind ≡ true → kind ≡ Atom
-is_atom_kind Atom h = refl
-is_atom_kind Quoted h = absurd (true≢false (sym h))
-is_atom_kind Literal h = absurd (true≢false (sym h))
-is_atom_kind Special h = absurd (true≢false (sym h))
-is_atom_kind Gap h = absurd (true≢false (sym h))
-is_atom_kind Comment h = absurd (true≢false (sym h))
-
 pub atom_free : (kind : TokenKind) (octets rest : List ℕ) → is_atom kind ≡ true → IsToken Mime kind octets rest → octets ≡ 59 ∷ [] → ⊥
 atom_free kind octets rest h is e =
-    let atom = subst (λ k. IsToken Mime k octets rest) (is_atom_kind kind h) is in
+    let atom = subst (λ k. IsToken Mime k octets rest) (kind_is kind h) is in
     true≢false (sym atom.1.passes ∙ ap (list_all (is_atom_octet Mime)) e)
 
 pub free_of : (t : TokenValue) → (t.octets ≡ 59 ∷ [] → ⊥) → is_mark 59 t ≡ false
@@ -220,7 +181,7 @@ parameter_stands text a e v placed kept name equals touches value =
 pub piece_core : (text : List ℕ) (section : List Token) (piece : Piece) → ArePlaced text section → IsPiece text section piece → HasCore piece
 piece_core text section piece placed is =
     let p = is.is_parameter in
-    let solids : ArePlaced text (solid section) = filter_all (IsPlaced text) (λ (t : Token). not (is_blank t.kind)) section placed in
+    let solids : ArePlaced text (solid section) = all_filter (IsPlaced text) (λ (t : Token). not (is_blank t.kind)) section placed in
     let value = value_to text is.value p.is_value in
     let moved : ArePlaced text (p.atom ∷ p.equals ∷ is.value) = subst (ArePlaced text) p.tokens_are solids in
     let kept : AreKept (map (value_at text) (p.atom ∷ p.equals ∷ is.value)) = subst (λ ts. AreKept (map (value_at text) ts)) p.tokens_are (kept_solid text section) in
@@ -244,8 +205,8 @@ pub body_copied : (kind : ParamKind) (text : List ℕ) (tokens : List Token) (ma
     → CanBeCopied text pieces b.first
 body_copied kind text tokens main pieces has b =
     let all : AllByRecursion (ArePlaced text) (b.first ∷ b.others) =
-    subst (AllByRecursion (ArePlaced text)) b.sections (split_all (IsPlaced text) (is_mark_at text 59) tokens (tokens_placed text tokens has)) in
+    subst (AllByRecursion (ArePlaced text)) b.sections (all_split (IsPlaced text) (is_mark_at text 59) tokens (tokens_placed text tokens has)) in
     record {
-      cores = pieces_core text (filter is_filled b.others) pieces (filter_all (ArePlaced text) is_filled b.others all.1) b.are_pieces;
-      placed = filter_all (IsPlaced text) (λ (t : Token). not (is_blank t.kind)) b.first all.0;
+      cores = pieces_core text (filter is_filled b.others) pieces (all_filter (ArePlaced text) is_filled b.others all.1) b.are_pieces;
+      placed = all_filter (IsPlaced text) (λ (t : Token). not (is_blank t.kind)) b.first all.0;
     }

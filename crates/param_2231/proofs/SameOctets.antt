@@ -34,7 +34,7 @@ all_split-more P true x parts here all = (tt, all)
 all_split-more P false x [] here all = ((here, tt), tt)
 all_split-more P false x (part ∷ parts) here all = ((here, all.0), all.1)
 
-all_split : {X : Type 0} (P : X → Type 0) (p : X → Bool) (xs : List X) → AllByRecursion P xs → AllByRecursion (AllByRecursion P) (slice_split p xs)
+pub all_split : {X : Type 0} (P : X → Type 0) (p : X → Bool) (xs : List X) → AllByRecursion P xs → AllByRecursion (AllByRecursion P) (slice_split p xs)
 all_split P p [] all = (tt, tt)
 all_split P p (x ∷ xs) all = all_split-more P (p x) x (slice_split p xs) all.0 (all_split P p xs all.1)
 

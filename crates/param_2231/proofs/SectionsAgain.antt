@@ -2,9 +2,8 @@
 use Rattle.std.proofs.Common.{◌≡◌, ℕ, ◌+◌, ◌<◌, Bool, true, false, not, inl, inr, List, [], ◌∷◌, ◌++◌, length, map, filter, All, refl, sym, ap, ◌∙◌, subst, arith, add-zero}
 use Rattle.std.proofs.lemmas.Bool.{cases_Bool, true≢false, cond-true}
 use Rattle.std.proofs.lemmas.Bool.Decides.{Decides-eqb}
-use Rattle.std.proofs.lemmas.Grind.{flat_map-append}
 use Rattle.std.proofs.lemmas.List.{append_assoc, append-nil, length-append}
-use Rattle.std.proofs.lemmas.List.Elements.{filter-append, All-nil, All-cons}
+use Rattle.std.proofs.lemmas.List.Elements.{All-nil, All-cons}
 use Rattle.std.proofs.lemmas.List.Splits.{slice_split_at, slice_split_none}
 use Rattle.std.specs.List.{AllByRecursion, list_any, join_with_byte}
 use Rattle.std.specs.Str.{str_to_ascii_lowercase}
@@ -16,13 +15,17 @@ use Rattle.field_tokens.specs.Groups.{IsGroup}
 use Rattle.field_tokens.specs.TokenOctets.{is_atom_octet}
 use Rattle.field_tokens.specs.Tokens.{comment_marks, TokenValue, AreTokens, tokens_from}
 use Rattle.field_tokens.specs.Squeezed.{is_blank, octets_of, comments_of, space}
-use Rattle.field_tokens.proofs.Parts.{BeginsNoGap, EndsNoGap, EndsNoGap-append, AreTokens-append, AreTokens-space, comments_of-append}
-use Rattle.field_tokens.proofs.SqueezedValues.{value_at, AreKept, kept_no_gap, kept_no_comment}
+use Rattle.field_tokens.proofs.Parts.{BeginsNoGap, EndsNoGap, EndsNoGap-append, AreTokens-append, AreTokens-space, comments_of-append, octets_of-append}
+use Rattle.field_tokens.proofs.SqueezedValues.{value_at, AreKept, kept_no_gap, kept_comments, kept_ends}
+use Rattle.field_tokens.proofs.PieceLemmas.{join_more, spaced, spaced_comments}
+use Rattle.field_tokens.proofs.TokenLists.{token_at}
 use Rattle.param_grammar.specs.declared.ParamKind.{ParamKind}
 use Rattle.param_grammar.specs.declared.Piece.{Piece}
 use Rattle.param_grammar.specs.Bodies.{is_mark_at, sections_of, solid, is_filled, touch, ArePieces, IsBody}
 use Rattle.param_2231.specs.Layout.{with_semicolons}
 use Rattle.param_2231.proofs.CoresAgain.{is_mark, are_main, are_main-at, octets-at, CanStand, HasCore, core-IsPiece}
+use Rattle.param_2231.proofs.ChangedTokens.{tokens_from-append}
+use Rattle.param_2231.proofs.GlobalLemmas.{solid_append}
 
 abbrev pub semicolon : TokenValue
 semicolon = record { kind = Special; octets = 59 ∷ [] }
@@ -31,11 +34,6 @@ semicolon = record { kind = Special; octets = 59 ∷ [] }
 abbrev pub behind : List (List TokenValue) → List TokenValue → List TokenValue
 behind [] tail = tail
 behind (core ∷ cores) tail = semicolon ∷ space ∷ (core ++ behind cores tail)
-
--- comments, each behind a space
-abbrev pub comment_tail : List (List ℕ) → List TokenValue
-comment_tail [] = []
-comment_tail (c ∷ cs) = space ∷ record { kind = Comment; octets = c } ∷ comment_tail cs
 
 abbrev pub AreBlank : List TokenValue → Type 0
 AreBlank ts = AllByRecursion (λ (t : TokenValue). is_blank t.kind ≡ true) ts
@@ -52,21 +50,21 @@ pub record IsTail (tail : List TokenValue) : Type 0 where
   pub no_semicolon : HaveNoSemicolon tail
   pub ends : EndsNoGap tail
 
-tail_ends : (c : List ℕ) (cs : List (List ℕ)) → EndsNoGap (record { kind = Comment; octets = c } ∷ comment_tail cs)
+tail_ends : (c : List ℕ) (cs : List (List ℕ)) → EndsNoGap (record { kind = Comment; octets = c } ∷ spaced cs)
 tail_ends c [] = refl
 tail_ends c (d ∷ cs) = tail_ends d cs
 
 comment_no_semicolon : (c : List ℕ) → IsGroup comment_marks c → is_mark 59 (record { kind = Comment; octets = c }) ≡ false
 comment_no_semicolon c is = rw (is.spelled) refl
 
-pub tail_is : (cs : List (List ℕ)) → AllByRecursion (IsGroup comment_marks) cs → IsTail (comment_tail cs)
+pub tail_is : (cs : List (List ℕ)) → AllByRecursion (IsGroup comment_marks) cs → IsTail (spaced cs)
 tail_is [] all = record { are_tokens = refl; stops = tt; blank = tt; no_semicolon = tt; ends = tt }
 tail_is (c ∷ cs) all =
     let more = tail_is cs all.1 in
     let comment : TokenValue = record { kind = Comment; octets = c } in
-    let first : AreTokens Mime (comment ∷ comment_tail cs) (c ++ octets_of (comment_tail cs)) = (octets_of (comment_tail cs), refl, all.0, more.are_tokens) in
+    let first : AreTokens Mime (comment ∷ spaced cs) (c ++ octets_of (spaced cs)) = (octets_of (spaced cs), refl, all.0, more.are_tokens) in
     record {
-      are_tokens = AreTokens-space Mime [] (comment ∷ comment_tail cs) [] (c ++ octets_of (comment_tail cs)) refl tt first refl;
+      are_tokens = AreTokens-space Mime [] (comment ∷ spaced cs) [] (c ++ octets_of (spaced cs)) refl tt first refl;
       stops = refl;
       blank = (refl, (refl, more.blank));
       no_semicolon = (refl, (comment_no_semicolon c all.0, more.no_semicolon));
@@ -77,22 +75,14 @@ pub kept_begins : (ts more : List TokenValue) → 0 < length ts → AreKept ts �
 kept_begins [] more some kept = absurd (omega (arith, some))
 kept_begins (t ∷ ts) more some kept = kept_no_gap t.kind kept.0
 
-kept_ends : (ts : List TokenValue) → AreKept ts → EndsNoGap ts
-kept_ends [] kept = tt
-kept_ends (t ∷ []) kept = kept_no_gap t.kind kept.0
-kept_ends (t ∷ u ∷ ts) kept = kept_ends (u ∷ ts) kept.1
-
 behind_stops : (cores : List (List TokenValue)) (tail : List TokenValue) → IsTail tail → Stops (is_atom_octet Mime) (octets_of (behind cores tail))
 behind_stops [] tail is = is.stops
 behind_stops (core ∷ cores) tail is = refl
 
-octets_append : (a b : List TokenValue) → octets_of (a ++ b) ≡ octets_of a ++ octets_of b
-octets_append a b = flat_map-append (λ (t : TokenValue). t.octets) a b
-
 pub core_tokens : (core : List TokenValue) (cores : List (List TokenValue)) (tail : List TokenValue) → CanStand core → IsTail tail → AreTokens Mime (behind cores tail) (octets_of (behind cores tail))
     → AreTokens Mime (core ++ behind cores tail) (octets_of (core ++ behind cores tail))
 core_tokens core cores tail stands is more =
-    subst (AreTokens Mime (core ++ behind cores tail)) (sym (octets_append core (behind cores tail)))
+    subst (AreTokens Mime (core ++ behind cores tail)) (sym (octets_of-append core (behind cores tail)))
     (AreTokens-append Mime core (behind cores tail) (octets_of core) (octets_of (behind cores tail)) stands.are_tokens (kept_ends core stands.kept) (behind_stops cores tail is) more)
 
 pub behind_tokens : (cores : List (List TokenValue)) (tail : List TokenValue) → AllByRecursion CanStand cores → IsTail tail → AreTokens Mime (behind cores tail) (octets_of (behind cores tail))
@@ -111,29 +101,12 @@ made_ends core (next ∷ cores) tail stands all is =
 
 -- ---- the comments
 
-kept_comments : (ts : List TokenValue) → AreKept ts → comments_of ts ≡ []
-kept_comments [] kept = refl
-kept_comments (t ∷ ts) kept = rw (kept_no_comment t.kind kept.0) (kept_comments ts kept.1)
-
-tail_comments : (cs : List (List ℕ)) → comments_of (comment_tail cs) ≡ cs
-tail_comments [] = refl
-tail_comments (c ∷ cs) = ap (λ r. c ∷ r) (tail_comments cs)
-
-pub made_comments : (core : List TokenValue) (cores : List (List TokenValue)) (cs : List (List ℕ)) → CanStand core → AllByRecursion CanStand cores → comments_of (core ++ behind cores (comment_tail cs)) ≡ cs
-made_comments core [] cs stands all = comments_of-append core (comment_tail cs) ∙ rw (kept_comments core stands.kept) (tail_comments cs)
+pub made_comments : (core : List TokenValue) (cores : List (List TokenValue)) (cs : List (List ℕ)) → CanStand core → AllByRecursion CanStand cores → comments_of (core ++ behind cores (spaced cs)) ≡ cs
+made_comments core [] cs stands all = comments_of-append core (spaced cs) ∙ rw (kept_comments core stands.kept) (spaced_comments cs)
 made_comments core (next ∷ cores) cs stands all =
-    comments_of-append core (behind (next ∷ cores) (comment_tail cs)) ∙ rw (kept_comments core stands.kept) (made_comments next cores cs all.0 all.1)
+    comments_of-append core (behind (next ∷ cores) (spaced cs)) ∙ rw (kept_comments core stands.kept) (made_comments next cores cs all.0 all.1)
 
 -- ---- the sections
-
-abbrev token_at : ℕ → TokenValue → Token
-token_at at t = record { kind = t.kind; span = record { at = at; len = length t.octets } }
-
-placed_append : (at : ℕ) (ts us : List TokenValue) → tokens_from at (ts ++ us) ≡ tokens_from at ts ++ tokens_from (at + length (octets_of ts)) us
-placed_append at [] us = rw (add-zero) refl
-placed_append at (t ∷ ts) us =
-    let same : (at + length t.octets) + length (octets_of ts) ≡ at + length (octets_of (t ∷ ts)) = omega (arith, length-append t.octets (octets_of ts)) in
-    ap (λ r. token_at at t ∷ r) (placed_append (at + length t.octets) ts us ∙ rw (same) refl)
 
 -- the tokens stand here in the text
 abbrev pub StandAt : List ℕ → ℕ → List TokenValue → Type 0
@@ -173,9 +146,6 @@ solid_kept : (at : ℕ) (ts : List TokenValue) → AreKept ts → solid (tokens_
 solid_kept at [] all = refl
 solid_kept at (t ∷ ts) all = rw (all.0) (ap (λ r. token_at at t ∷ r) (solid_kept (at + length t.octets) ts all.1))
 
-solid_append : (ts us : List Token) → solid (ts ++ us) ≡ solid ts ++ solid us
-solid_append ts us = filter-append (λ (t : Token). not (is_blank t.kind)) ts us
-
 -- the section is this parameter, with blanks around it
 record IsSectionOf (text : List ℕ) (core : List TokenValue) (section : List Token) : Type 0 where
   solids : List Token
@@ -190,8 +160,8 @@ section_of text at lead core trail l k t e =
     let at_trail : ℕ = at_core + length (octets_of core) in
     record {
       solids = tokens_from at_core core;
-      solid_is = ap solid (placed_append at lead (core ++ trail)) ∙ solid_append (tokens_from at lead) (tokens_from at_core (core ++ trail)) ∙ ap (λ r. r ++ solid (tokens_from at_core (core ++ trail))) (solid_blank at lead l)
-          ∙ ap solid (placed_append at_core core trail) ∙ solid_append (tokens_from at_core core) (tokens_from at_trail trail) ∙ rw (solid_kept at_core core k, solid_blank at_trail trail t) (append-nil (tokens_from at_core core));
+      solid_is = ap solid (tokens_from-append at lead (core ++ trail)) ∙ solid_append (tokens_from at lead) (tokens_from at_core (core ++ trail)) ∙ ap (λ r. r ++ solid (tokens_from at_core (core ++ trail))) (solid_blank at lead l)
+          ∙ ap solid (tokens_from-append at_core core trail) ∙ solid_append (tokens_from at_core core) (tokens_from at_trail trail) ∙ rw (solid_kept at_core core k, solid_blank at_trail trail t) (append-nil (tokens_from at_core core));
       values = (stand_cut text at_core core trail (stand_cut text at lead (core ++ trail) e).1).0;
       touches = touch_from at_core core;
     }
@@ -221,7 +191,7 @@ sections_made text at lead core (next ∷ cores) tail blank free stands all is e
     let is_mark_there : is_mark_at text 59 (token_at end semicolon) ≡ true = marked text end mark.0 in
     let split = slice_split_at (is_mark_at text 59) (tokens_from at front) (token_at end semicolon) (tokens_from (end + 1) rest) (unmarked text at front cut.0 none) is_mark_there in
     let as_placed : tokens_from at (lead ++ (core ++ behind (next ∷ cores) tail)) ≡ tokens_from at front ++ token_at end semicolon ∷ tokens_from (end + 1) rest =
-    ap (tokens_from at) whole ∙ placed_append at front (semicolon ∷ rest) in
+    ap (tokens_from at) whole ∙ tokens_from-append at front (semicolon ∷ rest) in
     let bare : lead ++ (core ++ []) ≡ front = ap (λ r. lead ++ r) (append-nil core) in
     let first : IsSectionOf text core (tokens_from at front) =
     subst (λ ts. IsSectionOf text core (tokens_from at ts)) bare (section_of text at lead core [] blank stands.kept tt (subst (StandAt text at) (sym bare) cut.0)) in
@@ -283,25 +253,21 @@ body_made kind text main core pieces all tail is stands tail_is e =
 
 -- ---- the text
 
-join_tail : (w : List ℕ) (cs : List (List ℕ)) → w ++ octets_of (comment_tail cs) ≡ join_with_byte 32 (w ∷ cs)
+join_tail : (w : List ℕ) (cs : List (List ℕ)) → w ++ octets_of (spaced cs) ≡ join_with_byte 32 (w ∷ cs)
 join_tail w [] = append-nil w
 join_tail w (c ∷ cs) = ap (λ r. w ++ 32 ∷ r) (join_tail c cs)
-
-join_more : (p : List ℕ) (ps : List (List ℕ)) → 0 < length ps → join_with_byte 32 (p ∷ ps) ≡ p ++ 32 ∷ join_with_byte 32 ps
-join_more p [] some = absurd (omega (arith, some))
-join_more p (q ∷ ps) some = refl
 
 pub semicolons_some : (w : List ℕ) (ws cs : List (List ℕ)) → 0 < length (with_semicolons (w ∷ ws) ++ cs)
 semicolons_some w [] cs = omega arith
 semicolons_some w (v ∷ ws) cs = omega arith
 
 pub made_octets : (w : List ℕ) (core : List TokenValue) (pieces : List Piece) (all : AllByRecursion HasCore pieces) (cs : List (List ℕ)) → octets_of core ≡ w
-    → octets_of (core ++ behind (cores_of pieces all) (comment_tail cs)) ≡ join_with_byte 32 (with_semicolons (w ∷ map (λ (p : Piece). p.written) pieces) ++ cs)
-made_octets w core [] all cs e = octets_append core (comment_tail cs) ∙ ap (λ r. r ++ octets_of (comment_tail cs)) e ∙ join_tail w cs
+    → octets_of (core ++ behind (cores_of pieces all) (spaced cs)) ≡ join_with_byte 32 (with_semicolons (w ∷ map (λ (p : Piece). p.written) pieces) ++ cs)
+made_octets w core [] all cs e = octets_of-append core (spaced cs) ∙ ap (λ r. r ++ octets_of (spaced cs)) e ∙ join_tail w cs
 made_octets w core (p ∷ pieces) all cs e =
-    let tail : List TokenValue = comment_tail cs in
+    let tail : List TokenValue = spaced cs in
     let ws : List (List ℕ) = map (λ (p : Piece). p.written) pieces in
     let more = made_octets p.written all.0.core pieces all.1 cs (sym all.0.is_core.written_is) in
-    octets_append core (behind (cores_of (p ∷ pieces) all) tail) ∙ ap (λ r. r ++ octets_of (behind (cores_of (p ∷ pieces) all) tail)) e ∙ ap (λ r. w ++ 59 ∷ 32 ∷ r) more
+    octets_of-append core (behind (cores_of (p ∷ pieces) all) tail) ∙ ap (λ r. r ++ octets_of (behind (cores_of (p ∷ pieces) all) tail)) e ∙ ap (λ r. w ++ 59 ∷ 32 ∷ r) more
     ∙ sym (append_assoc w (59 ∷ []) (32 ∷ join_with_byte 32 (with_semicolons (p.written ∷ ws) ++ cs)))
     ∙ sym (join_more (w ++ 59 ∷ []) (with_semicolons (p.written ∷ ws) ++ cs) (semicolons_some p.written ws cs))

@@ -31,7 +31,7 @@ use Rattle.param_2231.specs.private.Parts.{IsWritableUnit}
 use Rattle.param_2231.specs.ParamsReadBack.{AreParamsAgain}
 use Rattle.param_2231.specs.WrittenParam.{ComesInParams, IsMainText, ReadsAsOne}
 use Rattle.param_2231.proofs.CoresAgain.{octets-at, HasCore}
-use Rattle.param_2231.proofs.PlacedAgain.{heads, tokens_placed, is_atom_kind, CanBeCopied, body_copied, IsPlaced}
+use Rattle.param_2231.proofs.PlacedAgain.{heads, tokens_placed, CanBeCopied, body_copied, IsPlaced}
 use Rattle.param_2231.proofs.WordsAgain.{CanBeWritten}
 use Rattle.param_2231.proofs.MadePiecesAgain.{IsName, GivesMade, OneMade, SeriesMade, AreGiven, param_given, written_all}
 use Rattle.param_2231.proofs.JoinedAgain.{IsSeries, StandsFor, One, Series, StandForAll, AreParams-again}
@@ -39,6 +39,7 @@ use Rattle.param_2231.proofs.GivenAgain.{IsGood, core_name, core_good, all_good,
 use Rattle.param_2231.proofs.MainAgain.{MainAgain, main_again}
 use Rattle.param_2231.proofs.ParamsAgain.{made_again}
 use Rattle.param_2231.proofs.ParamsSome.{unit_at-writable}
+use Rattle.param_2231.proofs.GlobalLemmas.{kind_is}
 
 -- ---- what is known of a parameter of a text
 
@@ -89,7 +90,7 @@ mark_kept Gap octets rest e is = absurd (true≢false (sym (subst (λ o. list_al
 mark_kept Comment octets rest e is = let same = heads 47 40 [] _ (sym e ∙ is.spelled) in absurd (omega (arith, same))
 
 atom_kept : (text : List ℕ) (t : Token) → is_ascii_atom text t ≡ true → is_blank t.kind ≡ false
-atom_kept text t h = ap is_blank (is_atom_kind t.kind (and_parts (is_atom t.kind) _ h).0)
+atom_kept text t h = ap is_blank (kind_is t.kind (and_parts (is_atom t.kind) _ h).0)
 
 main_kept : (kind : ParamKind) (text : List ℕ) (ts : List Token) → AllByRecursion (IsPlaced text) ts → is_main kind text ts ≡ true → AreKept (map (value_at text) ts)
 main_kept Content text [] placed h = tt

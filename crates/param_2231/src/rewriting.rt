@@ -10,7 +10,7 @@ ghost use Rattle.encoded_words.specs.Words.{Text};
 ghost use Rattle.encoded_words.specs.private.Values.{value_of};
 ghost use Rattle.param_2231.specs.private.Parts.{IsWritableUnit};
 ghost use Rattle.param_2231.specs.Layout.{GivesWhere, PiecesGive, with_semicolons as with_semicolons_of, is_global as is_global_of, written_main as written_main_of, ParamsPieces};
-ghost use Rattle.param_2231.specs.private.Given.{RoleGives, IsWritableRole, ended, GiveComments};
+ghost use Rattle.param_2231.specs.private.Given.{RoleGives, IsWritableRole, GiveBody, BodyPieces, AreNoBody, ended, GiveComments};
 
 use crate::writing::push_param;
 use encoded_words::Unit;
@@ -219,6 +219,41 @@ fn main_and_given(
     Ok(made)
 }
 
+// A main part and what the pieces give, with semicolons.
+fn written_body(
+    alloc: Global,
+    main: Octets,
+    pieces: &[Piece],
+    roles: &[Role],
+) -> Result<Vec<Octets>, Memory>
+    requires { AreRoles pieces.now [] pieces.now roles.now }
+    ensures { IfOk result (λ made. GiveBody pieces.now main made.items) }
+{
+    let given = main_and_given(alloc, main, pieces, roles)?;
+    with_semicolons(alloc, &given)
+}
+
+// The pieces of the main part and the parameters that a text's tokens are, and nothing exactly where they are none.
+fn body_pieces(
+    alloc: Global,
+    kind: ParamKind,
+    text: &[u8],
+    tokens: &[Token],
+    open_global: bool,
+) -> Result<Option<Vec<Octets>>, Memory>
+    ensures found { IfOk result (λ o. IfSome o (λ made. BodyPieces kind open_global text.now tokens.now made.items)) }
+    ensures none { IfOk result (λ o. IfNone o (AreNoBody kind text.now tokens.now)) }
+{
+    let Some((main, pieces)) = read_parts(alloc, kind, text, tokens)? else {
+        return Ok(None);
+    };
+    let Some(roles) = roles(alloc, &pieces)? else {
+        return Ok(None);
+    };
+    let main = written_main(alloc, kind, open_global, main)?;
+    Ok(Some(written_body(alloc, main, &pieces, &roles)?))
+}
+
 // The pieces of a text, and nothing exactly where it has no parameters.
 fn pieces_of(
     alloc: Global,
@@ -232,15 +267,9 @@ fn pieces_of(
     let Some(tokens) = read_tokens(alloc, Style::Mime, text)? else {
         return Ok(None);
     };
-    let Some((main, pieces)) = read_parts(alloc, kind, text, &tokens)? else {
+    let Some(mut made) = body_pieces(alloc, kind, text, &tokens, open_global)? else {
         return Ok(None);
     };
-    let Some(roles) = roles(alloc, &pieces)? else {
-        return Ok(None);
-    };
-    let main = written_main(alloc, kind, open_global, main)?;
-    let given = main_and_given(alloc, main, &pieces, &roles)?;
-    let mut made = with_semicolons(alloc, &given)?;
     write_comments(alloc, text, &tokens, &mut made)?;
     Ok(Some(made))
 }

@@ -9,33 +9,26 @@ use Rattle.std.specs.List.{list_any, list_all}
 use Rattle.std.specs.Option.{option_map_or}
 use Rattle.std.specs.Ordering.{nat_cmp}
 use Rattle.std.specs.Str.{bytes_eq}
-use Rattle.std.proofs.lemmas.Bool.{cases_Bool, true≢false}
-use Rattle.std.proofs.lemmas.List.{append-nil, append_assoc, length-map}
+use Rattle.std.proofs.lemmas.Bool.{cases_Bool, true≢false, or_right}
+use Rattle.std.proofs.lemmas.List.{append-nil, append_assoc}
 use Rattle.std.proofs.lemmas.List.Folds.{list_any-append}
 use Rattle.std.proofs.lemmas.Map.Text.{btree_map_updates_str}
 use Rattle.std.proofs.lemmas.Slice.Eq.{bytes_eq-Decides}
 use Rattle.encoded_words.specs.declared.Unit.{Unit}
 use Rattle.encoded_words.specs.private.Values.{value_of}
 use Rattle.mail_wire.specs.Octets.{is_ascii}
+use Rattle.encoded_words.proofs.Reading.{and_false}
 use Rattle.param_grammar.specs.declared.Piece.{Piece}
 use Rattle.param_grammar.specs.declared.role.Role.{Role}
 use Rattle.param_grammar.specs.declared.role.Role.TheVariants.{GoesOn, Begins}
-use Rattle.param_grammar.specs.private.ByName.{AreByName, HasBegun, are_ascii, is_named, is_numbered, pieces_in}
+use Rattle.param_grammar.specs.private.ByName.{AreByName, AreNamed, HasBegun, are_ascii, is_named, is_numbered, pieces_in}
 use Rattle.param_grammar.specs.Extended.{unit_of}
 use Rattle.param_grammar.specs.Joining.{AreNumbered, AreParams, AreRoles, IsRole, goes_on, is_part_of, joined_unit, params_of, parts_named}
-use Rattle.param_grammar.proofs.RoleLemmas.{parts_of_named, some_in, own_name, whole_doubled, part_doubled}
+use Rattle.param_grammar.proofs.RoleLemmas.{some_in, own_name, whole_doubled, part_doubled}
 
-or_false : (b : Bool) → (b || false) ≡ b
+pub or_false : (b : Bool) → (b || false) ≡ b
 or_false true = refl
 or_false false = refl
-
-and_false : (b : Bool) → (b && false) ≡ false
-and_false true = refl
-and_false false = refl
-
-or_true : (b : Bool) → (b || true) ≡ true
-or_true true = refl
-or_true false = refl
 
 pub begun_some : (b ascii said : Bool) → Some said ≡ (if b then Some ascii else None) → (b ≡ true) × (said ≡ ascii)
 begun_some true ascii said e = (refl, cc)
@@ -76,7 +69,7 @@ first_begun pieces before piece begun new ascii part said has updates = λ name.
       | inl same ↦
           let is : piece.base ≡ name = (bytes_eq-Decides piece.base name).0 same in
           let ascii_is : ascii ≡ are_ascii (parts_named name pieces) = said ∙ ap (λ base. are_ascii (parts_named base pieces)) is in
-          let now : list_any (is_part_of name) (before ++ piece ∷ []) ≡ true = one_more name before piece ∙ rw (part, same) (or_true (list_any (is_part_of name) before)) in
+          let now : list_any (is_part_of name) (before ++ piece ∷ []) ≡ true = one_more name before piece ∙ rw (part, same) (or_right (list_any (is_part_of name) before) true refl) in
           rw (same, now) (ap Some ascii_is)
       | inr other ↦
           let now : list_any (is_part_of name) (before ++ piece ∷ []) ≡ list_any (is_part_of name) before = one_more name before piece ∙ rw (other, and_false (is_numbered piece)) (or_false (list_any (is_part_of name) before)) in
@@ -90,15 +83,8 @@ module _ (names : BTreeMap (Bor (List ℕ)) (Vec (Bor Piece))) (pieces : List Pi
   at_name : option_map_or (λ (here : Vec (Bor Piece)). pieces_in here.items) o [] ≡ filter (is_named base) pieces
   at_name = ap (λ (p : Option (Vec (Bor Piece))). option_map_or (λ (here : Vec (Bor Piece)). pieces_in here.items) p []) got ∙ by_name key ∙ ap (λ name. filter (is_named name) pieces) same
 
-  pub named_are : (named : Vec (Bor Piece)) → o ≡ Some named → pieces_in named.items ≡ filter (is_named base) pieces
+  pub named_are : (named : Vec (Bor Piece)) → o ≡ Some named → AreNamed pieces base named.items
   named_are named is = ap (λ (p : Option (Vec (Bor Piece))). option_map_or (λ (here : Vec (Bor Piece)). pieces_in here.items) p []) (sym is) ∙ at_name
-
-  pub named_count : (named : Vec (Bor Piece)) → o ≡ Some named → length named.items ≡ length (filter (is_named base) pieces)
-  named_count named is = sym (length-map named.items (λ (r : Bor Piece). r.now)) ∙ ap length (named_are named is)
-
-  pub named_parts : (named : Vec (Bor Piece)) (parts : List (Bor Piece)) → o ≡ Some named → pieces_in parts ≡ filter is_numbered (pieces_in named.items)
-      → pieces_in parts ≡ parts_named base pieces
-  named_parts named parts is are = are ∙ ap (filter is_numbered) (named_are named is) ∙ sym (parts_of_named base pieces)
 
   pub named_there : (before behind : List Piece) (piece : Piece) → o ≡ None → piece.base ≡ base → pieces ≡ before ++ piece ∷ behind → ⊥
   named_there before behind piece is its cut =

@@ -1,8 +1,8 @@
 -- An extended text is read octet by octet, in one way, and what is written is read back.
-use Rattle.std.proofs.Common.{false, ◌≡◌, ◌≢◌, ℕ, ◌+◌, ◌*◌, ◌/◌, ◌%◌, ◌<◌, ◌≤◌, true, List, [], ◌∷◌, ◌++◌, length, map, refl, sym, ap, ◌∙◌, arith, get_or, take, drop, ◌-◌, All, inl, inr}
+use Rattle.std.proofs.Common.{false, ◌≡◌, ◌≢◌, ℕ, ◌+◌, ◌*◌, ◌/◌, ◌%◌, ◌<◌, true, List, [], ◌∷◌, ◌++◌, length, map, refl, sym, ap, ◌∙◌, arith, get_or, drop, ◌-◌, All, inl, inr}
 use Rattle.std.proofs.lemmas.Bool.{cases_Bool, cond-true, cond-false}
 use Rattle.std.proofs.lemmas.Bool.Decides.{nat_tests}
-use Rattle.std.proofs.lemmas.List.{append_assoc, append-nil, map-append, take_rest, drop_more}
+use Rattle.std.proofs.lemmas.List.{append_assoc, append-nil, map-append, drop_more}
 use Rattle.std.proofs.lemmas.List.Concat.{flat_map-append}
 use Rattle.std.proofs.lemmas.List.Elements.{All-head, All-tail}
 use Rattle.std.specs.Char.{digit_value}
@@ -98,16 +98,6 @@ IsEscaped-append s t a b p q = record {
   spelled = rw (flat_map-append item_spelling p.items q.items, p.spelled, q.spelled) refl;
   octets_are = rw (map-append item_octet p.items q.items, p.octets_are, q.octets_are) refl;
 }
-
--- a text that begins with an octet, as a slice pattern gives its parts
-pub first_is : (text : List ℕ) → 1 ≤ length text → text ≡ get_or text 0 0 ∷ take (length text - 1) (drop 1 text)
-first_is [] h = absurd (omega arith)
-first_is (b ∷ bs) h = ap (λ r. b ∷ r) (sym (take_rest (b ∷ bs) 1))
-
-pub second_is : (text : List ℕ) → 2 ≤ length text → text ≡ get_or text 0 0 ∷ get_or text 1 0 ∷ take (length text - 2) (drop 2 text)
-second_is [] h = absurd (omega arith)
-second_is (b ∷ []) h = absurd (omega arith)
-second_is (b ∷ d ∷ bs) h = ap (λ r. b ∷ d ∷ r) (sym (take_rest (b ∷ d ∷ bs) 2))
 
 pub BeginsEscaped-plain : (text : List ℕ) (b : ℕ) (rest : List ℕ) → text ≡ b ∷ rest → b ≢ 37 → BeginsEscaped text b rest
 BeginsEscaped-plain text b rest e x = record { item = Plain b; is_item = x; spelled = e; octet_is = refl }

@@ -1,11 +1,12 @@
 -- An extended value is cut in one way, and what its octets say.
-use Rattle.std.proofs.Common.{◌≡◌, ℕ, Bool, true, false, ◌||◌, List, [], ◌∷◌, ◌++◌, refl, sym, ap, ◌∙◌, subst}
+use Rattle.std.proofs.Common.{◌≡◌, ℕ, Bool, true, false, List, [], ◌∷◌, ◌++◌, sym, ap, ◌∙◌, subst}
 use Rattle.std.proofs.lemmas.Bool.{true≢false}
 use Rattle.std.specs.List.{list_all}
 use Rattle.std.specs.Str.{is_utf8, str_to_ascii_lowercase}
 use Rattle.encoded_words.specs.Words.{is_name_octet}
 use Rattle.encoded_words.specs.private.Parts.{lacks}
 use Rattle.encoded_words.proofs.Cuts.{cut_once, not_lacking}
+use Rattle.encoded_words.proofs.Charsets.{or_nothing}
 use Rattle.param_grammar.specs.Extended.{IsExtended, is_text_of}
 
 pub not-IsExtended-first : (value : List ℕ) → lacks 39 value ≡ true → (charset text : List ℕ) → IsExtended value charset text → ⊥
@@ -33,10 +34,6 @@ pub IsExtended-once : (value c t d u : List ℕ) → IsExtended value c t → Is
 IsExtended-once value c t d u p q =
     let once = value_cut value d (q.language ++ 39 ∷ u) c t q.spelled q.charset_first p in
     (once.0, (cut_once 39 p.language q.language t u p.language_first q.language_first once.1).1)
-
-or_nothing : (b : Bool) → b ≡ (b || false)
-or_nothing true = refl
-or_nothing false = refl
 
 -- octets without a charset
 pub text_of_nothing : (charset octets : List ℕ) (b : Bool) → charset ≡ [] → b ≡ is_utf8 octets → b ≡ is_text_of (str_to_ascii_lowercase charset) octets

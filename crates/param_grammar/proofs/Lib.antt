@@ -7,6 +7,7 @@ pub mod ReadLemmas
 pub mod NumberLemmas
 pub mod SlotLemmas
 pub mod RoleLemmas
+pub mod NamedParts
 pub mod BegunLemmas
 pub mod NamedLemmas
 pub mod ParamLemmas

@@ -2,7 +2,7 @@
 ghost use Rattle.std.specs.Prelude.{◌≡◌, ◌++◌, ◌∷◌, true, [], IfOk, IfSome, IfNone, List, false};
 ghost use Rattle.encoded_words.specs.private.Values.{value_of};
 ghost use Rattle.param_grammar.specs.declared.Piece.{Piece};
-ghost use Rattle.param_grammar.specs.private.ByName.{AreByName, HasBegun, is_numbered};
+ghost use Rattle.param_grammar.specs.private.ByName.{AreByName, AreNamed, HasBegun, IsFirstPart, is_numbered};
 ghost use Rattle.param_grammar.specs.Joining.{AreNumbered, AreParams, AreRoles, IsRole, ParamValue, goes_on, parts_named};
 ghost use Rattle.param_grammar.specs.Extended.{unit_of as unit_value};
 
@@ -42,6 +42,48 @@ fn whole_unit(alloc: Global, piece: &Piece) -> Result<Unit, Memory>
     unit_of(alloc, piece.charset.as_slice(), octets)
 }
 
+// The role of a whole parameter, where these are the pieces of its name.
+fn whole_role(alloc: Global, named: &[&Piece], piece: &Piece) -> Result<Role, Memory>
+    ensures { IfOk result (λ role. (pieces before behind : List Piece) → AreNamed pieces piece.now.base named.now → is_numbered piece.now ≡ false
+        → pieces ≡ before ++ piece.now ∷ behind → IsRole pieces before piece.now role) }
+{
+    Ok(Role::Begins {
+        unit: whole_unit(alloc, piece)?,
+        is_ascii: is_ascii(piece.written.as_slice()),
+        is_doubled: named.len() > 1,
+    })
+}
+
+// The role of a part with which its parameter begins, where these are the pieces of its name. Nothing exactly where its
+// numbers aren't those from 0 on.
+fn first_role<'a>(
+    alloc: Global,
+    named: &[&'a Piece],
+    begun: &mut BTreeMap<&'a [u8], bool>,
+    piece: &'a Piece,
+) -> Result<Option<Role>, Memory>
+    ensures role { IfOk result (λ o. IfSome o (λ role. (pieces before behind : List Piece) → AreNamed pieces piece.now.base named.now
+        → IsFirstPart before piece.now → pieces ≡ before ++ piece.now ∷ behind → IsRole pieces before piece.now role)) }
+    ensures begun { IfOk result (λ o. IfSome o (λ role. (pieces before : List Piece) → AreNamed pieces piece.now.base named.now
+        → IsFirstPart before piece.now → HasBegun pieces before begun.old → HasBegun pieces (before ++ piece.now ∷ []) begun.new)) }
+    ensures numbered { IfOk result (λ o. IfSome o (λ role. (pieces : List Piece) → AreNamed pieces piece.now.base named.now
+        → AreNumbered (parts_named piece.now.base pieces))) }
+    ensures none { IfOk result (λ o. IfNone o ((pieces : List Piece) → AreNamed pieces piece.now.base named.now
+        → ¬ AreNumbered (parts_named piece.now.base pieces))) }
+{
+    let parts = parts_among(alloc, named)?;
+    let Some(unit) = joined_unit(alloc, &parts)? else {
+        return Ok(None);
+    };
+    let is_ascii = are_ascii(&parts);
+    begun.insert(piece.base.as_slice(), is_ascii)?;
+    Ok(Some(Role::Begins {
+        unit,
+        is_ascii,
+        is_doubled: parts.len() < named.len(),
+    }))
+}
+
 // The role of a piece among the pieces of its name, where a name that began says whether its parts are ASCII. Nothing exactly
 // where the parameter begins with the piece and its numbers aren't those from 0 on.
 fn role_of<'a>(
@@ -63,26 +105,12 @@ fn role_of<'a>(
         return Ok(None);
     };
     if piece.number.is_none() {
-        return Ok(Some(Role::Begins {
-            unit: whole_unit(alloc, piece)?,
-            is_ascii: is_ascii(piece.written.as_slice()),
-            is_doubled: named.len() > 1,
-        }));
+        return Ok(Some(whole_role(alloc, named, piece)?));
     }
     if let Some(is_ascii) = begun.get(piece.base.as_slice()).copied() {
         return Ok(Some(Role::GoesOn { is_ascii }));
     }
-    let parts = parts_among(alloc, named)?;
-    let Some(unit) = joined_unit(alloc, &parts)? else {
-        return Ok(None);
-    };
-    let is_ascii = are_ascii(&parts);
-    begun.insert(piece.base.as_slice(), is_ascii)?;
-    Ok(Some(Role::Begins {
-        unit,
-        is_ascii,
-        is_doubled: parts.len() < named.len(),
-    }))
+    first_role(alloc, named, begun, piece)
 }
 
 /// The role of each piece, and nothing exactly where the numbers of the pieces of a name aren't those from 0 on.

@@ -5,13 +5,13 @@ use Rattle.std.specs.List.{AllByRecursion, IsDistinct, list_all}
 use Rattle.std.specs.Option.{option_map_or}
 use Rattle.std.proofs.lemmas.List.Sums.{sum_by-append, sum_by-cons}
 use Rattle.mail_store.specs.Changing.{is_live, expunged, expunge_refusal}
-use Rattle.mail_store.specs.Kept.{Kept, after, after_all, change_at, listed, name_of}
+use Rattle.mail_store.specs.Kept.{Kept, after, change_at, listed, name_of}
 use Rattle.mail_store.specs.Records.{IsLive}
 use Rattle.mail_store.specs.StoreState.{StoreState, with_records}
 use Rattle.mail_store.specs.declared.kept.Listed.{Listed}
-use Rattle.journal_records.specs.declared.records.Record.TheVariants as records
 use Rattle.mail_store.proofs.ListedLemmas.{listed_live, listed_distinct}
 use Rattle.mail_store.specs.declared.kept.Message.{Message}
+use Rattle.session_core.proofs.DeskLemmas.{expunged_domains}
 use Rattle.pop_session.specs.declared.states.MaildropMessage.{MaildropMessage}
 use Rattle.pop_session.specs.Machine.{marked, unmarked, deleted_ids, left_of}
 use Rattle.pop_session.specs.States.{Knows}
@@ -180,10 +180,6 @@ sum-kept row maildrop place d n value inside kept value_is is =
     rw (is, value_is, left-kept maildrop place d inside kept, all, one) (omega arith)
 
 -- ---- the name of the store
-
-expunged_domains : (kept : Kept) (ids : List ℕ) → (after_all kept (expunged ids)).domains ≡ kept.domains
-expunged_domains kept [] = refl
-expunged_domains kept (id ∷ ids) = expunged_domains (after kept (records.Expunge id)) ids
 
 -- messages that go leave the name as it is
 pub expunged_name : (old new : StoreState) (ids : List ℕ) → new ≡ with_records old (expunged ids) → name_of new.kept ≡ name_of old.kept

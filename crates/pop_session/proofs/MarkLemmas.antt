@@ -2,6 +2,7 @@
 use Rattle.std.proofs.Common.{◌≡◌, ℕ, zero, suc, ◌+◌, ◌<◌, List, [], ◌∷◌, Bool, true, false, arith, refl, sym, ap, ◌∙◌, Some, None, Option}
 use Rattle.std.specs.Prelude.{map, length, ◌==◌, ◌||◌, ◌↔◌}
 use Rattle.std.proofs.lemmas.Bool.Decides.{nat_tests}
+use Rattle.std.proofs.lemmas.Bool.{or_left}
 use Rattle.mail_store.specs.declared.kept.Listed.{Listed}
 use Rattle.mail_store.specs.Kept.{change_at, logged_in}
 use Rattle.mail_store.specs.StoreState.{StoreState}
@@ -23,10 +24,6 @@ or_else : (a b : Bool) → a ≡ false → (a || b) ≡ b
 or_else true b is = cc
 or_else false b is = refl
 
-or_first : (a b : Bool) → a ≡ true → (a || b) ≡ true
-or_first true b is = refl
-or_first false b is = cc
-
 -- a mark before these messages is none of theirs
 mark_before : (number first : ℕ) (marks : List ℕ) (listing : List Listed) → first < number → with_marks number (first ∷ marks) listing ≡ with_marks number marks listing
 mark_before number first marks [] before = refl
@@ -40,7 +37,7 @@ mark_at : (number place at : ℕ) (marks : List ℕ) (listing : List Listed) →
 mark_at number place at marks [] is = refl
 mark_at number zero at marks (one ∷ listing) is =
     let here : (number == at) ≡ true = grind (arith, nat_tests) in
-    rw (or_first (number == at) (is_among number marks) here, mark_before (suc number) at marks listing (omega (arith, is))) refl
+    rw (or_left (number == at) (is_among number marks) here, mark_before (suc number) at marks listing (omega (arith, is))) refl
 mark_at number (suc place) at marks (one ∷ listing) is =
     let apart : (number == at) ≡ false = grind (arith, nat_tests) in
     rw (or_else (number == at) (is_among number marks) apart, mark_at (suc number) place at marks listing (omega (arith, is))) refl

@@ -59,15 +59,15 @@ AreStored-after kept all are stored = record {
 -- ---- a store's name stays
 
 -- no domain comes with what waits
-queue_domains : (kept : Kept) (none : Bool) (path : List ℕ) (addresses : List (List ℕ)) (octets : List ℕ)
+pub queue_domains : (kept : Kept) (none : Bool) (path : List ℕ) (addresses : List (List ℕ)) (octets : List ℕ)
     → (after_all kept (cond none [] (records.Queue path addresses octets ∷ []))).domains ≡ kept.domains
 queue_domains kept true path addresses octets = refl
 queue_domains kept false path addresses octets = refl
 
-queued_domains : (kept : Kept) (delivery : Delivery) → (after_all kept (queued delivery)).domains ≡ kept.domains
+pub queued_domains : (kept : Kept) (delivery : Delivery) → (after_all kept (queued delivery)).domains ≡ kept.domains
 queued_domains kept delivery = queue_domains kept _ _ _ _
 
-delivered_domains : (kept : Kept) (delivery : Delivery) → (after_all kept (delivered kept delivery)).domains ≡ kept.domains
+pub delivered_domains : (kept : Kept) (delivery : Delivery) → (after_all kept (delivered kept delivery)).domains ≡ kept.domains
 delivered_domains kept delivery =
     let copies = map (copy_for delivery.date delivery.local_octets) (inboxes_of kept delivery.local) in
     ap (λ (k : Kept). k.domains) (after_all-append kept copies (queued delivery)) ∙ queued_domains (after_all kept copies) delivery
@@ -87,7 +87,7 @@ unless_name store all (Some refusal) same = refl
 delivery_name : (store : StoreState) (delivery : Delivery) → KeepsName store (changes_of store delivery)
 delivery_name store delivery = unless_name store (delivered store.kept delivery) (delivery_refusal store delivery) (delivered_domains store.kept delivery)
 
-expunged_domains : (kept : Kept) (ids : List ℕ) → (after_all kept (expunged ids)).domains ≡ kept.domains
+pub expunged_domains : (kept : Kept) (ids : List ℕ) → (after_all kept (expunged ids)).domains ≡ kept.domains
 expunged_domains kept [] = refl
 expunged_domains kept (id ∷ ids) = expunged_domains (after kept (records.Expunge id)) ids
 

@@ -5,7 +5,8 @@ use Rattle.mime_tree.specs.declared.entity.Entity.{Entity}
 use Rattle.mime_tree.specs.Tree.{HasTree}
 use Rattle.mime_tree.proofs.DecidingTrees.{decide_tree}
 use Rattle.journal_records.specs.Stored.{IsStored}
-use Rattle.surrogate_cache.proofs.ServedLemmas.{meanings_given as given}
+use Rattle.surrogate_cache.proofs.ServedLemmas.{surrogates_given}
+use Rattle.address_lists.proofs.PathPiecesLemmas.{paths_read}
 use Rattle.session_core.specs.Meanings.{Meanings, AreMeanings}
 
 -- octets have a tree of entities, or none
@@ -25,6 +26,6 @@ told_is octets (inr none) = (λ is. absurd (search rules), λ stored. absurd (no
 
 pub meanings_given : (meanings : Meanings) × AreMeanings meanings
 meanings_given = (
-  record { surrogate = given.0.surrogate; path_of = given.0.path_of; has_tree = λ octets. told octets (decide_tree octets) },
-  record { surrogates = given.1.surrogates; paths = given.1.paths; trees = λ octets. told_is octets (decide_tree octets) },
+  record { surrogate = surrogates_given.0; path_of = paths_read.0; has_tree = λ octets. told octets (decide_tree octets) },
+  record { surrogates = surrogates_given.1; paths = paths_read.1; trees = λ octets. told_is octets (decide_tree octets) },
 )

@@ -1,13 +1,14 @@
 -- What a command of `clap` makes of plain words: each goes to the next positional argument.
-use Rattle.std.proofs.Common.{ap, ap₂, refl, true, false, Bool, List, ℕ, None, [], ◌∷◌, ◌≡◌, ◌∙◌, ◌==◌}
+use Rattle.std.proofs.Common.{ap, ap₂, refl, true, false, List, ℕ, None, [], ◌∷◌, ◌≡◌, ◌∙◌, ◌==◌}
 use Rattle.std.proofs.Common.{bytes_eq}
-use Rattle.std.specs.Prelude.{cond, not, is_some}
+use Rattle.std.specs.Prelude.{cond, is_some}
 use Rattle.std.specs.Option.{option_map_or}
 use Rattle.clap.specs.Lexer.{long_of, short_of}
 use Rattle.clap.specs.Walk.{Rule, Text, Held, Walk, word_met, value, trailing, idle, after_step, to_positional, arg_by_index, walked, long_or_other, short_or_plain, settled, finished}
 use Rattle.clap.specs.Faults.{word_fault, flag_word_fault, bundle_fault, step_fault, turn_fault, walk_fault, entered_fault, settle_fault, defaults_fault, check_fault}
 use Rattle.clap.specs.Simple.{App, Shape, entered}
 use Rattle.clap.specs.Kinds.{Kinds, or_else}
+use Rattle.std.proofs.lemmas.Bool.{not-true}
 use Rattle.setup_command.specs.PlainWords.{is_plain}
 
 -- ---- one word
@@ -39,22 +40,18 @@ plain_fault s x xs h is =
 abbrev pub standing : Held → ℕ → Walk
 standing h position = record { held = h; waiting = idle; position = position; is_trailing = false; stopped = None }
 
-not_true : (b : Bool) → not b ≡ true → b ≡ false
-not_true true is = cc
-not_true false is = refl
-
 -- a plain word goes to the positional
 pub turned : (c : List Rule) (h : Held) (position : ℕ) (word : Text) → is_plain word ≡ true
     → walked c [] (standing h position) word ≡ to_positional c (arg_by_index c position) word (standing h position) h
 unfolding walked
 turned c h position [] plain = cc
 turned c h position (x ∷ xs) plain =
-    ap (λ met. after_step c (x ∷ xs) (standing h position) met.0 met.1) (plain_met c position x xs h (not_true (x == 45) plain))
+    ap (λ met. after_step c (x ∷ xs) (standing h position) met.0 met.1) (plain_met c position x xs h (not-true (x == 45) plain))
 
 fault_turned : (s : Shape) (h : Held) (position : ℕ) (word : Text) → is_plain word ≡ true → turn_fault s [] (standing h position) word ≡ step_fault s position h value
 fault_turned s h position [] plain = cc
 fault_turned s h position (x ∷ xs) plain =
-    let is = not_true (x == 45) plain in
+    let is = not-true (x == 45) plain in
     ap₂ (λ kinds met. or_else kinds (step_fault s position met.0 met.1)) (plain_fault s x xs h is) (plain_met s.rules position x xs h is)
 
 -- the faults of a plain word and of the words behind it

@@ -1,5 +1,5 @@
 -- What a command of `clap` tells of the words behind its name.
-use Rattle.std.proofs.Common.{ap, ap₂, sym, refl, codes, true, false, ◌&&◌, Bool, List, Option, Some, None, [], ◌∷◌, ◌≡◌, ◌∙◌, inl, inr, subst, Bor}
+use Rattle.std.proofs.Common.{ap, ap₂, sym, refl, codes, true, List, Option, Some, None, [], ◌∷◌, ◌≡◌, ◌∙◌, inl, inr, subst, Bor}
 use Rattle.std.specs.Prelude.{IfSome, IfNone, option_map}
 use Rattle.std.specs.Option.{option_zip}
 use Rattle.std.specs.List.{list_all}
@@ -13,17 +13,10 @@ use Rattle.clap.specs.declared.error.Error.{Error}
 use Rattle.clap.specs.declared.error.kind.ErrorKind.TheVariants as kind
 use Rattle.clap.specs.declared.parser.matches.ArgMatches.{ArgMatches}
 use Rattle.clap.proofs.WalkLemmas.{first_value-rows}
+use Rattle.mail_store.proofs.ChangeLemmas.{and_left, and_right}
 use Rattle.setup_command.specs.private.Apps.{domain_app, account_app}
 use Rattle.setup_command.specs.PlainWords.{is_plain, IsCalled}
 use Rattle.setup_command.proofs.ReadLemmas.{domain_simple, account_simple, domain_none, domain_one, domain_more, domain_value, domain_is_simple, account_is_simple, account_none, account_one, account_two, account_more, account_values}
-
-and_left : (a b : Bool) → (a && b) ≡ true → a ≡ true
-and_left true b both = refl
-and_left false b both = cc
-
-and_right : (a b : Bool) → (a && b) ≡ true → b ≡ true
-and_right true b both = both
-and_right false b both = cc
 
 first_plain : (word : Text) (rest : List Text) → list_all is_plain (word ∷ rest) ≡ true → is_plain word ≡ true
 first_plain word rest all = and_left (is_plain word) (list_all is_plain rest) all
@@ -34,9 +27,6 @@ rest_plain word rest all = and_right (is_plain word) (list_all is_plain rest) al
 -- the words behind one list's name are those behind the other's
 behind : (name : Text) (a b : List Text) → name ∷ a ≡ name ∷ b → a ≡ b
 behind name a b same = cc
-
-pub not_so : false ≡ true → ⊥
-not_so e = cc
 
 some_same : (a b : Text) → Some a ≡ Some b → a ≡ b
 some_same a b same = cc

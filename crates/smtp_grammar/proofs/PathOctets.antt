@@ -5,7 +5,7 @@ use Rattle.std.specs.Option.{option_map, option_and_then}
 use Rattle.std.specs.Prelude.{map}
 use Rattle.std.specs.Char.{to_ascii_lowercase}
 use Rattle.std.specs.Str.{bytes_eq}
-use Rattle.std.proofs.lemmas.Bool.{and_parts, and_from, cases_Bool, or_cases, or_parts, ne_eqb}
+use Rattle.std.proofs.lemmas.Bool.{and_parts, and_from, cases_Bool, or_cases, or_parts, ne_eqb, not-true}
 use Rattle.std.proofs.lemmas.Bool.Decides.{nat_tests}
 use Rattle.std.proofs.lemmas.List.{take_at, drop_at}
 use Rattle.std.proofs.lemmas.List.Concat.{flat_map-cons}
@@ -78,11 +78,6 @@ record GoesOn (x : ℕ) : Type 0 where
   no_end : (x == 62) ≡ false
   no_comment : (x == 40) ≡ false
 
--- what isn't so is false
-is_false : (b : Bool) → not b ≡ true → b ≡ false
-is_false true h = cc
-is_false false h = refl
-
 -- the test says so
 going_on : (x : ℕ) → goes_on x ≡ true → GoesOn x
 going_on x h =
@@ -90,10 +85,10 @@ going_on x h =
     let second = and_parts (not (x == 91)) (not (x == 62) && not (x == 40)) first.1 in
     let third = and_parts (not (x == 62)) (not (x == 40)) second.1 in
     record {
-      no_quote = is_false (x == 34) first.0;
-      no_literal = is_false (x == 91) second.0;
-      no_end = is_false (x == 62) third.0;
-      no_comment = is_false (x == 40) third.1;
+      no_quote = not-true (x == 34) first.0;
+      no_literal = not-true (x == 91) second.0;
+      no_end = not-true (x == 62) third.0;
+      no_comment = not-true (x == 40) third.1;
     }
 
 -- the path goes on behind such an octet

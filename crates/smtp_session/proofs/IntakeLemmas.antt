@@ -4,6 +4,7 @@ use Rattle.std.specs.Prelude.{slice_index_or}
 use Rattle.std.specs.List.{All, AllByRecursion, IsDistinct}
 use Rattle.std.proofs.lemmas.Bool.{cases_Bool, cases_eq, cond_both, eqb-true, eqb-false}
 use Rattle.std.proofs.lemmas.List.Elements.{All-from_recursion, recursion_from_All, All-weaker, filter-append}
+use Rattle.std.proofs.lemmas.Option.{same_Some, none-some}
 use Rattle.address_grammar.specs.declared.Address.{Address}
 use Rattle.address_grammar.specs.Addresses.{address_text}
 use Rattle.mail_store.specs.declared.delivery.Delivery.{Delivery}
@@ -29,22 +30,16 @@ use Rattle.smtp_session.proofs.RowLemmas.{not_zero}
 
 -- ---- each account has an INBOX of its own
 
-some_number : (a b : ℕ) → Some a ≡ Some b → a ≡ b
-some_number a b e = cc
-
-no_number : (a : ℕ) → None ≡ Some a → ⊥
-no_number a e = cc
-
 none_there : IsSome {T = ℕ} None → ⊥
 none_there has = cc
 
 -- a folder that is found isn't before the first of the list
 found_from : (account at i : ℕ) (folders : List Folder) → first_folder account at folders ≡ Some i → at ≤ i
-found_from account at i [] e = absurd (no_number i e)
+found_from account at i [] e = absurd (none-some i e)
 found_from account at i (folder ∷ folders) e =
     elim (cases_Bool (eqb folder.account account)) [
       | inl own ↦
-          let is : at ≡ i = some_number at i (rw own at e) in
+          let is : at ≡ i = same_Some at i (rw own at e) in
           omega (arith, is)
       | inr other ↦
           let later = found_from account (at + 1) i folders (rw other at e) in
@@ -53,11 +48,11 @@ found_from account at i (folder ∷ folders) e =
 
 -- a folder that is found for one account isn't found for another
 same_owner : (a b at i : ℕ) (folders : List Folder) → first_folder a at folders ≡ Some i → first_folder b at folders ≡ Some i → a ≡ b
-same_owner a b at i [] e f = absurd (no_number i e)
+same_owner a b at i [] e f = absurd (none-some i e)
 same_owner a b at i (folder ∷ folders) e f =
     elim (cases_Bool (eqb folder.account a)) [
       | inl own ↦
-          let here : at ≡ i = some_number at i (rw own at e) in
+          let here : at ≡ i = same_Some at i (rw own at e) in
           elim (cases_Bool (eqb folder.account b)) [
             | inl too ↦ sym (eqb-true folder.account a own) ∙ eqb-true folder.account b too
             | inr other ↦
@@ -68,7 +63,7 @@ same_owner a b at i (folder ∷ folders) e f =
           let later = found_from a (at + 1) i folders (rw other at e) in
           elim (cases_Bool (eqb folder.account b)) [
             | inl own ↦
-                let here : at ≡ i = some_number at i (rw own at f) in
+                let here : at ≡ i = same_Some at i (rw own at f) in
                 absurd (omega (arith, here, later))
             | inr neither ↦ same_owner a b (at + 1) i folders (rw other at e) (rw neither at f)
           ]

@@ -1,5 +1,6 @@
 -- The store behind the turns of a stream has their changes.
 use Rattle.std.proofs.Common.{◌≡◌, List, [], ℕ, Option, Some, None, sym, ap, subst}
+use Rattle.std.proofs.lemmas.Option.{same_Some}
 use Rattle.std.specs.Option.{option_map}
 use Rattle.journal_records.specs.declared.records.Record.{Record}
 use Rattle.mail_store.specs.Following.{records_of}
@@ -19,9 +20,6 @@ use Rattle.smtp_session.specs.Session.{Machine, data_turn, line_too_long, line_t
 use Rattle.smtp_session.specs.declared.states.Client.{Client}
 use Rattle.smtp_session.specs.declared.states.Envelope.{Envelope}
 
-unsome : {a b : Turn Machine (Act (List ℕ))} → Some a ≡ Some b → a ≡ b
-unsome h = cc
-
 -- the changes of a step are those of its acts
 with_changes : (store : StoreState) (made : List (List Record)) (reply : List (List ℕ)) → with_records store (records_of made) ≡ with_records store (records_of (changes_in (acts_of made reply)))
 with_changes store made reply = ap (λ (changes : List (List Record)). with_records store (records_of changes)) (sym (changes_in-acts made reply))
@@ -33,15 +31,15 @@ line_tracks : (meanings : Meanings) (machine : Machine) (framed : Framed) (turn 
 line_tracks meanings machine waiting turn is = cc
 line_tracks meanings machine (whole text rest) turn is =
     let taken = step meanings machine.state machine.store (command_of text).verb (command_of text).argument in
-    subst (TracksStore machine) (unsome is) (with_changes machine.store taken.changes taken.reply)
-line_tracks meanings machine (too_long rest) turn is = subst (TracksStore machine) (unsome is) (with_changes machine.store [] line_too_long)
+    subst (TracksStore machine) (same_Some _ _ is) (with_changes machine.store taken.changes taken.reply)
+line_tracks meanings machine (too_long rest) turn is = subst (TracksStore machine) (same_Some _ _ is) (with_changes machine.store [] line_too_long)
 
 data_tracks : (meanings : Meanings) (machine : Machine) (client : Client) (envelope : Envelope) (found : Option Cut) (turn : Turn Machine (Act (List ℕ)))
     → option_map (data_turn meanings machine client envelope) found ≡ Some turn → TracksStore machine turn
 data_tracks meanings machine client envelope None turn is = cc
 data_tracks meanings machine client envelope (Some cut) turn is =
     let taken = end_data meanings machine.store client envelope (next_moment machine.moments) (unstuffed cut.line) in
-    subst (TracksStore machine) (unsome is) (with_changes machine.store taken.changes taken.reply)
+    subst (TracksStore machine) (same_Some _ _ is) (with_changes machine.store taken.changes taken.reply)
 
 turn_tracks : (meanings : Meanings) (state : State) (machine : Machine) (octets : List ℕ) (turn : Turn Machine (Act (List ℕ))) → turn_in meanings state machine octets ≡ Some turn → TracksStore machine turn
 turn_tracks meanings fresh machine octets turn is = line_tracks meanings machine (next_line octets) turn is

@@ -5,6 +5,7 @@ use Rattle.std.specs.List.{AllByRecursion}
 use Rattle.std.specs.Fmt.{decimal}
 use Rattle.std.specs.Option.{option_map}
 use Rattle.std.proofs.lemmas.Bool.{cond_both}
+use Rattle.std.proofs.lemmas.Option.{same_Some, none-some}
 use Rattle.mail_wire.specs.Framing.{Framed, waiting, whole, too_long, next_line}
 use Rattle.mail_wire.specs.Lines.{Cut}
 use Rattle.session_core.specs.Turns.{Turn, all_turns}
@@ -110,20 +111,14 @@ command_turn meanings machine word argument rest stays =
       };
     })
 
-unsome : {a b : Turn Machine (Act (List ℕ))} → Some a ≡ Some b → a ≡ b
-unsome h = cc
-
-no_turn : {turn : Turn Machine (Act (List ℕ))} → None ≡ Some turn → ⊥
-no_turn h = cc
-
 -- a line
 line_brings : (meanings : Meanings) (machine : Machine) (framed : Framed) (turn : Turn Machine (Act (List ℕ))) → Stays machine → line_turn meanings machine framed ≡ Some turn
     → IsTurn machine.store turn
-line_brings meanings machine waiting turn stays is = absurd (no_turn is)
+line_brings meanings machine waiting turn stays is = absurd (none-some _ is)
 line_brings meanings machine (whole text rest) turn stays is =
-    subst (IsTurn machine.store) (unsome is) (command_turn meanings machine (command_of text).verb (command_of text).argument rest stays)
+    subst (IsTurn machine.store) (same_Some _ _ is) (command_turn meanings machine (command_of text).verb (command_of text).argument rest stays)
 line_brings meanings machine (too_long rest) turn stays is =
-    subst (IsTurn machine.store) (unsome is)
+    subst (IsTurn machine.store) (same_Some _ _ is)
     (record {
       brings = Answers line_too_long (differs_at 0 _ refl, tt) refl refl;
       stays = record { inboxes = stays.inboxes; recipients = tt; named = stays.named };
@@ -166,11 +161,11 @@ end_turn store client delivery envelope moments rest taken local remote have are
 
 data_brings : (meanings : Meanings) (machine : Machine) (client : Client) (envelope : Envelope) (found : Option Cut) (turn : Turn Machine (Act (List ℕ))) → Stays machine
     → AreRecipients machine.store.kept envelope → option_map (data_turn meanings machine client envelope) found ≡ Some turn → IsTurn machine.store turn
-data_brings meanings machine client envelope None turn stays are is = absurd (no_turn is)
+data_brings meanings machine client envelope None turn stays are is = absurd (none-some _ is)
 data_brings meanings machine client envelope (Some cut) turn stays are is =
     let moment = next_moment machine.moments in
     let delivery = delivery_of machine.store client envelope moment (unstuffed cut.line) in
-    subst (IsTurn machine.store) (unsome is)
+    subst (IsTurn machine.store) (same_Some _ _ is)
     (end_turn machine.store client delivery envelope (later machine.moments) cut.rest (end_data meanings machine.store client envelope moment (unstuffed cut.line)) refl refl
     stays.inboxes are stays.named (ends_by (meanings.has_tree (unstuffed cut.line)) machine.store client delivery))
 
@@ -180,7 +175,7 @@ turn_brings meanings fresh machine octets turn stays known is = line_brings mean
 turn_brings meanings (greeted client) machine octets turn stays known is = line_brings meanings machine (next_line octets) turn stays is
 turn_brings meanings (mail client envelope) machine octets turn stays known is = line_brings meanings machine (next_line octets) turn stays is
 turn_brings meanings (collecting client envelope) machine octets turn stays known is = data_brings meanings machine client envelope (data_cut octets) turn stays known is
-turn_brings meanings ended machine octets turn stays known is = absurd (no_turn is)
+turn_brings meanings ended machine octets turn stays known is = absurd (none-some _ is)
 
 next_brings : (meanings : Meanings) (machine : Machine) (octets : List ℕ) (turn : Turn Machine (Act (List ℕ))) → Stays machine → next_turn meanings machine octets ≡ Some turn
     → IsTurn machine.store turn

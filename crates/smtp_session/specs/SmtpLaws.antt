@@ -1,5 +1,5 @@
 -- What the driver takes of SMTP: a turn doesn't depend on what comes later, and whatever is asked for, the replies are ASCII.
-use Rattle.std.proofs.Common.{◌≡◌, List, [], ℕ, refl, sym, ap, subst, ◌∙◌, Some, None, Option, suc, ◌+◌, ◌<◌, ◌∷◌, ◌++◌, Bool, true, false, arith, ◌==◌, codes, cond, not, inl, inr, append-nil, map, length, if◌then◌else◌}
+use Rattle.std.proofs.Common.{◌≡◌, List, [], ℕ, refl, sym, ap, subst, ◌∙◌, Some, None, Option, suc, ◌+◌, ◌<◌, ◌∷◌, ◌++◌, Bool, true, false, arith, ◌==◌, codes, cond, not, inl, inr, append-nil, length, if◌then◌else◌}
 use Rattle.std.specs.Option.{option_map}
 use Rattle.std.specs.Prelude.{is_some, nat_lt, slice_index_or, sum_by}
 use Rattle.std.specs.Str.{IsAscii}
@@ -7,6 +7,7 @@ use Rattle.std.specs.List.{list_all, list_any}
 use Rattle.std.specs.Fmt.{decimal}
 use Rattle.std.proofs.lemmas.Bool.{cond_both}
 use Rattle.std.proofs.lemmas.Bool.Decides.{nat_tests}
+use Rattle.std.proofs.lemmas.Option.{same_Some, none-some}
 use Rattle.mail_wire.specs.Dots.{unstuffed}
 use Rattle.mail_wire.specs.Framing.{Framed, waiting, whole, too_long, next_line}
 use Rattle.mail_wire.specs.Lines.{Cut}
@@ -17,15 +18,12 @@ use Rattle.mail_wire.proofs.FramingLemmas.{IsSteady, steady}
 use Rattle.ace_domains.proofs.FormLemmas.{form_ascii}
 use Rattle.address_grammar.specs.declared.Address.{Address}
 use Rattle.journal_records.specs.declared.records.Record.{Record}
-use Rattle.journal_records.specs.declared.records.Record.TheVariants as records
 use Rattle.mail_store.specs.Kept.{name_of, Kept, after_all, find_account, is_local}
-use Rattle.mail_store.specs.Changing.{copy_for, delivered, delivery_refusal, has_large_octets, inboxes_of, queued}
+use Rattle.mail_store.specs.Changing.{delivered, delivery_refusal, has_large_octets}
 use Rattle.mail_store.specs.Following.{records_of}
 use Rattle.mail_store.specs.StoreState.{StoreState, with_records}
 use Rattle.mail_store.specs.declared.delivery.Delivery.{Delivery}
 use Rattle.mail_store.specs.declared.limits.TheConstants.{RECIPIENTS_MAX}
-use Rattle.mail_store.proofs.ChangeLemmas.{after_all-append}
-use Rattle.mail_store.proofs.DeliveryLemmas.{after-copies}
 use Rattle.smtp_grammar.specs.Commands.{command_of, announced, are_malformed, is_client, is_smtputf8, is_unknown, parameter_of, path_behind}
 use Rattle.smtp_grammar.specs.Data.{data_cut}
 use Rattle.smtp_grammar.specs.declared.command.Verb.{Verb}
@@ -40,6 +38,7 @@ use Rattle.session_core.specs.Protocol.{IsFitTurn}
 use Rattle.session_core.specs.Turns.{Turn, IsFramed, followed_by}
 use Rattle.session_core.specs.declared.desk.Desk.{Desk}
 use Rattle.session_core.proofs.FitLemmas.{fit_acts}
+use Rattle.session_core.proofs.DeskLemmas.{delivered_domains}
 use Rattle.smtp_session.specs.declared.session.SmtpMachine.{SmtpMachine}
 use Rattle.smtp_session.specs.declared.states.Client.{Client}
 use Rattle.smtp_session.specs.declared.states.Envelope.{Envelope}
@@ -58,22 +57,19 @@ line_shorter meanings machine octets waiting turn steady is = cc
 line_shorter meanings machine octets (whole line rest) turn steady is = let same : rest ≡ turn.rest = cc in rw (← same) steady.0
 line_shorter meanings machine octets (too_long rest) turn steady is = let same : rest ≡ turn.rest = cc in rw (← same) steady.0
 
-unsome : {a b : Turn Machine (Act (List ℕ))} → Some a ≡ Some b → a ≡ b
-unsome h = cc
-
 -- more octets stay behind a line
 line_stays : (meanings : Meanings) (machine : Machine) (octets more : List ℕ) (framed : Framed) (turn : Turn Machine (Act (List ℕ))) → IsSteady octets framed
     → line_turn meanings machine framed ≡ Some turn → line_turn meanings machine (next_line (octets ++ more)) ≡ Some (followed_by more turn)
 line_stays meanings machine octets more waiting turn steady is = cc
-line_stays meanings machine octets more (whole line rest) turn steady is = ap (line_turn meanings machine) (steady.1 more) ∙ ap (λ t. Some (followed_by more t)) (unsome is)
-line_stays meanings machine octets more (too_long rest) turn steady is = ap (line_turn meanings machine) (steady.1 more) ∙ ap (λ t. Some (followed_by more t)) (unsome is)
+line_stays meanings machine octets more (whole line rest) turn steady is = ap (line_turn meanings machine) (steady.1 more) ∙ ap (λ t. Some (followed_by more t)) (same_Some _ _ is)
+line_stays meanings machine octets more (too_long rest) turn steady is = ap (line_turn meanings machine) (steady.1 more) ∙ ap (λ t. Some (followed_by more t)) (same_Some _ _ is)
 
 -- data take an octet at least
 data_shorter : (meanings : Meanings) (machine : Machine) (client : Client) (envelope : Envelope) (octets : List ℕ) (turn : Turn Machine (Act (List ℕ))) (found : Option Cut) → data_cut octets ≡ found
     → option_map (data_turn meanings machine client envelope) found ≡ Some turn → length turn.rest < length octets
 data_shorter meanings machine client envelope octets turn None at is = cc
 data_shorter meanings machine client envelope octets turn (Some cut) at is =
-    let same : cut.rest ≡ turn.rest = ap (λ (t : Turn Machine (Act (List ℕ))). t.rest) (unsome is) in
+    let same : cut.rest ≡ turn.rest = ap (λ (t : Turn Machine (Act (List ℕ))). t.rest) (same_Some _ _ is) in
     rw (← same) (data_cut-shorter octets cut at)
 
 -- more octets stay behind data
@@ -82,7 +78,7 @@ data_stays : (meanings : Meanings) (machine : Machine) (client : Client) (envelo
     → option_map (data_turn meanings machine client envelope) (data_cut (octets ++ more)) ≡ Some (followed_by more turn)
 data_stays meanings machine client envelope octets more turn None at is = cc
 data_stays meanings machine client envelope octets more turn (Some cut) at is =
-    ap (option_map (data_turn meanings machine client envelope)) (data_cut-stays octets more cut at) ∙ ap (λ t. Some (followed_by more t)) (unsome is)
+    ap (option_map (data_turn meanings machine client envelope)) (data_cut-stays octets more cut at) ∙ ap (λ t. Some (followed_by more t)) (same_Some _ _ is)
 
 shorter_in : (meanings : Meanings) (state : State) (machine : Machine) (octets : List ℕ) (turn : Turn Machine (Act (List ℕ))) → turn_in meanings state machine octets ≡ Some turn
     → length turn.rest < length octets
@@ -295,21 +291,6 @@ step_named : (meanings : Meanings) (state : State) (store : StoreState) (verb : 
     → IsNamedBehind store (step meanings state store verb argument).changes
 step_named meanings state store verb argument = named_as store _ (step-changes meanings state store verb argument)
 
--- no domain comes with what waits
-queue_domains : (kept : Kept) (none : Bool) (path : List ℕ) (addresses : List (List ℕ)) (octets : List ℕ)
-    → (after_all kept (cond none [] (records.Queue path addresses octets ∷ []))).domains ≡ kept.domains
-queue_domains kept true path addresses octets = refl
-queue_domains kept false path addresses octets = refl
-
-queued_domains : (kept : Kept) (delivery : Delivery) → (after_all kept (queued delivery)).domains ≡ kept.domains
-queued_domains kept delivery = queue_domains kept _ _ _ _
-
-delivered_domains : (kept : Kept) (delivery : Delivery) → (after_all kept (delivered kept delivery)).domains ≡ kept.domains
-delivered_domains kept delivery =
-    let copies = map (copy_for delivery.date delivery.local_octets) (inboxes_of kept delivery.local) in
-    ap (λ (k : Kept). k.domains) (after_all-append kept copies (queued delivery)) ∙ queued_domains (after_all kept copies) delivery
-    ∙ ap (λ (k : Kept). k.domains) (after-copies kept delivery.date delivery.local_octets (inboxes_of kept delivery.local))
-
 delivered_named : (store : StoreState) (delivery : Delivery) → IsName (name_of store.kept) → IsNamedBehind store (delivered store.kept delivery ∷ [])
 delivered_named store delivery named =
     let records = delivered store.kept delivery in
@@ -336,32 +317,29 @@ begins_fit_by meanings are moments desk opens = record {
 abbrev IsFitFor : Meanings → Turn Machine (Act (List ℕ)) → Type 0
 IsFitFor meanings turn = IsFitTurn smtp_protocol meanings turn
 
-no_turn : {turn : Turn Machine (Act (List ℕ))} → None ≡ Some turn → ⊥
-no_turn h = cc
-
 line_fits : (meanings : Meanings) (machine : Machine) (framed : Framed) (turn : Turn Machine (Act (List ℕ))) → IsName (name_of machine.store.kept) → line_turn meanings machine framed ≡ Some turn
     → IsFitFor meanings turn
-line_fits meanings machine waiting turn named is = absurd (no_turn is)
+line_fits meanings machine waiting turn named is = absurd (none-some _ is)
 line_fits meanings machine (whole text rest) turn named is =
     let command = command_of text in
     let taken = step meanings machine.state machine.store command.verb command.argument in
-    subst (IsFitFor meanings) (unsome is)
+    subst (IsFitFor meanings) (same_Some _ _ is)
     (record {
       fit = fit_acts IsFit taken.changes taken.reply (step_fit meanings machine.state machine.store command.verb command.argument named);
       sound = step_named meanings machine.state machine.store command.verb command.argument named;
     })
 line_fits meanings machine (too_long rest) turn named is =
-    subst (IsFitFor meanings) (unsome is) (record { fit = fit_acts IsFit [] line_too_long (refl, tt); sound = named })
+    subst (IsFitFor meanings) (same_Some _ _ is) (record { fit = fit_acts IsFit [] line_too_long (refl, tt); sound = named })
 
 data_fit : (meanings : Meanings) (machine : Machine) (client : Client) (envelope : Envelope) (found : Option Cut) (turn : Turn Machine (Act (List ℕ))) → IsName (name_of machine.store.kept)
     → option_map (data_turn meanings machine client envelope) found ≡ Some turn → IsFitFor meanings turn
-data_fit meanings machine client envelope None turn named is = absurd (no_turn is)
+data_fit meanings machine client envelope None turn named is = absurd (none-some _ is)
 data_fit meanings machine client envelope (Some cut) turn named is =
     let octets = unstuffed cut.line in
     let moment = next_moment machine.moments in
     let delivery = delivery_of machine.store client envelope moment octets in
     let taken = end_data meanings machine.store client envelope moment octets in
-    subst (IsFitFor meanings) (unsome is)
+    subst (IsFitFor meanings) (same_Some _ _ is)
     (record {
       fit = fit_acts IsFit taken.changes taken.reply (end_by_fit (meanings.has_tree octets) machine.store client delivery);
       sound = end_by_named (meanings.has_tree octets) machine.store client delivery named;
@@ -373,7 +351,7 @@ fits_in meanings fresh machine octets turn named is = line_fits meanings machine
 fits_in meanings (greeted client) machine octets turn named is = line_fits meanings machine (next_line octets) turn named is
 fits_in meanings (mail client envelope) machine octets turn named is = line_fits meanings machine (next_line octets) turn named is
 fits_in meanings (collecting client envelope) machine octets turn named is = data_fit meanings machine client envelope (data_cut octets) turn named is
-fits_in meanings ended machine octets turn named is = absurd (no_turn is)
+fits_in meanings ended machine octets turn named is = absurd (none-some _ is)
 
 pub fits_by : (meanings : Meanings) → AreMeanings meanings → (machine : Machine) (octets : List ℕ) (turn : Turn Machine (Act (List ℕ))) → IsName (name_of machine.store.kept)
     → next_turn meanings machine octets ≡ Some turn → IsFitTurn smtp_protocol meanings turn

@@ -1,8 +1,7 @@
 -- What is served of a message.
 use Rattle.std.proofs.Common.{◌≡◌, ℕ, List, [], sym, ◌∙◌, inl, inr}
 use Rattle.surrogate_rope.specs.Layout.{HasSurrogate}
-use Rattle.surrogate_cache.specs.Served.{Mode, legacy, enabled, IsServed, GivesSurrogates, Meanings, AreMeanings, served_by}
-use Rattle.address_lists.proofs.PathPiecesLemmas.{paths_read}
+use Rattle.surrogate_cache.specs.Served.{Mode, legacy, enabled, IsServed, GivesSurrogates, served_by}
 use Rattle.mime_tree.proofs.DecidingTrees.{decide_tree}
 use Rattle.surrogate_rope.proofs.AllSurrogates.{some_surrogate}
 use Rattle.surrogate_rope.proofs.SurrogateBlocks.{one_surrogate}
@@ -20,11 +19,8 @@ surrogate_of msg = elim (decide_tree msg) [
       (made.0, λ other is. one_surrogate msg other made.0 is made.1)
 ]
 
-pub meanings_given : (meanings : Meanings) × AreMeanings meanings
-meanings_given = (
-  record { surrogate = λ msg. (surrogate_of msg).0; path_of = paths_read.0 },
-  record { surrogates = λ msg. (surrogate_of msg).1; paths = paths_read.1 },
-)
+pub surrogates_given : (surrogate : List ℕ → List ℕ) × GivesSurrogates surrogate
+surrogates_given = (λ msg. (surrogate_of msg).0, λ msg. (surrogate_of msg).1)
 
 -- what is served is what a function that gives surrogates makes of it
 pub IsServed-by : (surrogate : List ℕ → List ℕ) → GivesSurrogates surrogate → (mode : Mode) (msg shown : List ℕ) → IsServed mode msg shown → shown ≡ served_by surrogate mode msg

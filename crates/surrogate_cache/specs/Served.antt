@@ -1,7 +1,5 @@
 -- The two modes of a session, and what is served in them (RFC 6855 and 6856; RFC 6857 for surrogates).
-use Rattle.std.specs.Prelude.{◌≡◌, ℕ, List, Bool, true, false, Option}
-use Rattle.address_grammar.specs.declared.Address.{Address}
-use Rattle.address_grammar.specs.Paths.{ReadsPaths}
+use Rattle.std.specs.Prelude.{◌≡◌, ℕ, List, Bool, true, false}
 use Rattle.surrogate_rope.specs.Layout.{HasSurrogate, HasAsciiBlocks}
 use Rattle.surrogate_rope.specs.declared.shown.Shown.{Shown}
 use Rattle.surrogate_rope.specs.declared.shown.Shown.TheVariants.{Whole, Rope}
@@ -41,19 +39,3 @@ GivesSurrogates surrogate = (msg made : List ℕ) → HasSurrogate msg made → 
 abbrev pub served_by : (List ℕ → List ℕ) → Mode → List ℕ → List ℕ
 served_by surrogate legacy msg = surrogate msg
 served_by surrogate enabled msg = msg
-
--- ---- what sessions take from other definitions
-
--- the surrogate of a message, and what a text says that may be a path
-pub record Meanings : Type 0 where
-  pub surrogate : List ℕ → List ℕ
-  pub path_of : List ℕ → Option (Option Address)
-
--- they give surrogates and read paths
-pub record AreMeanings (meanings : Meanings) : Type 0 where
-  pub surrogates : GivesSurrogates meanings.surrogate
-  pub paths : ReadsPaths meanings.path_of
-
--- whatever functions give surrogates and read paths
-abbrev pub WithMeanings : (Meanings → Type 0) → Type 0
-WithMeanings P = (meanings : Meanings) → AreMeanings meanings → P meanings

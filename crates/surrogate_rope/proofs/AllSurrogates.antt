@@ -3,12 +3,11 @@ use Rattle.std.proofs.Common.{◌≡◌, ◌↔◌, ◌⊎◌, inl, inr, IsTrue,
 use Rattle.std.proofs.lemmas.Bool.{cases_Bool}
 use Rattle.std.proofs.lemmas.List.Elements.{All-head, All-tail}
 use Rattle.std.specs.List.{All, AllZip, concat}
-use Rattle.std.specs.Prelude.{codes, ◌+◌, ◌≤◌}
+use Rattle.std.specs.Prelude.{codes, ◌+◌}
 use Rattle.mail_wire.specs.Octets.{is_white, same_name}
 use Rattle.mail_wire.specs.Folds.{unfolded}
 use Rattle.utf8_fields.specs.declared.block.Field.{Field}
 use Rattle.utf8_fields.specs.Block.{raw_of}
-use Rattle.utf8_fields.specs.Parts.{IsField}
 use Rattle.utf8_fields.proofs.TrimLemmas.{trimmed}
 use Rattle.param_grammar.specs.declared.ParamKind.TheVariants.{Content}
 use Rattle.param_2231.proofs.DecideParams.{decide_params}
@@ -21,6 +20,7 @@ use Rattle.mime_tree.specs.Rewriting.{RewritesBlocks}
 use Rattle.mime_tree.specs.Tree.{HasTree, raws_of}
 use Rattle.mime_tree.proofs.TreeFields.{HasFieldsWithin, tree_fields}
 use Rattle.mime_tree.proofs.KeptTrees.{trees_are_kept}
+use Rattle.mime_tree.proofs.FieldsWithin.{IsFieldWithin}
 use Rattle.field_downgrade.specs.Message.{IsServed}
 use Rattle.field_downgrade.specs.Stands.{HasFieldLayout}
 use Rattle.field_downgrade.proofs.AllLayouts.{IsServed-some}
@@ -30,16 +30,12 @@ use Rattle.surrogate_rope.proofs.ServedLines.{served_keeps_trees}
 use Rattle.surrogate_rope.proofs.Weaker.{rewrites_weaker, same_weaker}
 use Rattle.surrogate_rope.proofs.BuiltRopes.{served_layout, served_stands}
 
--- the field stands in the octets
-abbrev IsWithin : List ℕ → Field → Type 0
-IsWithin octets field = (field.raw.at + field.raw.len ≤ length octets) × IsField (raw_of octets field)
-
 -- Of fields there is a first value of a name, or none has the name.
 first_some : (msg name : List ℕ) (fields : List Field) → AreFieldsWithin msg fields → (value : Option (List ℕ)) × IsFirstValue name (map (raw_of msg) fields) value
 first_some msg name [] are = (None, refl)
 first_some msg name (field ∷ fields) are =
-    let is = (All-head (IsWithin msg) field fields are).1 in
-    let later = first_some msg name fields (All-tail (IsWithin msg) field fields are) in
+    let is = (All-head (IsFieldWithin msg) field fields are).1 in
+    let later = first_some msg name fields (All-tail (IsFieldWithin msg) field fields are) in
     let text = trimmed is_white (unfolded is.parts.body) in
     elim (cases_Bool (same_name is.parts.name name)) [
       | inl same ↦ (
@@ -88,8 +84,8 @@ fields_some : (msg : List ℕ) (entity : Entity) → Decided msg entity → (fie
     → (mades : List (List ℕ)) × AllZip (InEntity IsServed msg entity) (map (raw_of msg) fields) mades
 fields_some msg entity decided [] are = ([], tt)
 fields_some msg entity decided (field ∷ fields) are =
-    let first = IsServed-some decided.open_global (raw_of msg field) (All-head (IsWithin msg) field fields are).1 in
-    let more = fields_some msg entity decided fields (All-tail (IsWithin msg) field fields are) in
+    let first = IsServed-some decided.open_global (raw_of msg field) (All-head (IsFieldWithin msg) field fields are).1 in
+    let more = fields_some msg entity decided fields (All-tail (IsFieldWithin msg) field fields are) in
     (first.0 ∷ more.0, (record { open_global = decided.open_global; is_open = decided.is_open; holds = first.1 }, more.1))
 
 -- so the blocks can be written anew

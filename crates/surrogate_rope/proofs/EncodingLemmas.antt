@@ -1,11 +1,7 @@
 -- What a text says of an encoding tells whether it keeps the octets.
 use Rattle.std.proofs.Common.{◌≡◌, ℕ, true, ◌||◌, inl, inr, List, [], ◌∷◌, ◌++◌, map, codes, refl, sym, ap, ◌∙◌, arith}
-use Rattle.std.proofs.lemmas.Bool.{and_parts, and_from, or_cases}
-use Rattle.std.proofs.lemmas.Bool.Decides.{nat_tests}
+use Rattle.std.proofs.lemmas.Bool.{or_cases}
 use Rattle.std.proofs.lemmas.List.{append-nil}
-use Rattle.std.proofs.lemmas.Slice.Eq.{bytes_eq-Decides}
-use Rattle.std.specs.Char.{to_ascii_lowercase}
-use Rattle.std.specs.Str.{str_to_ascii_lowercase}
 use Rattle.std.specs.List.{AllByRecursion, flat_map, join_with_byte, list_all}
 use Rattle.mail_wire.specs.Octets.{is_ascii, same_name}
 use Rattle.field_tokens.specs.declared.Style.TheVariants.{Mime}
@@ -17,6 +13,7 @@ use Rattle.field_tokens.proofs.SqueezedValues.{IsRunOfTokens, runs_of-run, words
 use Rattle.field_tokens.proofs.TokenLines.{comments_are_writable}
 use Rattle.field_tokens.proofs.CommentValues.{CommentsSay-some}
 use Rattle.field_downgrade.specs.PlainTexts.{SaysPlain}
+use Rattle.field_downgrade.proofs.ReceivedAgain.{name_ascii}
 use Rattle.mime_tree.specs.Openings.{is_identity_name, KeepsOctets}
 
 -- no run has no words
@@ -66,22 +63,6 @@ named_keeps text said comments says named =
 -- texts that say the same keep the octets alike
 pub said_alike : (text other said : List ℕ) (comments : List CommentValue) → SaysPlain true text said comments → SaysPlain true other said comments → KeepsOctets text → KeepsOctets other
 said_alike text other said comments says others keeps = named_keeps other said comments others (keeps_named text said comments keeps says)
-
--- the names of these encodings are ASCII
-ascii_upper : (x : ℕ) → is_ascii (to_ascii_lowercase x) ≡ true → is_ascii x ≡ true
-ascii_upper x h = grind (arith, nat_tests)
-
-ascii_lower : (word : List ℕ) → list_all is_ascii (str_to_ascii_lowercase word) ≡ true → list_all is_ascii word ≡ true
-ascii_lower [] h = refl
-ascii_lower (x ∷ word) h =
-    let parts = and_parts (is_ascii (to_ascii_lowercase x)) (list_all is_ascii (str_to_ascii_lowercase word)) h in
-    and_from (is_ascii x) (list_all is_ascii word) (ascii_upper x parts.0) (ascii_lower word parts.1)
-
-name_ascii : (word name : List ℕ) → list_all is_ascii (str_to_ascii_lowercase name) ≡ true → same_name word name ≡ true → list_all is_ascii word ≡ true
-unfolding same_name
-name_ascii word name ascii e =
-    let same : str_to_ascii_lowercase word ≡ str_to_ascii_lowercase name = (bytes_eq-Decides (str_to_ascii_lowercase word) (str_to_ascii_lowercase name)).0 e in
-    ascii_lower word (ap (list_all is_ascii) same ∙ ascii)
 
 identity_ascii : (name : List ℕ) → is_identity_name name ≡ true → list_all is_ascii name ≡ true
 identity_ascii name is = elim (or_cases (same_name name (codes "7bit") || same_name name (codes "8bit")) (same_name name (codes "binary")) is) [

@@ -1,26 +1,15 @@
 -- Names of the fields that tell how an entity is opened, and the names that stand for others.
-use Rattle.std.proofs.Common.{◌≡◌, ℕ, Bool, true, false, ◌||◌, ◌⊎◌, inl, inr, List, ◌++◌, Some, None, codes, refl, sym, ◌∙◌, subst}
-use Rattle.std.proofs.lemmas.Bool.{cases_Bool}
-use Rattle.std.proofs.lemmas.Slice.Eq.{bytes_eq-Decides}
-use Rattle.std.specs.Str.{str_to_ascii_lowercase}
+use Rattle.std.proofs.Common.{◌≡◌, ℕ, true, false, ◌⊎◌, inl, inr, List, ◌++◌, Some, None, codes, refl, sym, ◌∙◌, subst}
+use Rattle.std.proofs.lemmas.Bool.{cases_Bool, or_parts}
 use Rattle.mail_wire.specs.Octets.{same_name}
 use Rattle.field_tokens.specs.Comments.{CommentValue}
 use Rattle.param_grammar.specs.declared.ParamKind.TheVariants.{Content}
 use Rattle.param_grammar.specs.Joining.{ParamValue}
 use Rattle.utf8_fields.specs.Parts.{FieldParts}
 use Rattle.field_downgrade.specs.declared.kind.Kind.TheVariants.{Params, Plain}
-use Rattle.field_downgrade.specs.Kinds.{kind_named, is_address_name, is_originator_name, is_destination_name, is_resent_originator_name, is_resent_destination_name, is_id_name, is_plain_name}
+use Rattle.field_downgrade.specs.Kinds.{kind_named}
 use Rattle.field_downgrade.specs.Stands.{Meaning, Parameters, PlainText, PathTo, TypedAddress, Means, SaysAs, IsKeptAside, ByHyphen, ByIdentifiers, ByNullPath, ByPath, ByType, ByMalformed, is_encoding_name, keeps_name}
 use Rattle.field_downgrade.proofs.StructuredFields.{KeptKind, KeptType, KeptEncoding, kept_kind, kept_structured, structured_no_hyphen}
-
--- the kinds of the two names
-pub type_kind : (name : List ℕ) → same_name name (codes "Content-Type") ≡ true → kind_named name ≡ Params Content
-unfolding kind_named is_address_name is_originator_name is_destination_name is_resent_originator_name is_resent_destination_name is_id_name is_plain_name same_name
-type_kind name is = let e : str_to_ascii_lowercase name ≡ codes "content-type" = (bytes_eq-Decides (str_to_ascii_lowercase name) (codes "content-type")).0 is in rw e refl
-
-pub encoding_kind : (name : List ℕ) → is_encoding_name name ≡ true → kind_named name ≡ Plain
-unfolding is_encoding_name kind_named is_address_name is_originator_name is_destination_name is_resent_originator_name is_resent_destination_name is_id_name is_plain_name same_name
-encoding_kind name is = let e : str_to_ascii_lowercase name ≡ codes "content-transfer-encoding" = (bytes_eq-Decides (str_to_ascii_lowercase name) (codes "content-transfer-encoding")).0 is in rw e refl
 
 pub is_encoding : (name : List ℕ) → same_name name (codes "Content-Transfer-Encoding") ≡ true → is_encoding_name name ≡ true
 unfolding is_encoding_name
@@ -71,13 +60,9 @@ aside_other f (ByMalformed malformed other) keeps = let no : false ≡ true = sy
 abbrev pub IsOpening : List ℕ → Type 0
 IsOpening name = (name ≡ codes "Content-Type") ⊎ (name ≡ codes "Content-Transfer-Encoding")
 
-both_false : (a b : Bool) → (a || b) ≡ false → (a ≡ false) × (b ≡ false)
-both_false true b e = cc e
-both_false false b e = (refl, e)
-
 other_names : (name : List ℕ) → keeps_name name ≡ false → (same_name name (codes "Content-Type") ≡ false) × (same_name name (codes "Content-Transfer-Encoding") ≡ false)
 unfolding keeps_name is_encoding_name
-other_names name e = both_false (same_name name (codes "Content-Type")) (same_name name (codes "Content-Transfer-Encoding")) e
+other_names name e = or_parts (same_name name (codes "Content-Type")) (same_name name (codes "Content-Transfer-Encoding")) e
 
 pub aside_differs : (f : FieldParts) (name : List ℕ) → IsOpening name → IsKeptAside f → same_name f.name name ≡ false
 aside_differs f name is aside = elim (cases_Bool (keeps_name f.name)) [

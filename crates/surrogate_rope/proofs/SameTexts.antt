@@ -15,10 +15,11 @@ use Rattle.field_downgrade.specs.Kinds.{kind_named}
 use Rattle.field_downgrade.specs.PlainTexts.{SaysPlain}
 use Rattle.field_downgrade.specs.Stands.{Meaning, Parameters, PlainText, Means, SaysAs, StandsForMeaning, IsMalformed, IsSameMeaning, is_encoding_name}
 use Rattle.field_downgrade.proofs.OneMeaning.{HasValue-once}
+use Rattle.field_downgrade.proofs.StructuredFields.{type_is_params, encoding_is_plain}
 use Rattle.mime_tree.specs.declared.openings.Opening.{Opening}
 use Rattle.mime_tree.specs.Openings.{opening_said, OpensByText, KeepsOctets}
 use Rattle.surrogate_rope.proofs.EncodingLemmas.{said_alike, keeps_says}
-use Rattle.surrogate_rope.proofs.NameLemmas.{type_kind, encoding_kind, is_encoding}
+use Rattle.surrogate_rope.proofs.NameLemmas.{is_encoding}
 use Rattle.surrogate_rope.proofs.FieldPairs.{Keeps, KeepsParts, KeepsMeaning, KeepsFault}
 
 -- what the value of a field of this kind says
@@ -96,9 +97,9 @@ type_alike open_global f g text made opening is has made_has (KeepsParts e) open
     let same : text ≡ made = HasValue-once f.body text made has (subst (λ (p : FieldParts). HasValue p.body made) e made_has) in
     subst (λ v. OpensByText v opening) same opens
 type_alike open_global f g text made opening is has made_has (KeepsMeaning same) opens =
-    said_opens open_global text made opening (say_types open_global f g text made (type_kind f.name is) has made_has same) opens
+    said_opens open_global text made opening (say_types open_global f g text made (type_is_params f.name is) has made_has same) opens
 type_alike open_global f g text made opening is has made_has (KeepsFault kept) opens =
-    fault_opens f g text made opening (type_kind f.name is) kept.name has made_has kept.malformed kept.still_malformed opens
+    fault_opens f g text made opening (type_is_params f.name is) kept.name has made_has kept.malformed kept.still_malformed opens
 
 -- ---- encodings
 
@@ -118,7 +119,7 @@ plain_as text said other comments more e says =
 say_encodings : (open_global : Bool) (f g : FieldParts) (text made : List ℕ) → is_encoding_name f.name ≡ true → HasValue f.body text → HasValue g.body made → IsSameMeaning open_global f g
     → SayEncodings text made
 say_encodings open_global f g text made is has made_has same =
-    let kind : kind_named f.name ≡ Plain = encoding_kind f.name is in
+    let kind : kind_named f.name ≡ Plain = encoding_is_plain f.name is in
     let made_is : is_encoding_name g.name ≡ true = ap is_encoding_name same.name ∙ is in
     let says : SaysAs Plain f.name text same.meaning = said_as Plain f text same.meaning kind has same.means in
     let made_says : SaysAs Plain g.name made same.made_meaning = said_as Plain g made same.made_meaning (ap kind_named same.name ∙ kind) made_has same.made_means in
@@ -138,7 +139,7 @@ malformed_changes f text is has malformed keeps =
     malformed (PlainText s.0 s.1) (record {
       value = text;
       has_value = has;
-      says = subst (λ k. SaysAs k f.name text (PlainText s.0 s.1)) (sym (encoding_kind f.name is)) (s.0, s.1, refl, subst (λ b. SaysPlain b text s.0 s.1) (sym is) s.2);
+      says = subst (λ k. SaysAs k f.name text (PlainText s.0 s.1)) (sym (encoding_is_plain f.name is)) (s.0, s.1, refl, subst (λ b. SaysPlain b text s.0 s.1) (sym is) s.2);
     })
 
 pub encoding_alike : (open_global : Bool) (f g : FieldParts) (text made : List ℕ) → same_name f.name (codes "Content-Transfer-Encoding") ≡ true → HasValue f.body text → HasValue g.body made

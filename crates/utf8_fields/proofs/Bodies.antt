@@ -1,7 +1,7 @@
 -- The body of a field, from its lines.
-use Rattle.std.proofs.Common.{◌≡◌, ℕ, Bool, true, false, ◌⊎◌, inl, inr, List, [], ◌∷◌, ◌++◌, refl, ◌∙◌, not, append_assoc, append-nil}
+use Rattle.std.proofs.Common.{◌≡◌, ℕ, true, false, ◌⊎◌, inl, inr, List, [], ◌∷◌, ◌++◌, refl, ◌∙◌, append_assoc, append-nil}
 use Rattle.std.specs.List.{All, list_all, concat}
-use Rattle.std.proofs.lemmas.Bool.{and_parts}
+use Rattle.std.proofs.lemmas.Bool.{and_parts, not-true}
 use Rattle.std.proofs.lemmas.List.Elements.{All-head, All-tail}
 use Rattle.mail_wire.specs.Octets.{is_white, is_line_end}
 use Rattle.mail_wire.specs.Lines.{crlf}
@@ -38,16 +38,12 @@ IsTextLine-drop x line after h is = by is.text is.whole is.plain
         let rest : line ≡ text ++ is.ending = cc e in
         record { text = text; ending = is.ending; whole = rest; plain = (and_parts (is_text y) (list_all is_text text) plain).1; ends = is.ends }
 
-not_true : (b : Bool) → not b ≡ true → b ≡ false
-not_true true h = cc h
-not_true false h = refl
-
 -- a line without a front of text
 pub IsTextLine-behind : (front line : List ℕ) (after : List (List ℕ)) → list_all is_text front ≡ true → IsTextLine (front ++ line) after → IsTextLine line after
 IsTextLine-behind [] line after all is = is
 IsTextLine-behind (x ∷ front) line after all is =
     let parts = and_parts (is_text x) (list_all is_text front) all in
-    IsTextLine-behind front line after parts.1 (IsTextLine-drop x (front ++ line) after (not_true (is_line_end x) parts.0) is)
+    IsTextLine-behind front line after parts.1 (IsTextLine-drop x (front ++ line) after (not-true (is_line_end x) parts.0) is)
 
 -- further lines, each behind its first octet, which is white
 pub body_of : (line : List ℕ) (more : List (List ℕ)) → IsTextLine line more → AreLines more → All IsSound more → All BeginsWhite more → HasBody (line ++ concat more)

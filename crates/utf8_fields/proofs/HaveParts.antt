@@ -27,13 +27,13 @@ use Rattle.utf8_fields.proofs.Raws.{raw_of-lines, slice_range-behind}
 use Rattle.utf8_fields.proofs.LineShapes.{AreLines, AreLines-front, AreLines-back, AreLines-lines_of, is_text, IsTextLine, IsTextLine-sound}
 use Rattle.utf8_fields.proofs.Bodies.{HasBody, IsTextLine-drop, IsTextLine-behind, body_of}
 
-white_is_text : (x : ℕ) → is_white x ≡ true → is_text x ≡ true
+pub white_is_text : (x : ℕ) → is_white x ≡ true → is_text x ≡ true
 white_is_text x h = grind (arith, nat_tests)
 
-name_is_text : (x : ℕ) → is_name_octet x ≡ true → is_text x ≡ true
+pub name_is_text : (x : ℕ) → is_name_octet x ≡ true → is_text x ≡ true
 name_is_text x h = grind (arith, nat_tests)
 
-name_octet_below : (x : ℕ) → is_name_octet x ≡ true → x < 128
+pub name_octet_below : (x : ℕ) → is_name_octet x ≡ true → x < 128
 name_octet_below x h = grind (arith, nat_tests)
 
 all_ascii : (p : ℕ → Bool) → ((x : ℕ) → p x ≡ true → x < 128) → (xs : List ℕ) → list_all p xs ≡ true → IsAscii xs

@@ -39,7 +39,7 @@ pub AreLines-back : (xs ys : List (List ℕ)) → AreLines (xs ++ ys) → AreLin
 AreLines-back [] ys are = are
 AreLines-back (line ∷ xs) ys are = AreLines-back xs ys are.1
 
-before_once : (x y : ℕ) (more : List ℕ) → is_crlf x y ≡ false → EndsOnce (y ∷ more) → EndsOnce (x ∷ y ∷ more)
+pub before_once : (x y : ℕ) (more : List ℕ) → is_crlf x y ≡ false → EndsOnce (y ∷ more) → EndsOnce (x ∷ y ∷ more)
 before_once x y [] other once = absurd once
 before_once x y (z ∷ more) other once = (other, once)
 

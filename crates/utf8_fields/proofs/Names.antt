@@ -10,7 +10,7 @@ use Rattle.mail_wire.proofs.SpanLemmas.{Opposite, span_once}
 use Rattle.utf8_fields.specs.Lines.{is_name_octet, BeginsField, BeginsWhite}
 use Rattle.utf8_fields.specs.private.Steps.{BeginsColon}
 
-not_not : (b : Bool) → b ≡ not (not b)
+pub not_not : (b : Bool) → b ≡ not (not b)
 not_not true = refl
 not_not false = refl
 

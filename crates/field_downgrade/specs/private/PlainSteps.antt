@@ -1,20 +1,11 @@
 -- What the steps of the code do with plain texts.
-use Rattle.std.specs.Prelude.{◌≡◌, ℕ, Bool, true, false, not, List, [], ◌∷◌, filter}
+use Rattle.std.specs.Prelude.{◌≡◌, ℕ, not, List, [], ◌∷◌, filter}
 use Rattle.field_tokens.specs.declared.Style.{Style}
 use Rattle.field_tokens.specs.declared.Token.{Token}
-use Rattle.field_tokens.specs.declared.TokenKind.{TokenKind}
-use Rattle.field_tokens.specs.declared.TokenKind.TheVariants.{Atom, Quoted, Literal, Special, Gap, Comment}
+use Rattle.field_tokens.specs.declared.TokenKind.TheVariants.{Atom}
 use Rattle.field_tokens.specs.Tokens.{TokenValue, HasTokenValues}
 use Rattle.field_tokens.specs.Squeezed.{is_blank, comments_of}
 use Rattle.field_tokens.specs.Comments.{CommentsPieces}
-
-abbrev pub is_atom : TokenKind → Bool
-is_atom Atom = true
-is_atom Quoted = false
-is_atom Literal = false
-is_atom Special = false
-is_atom Gap = false
-is_atom Comment = false
 
 -- one atom, with gaps and comments around it
 abbrev pub IsOneAtom : List Token → Type 0

@@ -1,6 +1,5 @@
 -- What the steps of the rewriting give.
 use Rattle.std.specs.Prelude.{◌≡◌, ℕ, Bool, true, false, if◌then◌else◌, List, [], ◌∷◌, ◌++◌}
-use Rattle.std.specs.Str.{str_to_ascii_lowercase}
 use Rattle.encoded_words.specs.Words.{Text}
 use Rattle.encoded_words.specs.private.Values.{value_of}
 use Rattle.field_tokens.specs.declared.Style.TheVariants.{Mime}
@@ -13,7 +12,8 @@ use Rattle.param_grammar.specs.declared.Piece.{Piece}
 use Rattle.param_grammar.specs.declared.role.Role.{Role}
 use Rattle.param_grammar.specs.declared.role.Role.TheVariants.{GoesOn, Begins}
 use Rattle.param_grammar.specs.Bodies.{solid, IsBody}
-use Rattle.param_2231.specs.Layout.{GivesWhere}
+use Rattle.param_grammar.specs.Joining.{ParamValue, AreParams, params_of}
+use Rattle.param_2231.specs.Layout.{GivesWhere, PiecesGive, with_semicolons, written_main}
 use Rattle.param_2231.specs.private.Parts.{IsWritableUnit}
 
 -- what a piece of this role gives
@@ -25,6 +25,23 @@ RoleGives piece (Begins unit is_ascii is_doubled) pieces = GivesWhere is_ascii f
 abbrev pub IsWritableRole : Role → Type 0
 IsWritableRole (GoesOn is_ascii) = IsWritableUnit (Text [])
 IsWritableRole (Begins unit is_ascii is_doubled) = IsWritableUnit (value_of unit)
+
+-- these are a main part and what pieces give, with semicolons
+abbrev pub GiveBody : List Piece → List ℕ → List (List ℕ) → Type 0
+GiveBody pieces main made = (given : List (List ℕ)) × PiecesGive pieces (params_of pieces) [] pieces given × (made ≡ with_semicolons (main ∷ given))
+
+-- The tokens of the text are a main part and parameters, and these are their pieces.
+pub record BodyPieces (kind : ParamKind) (open_global : Bool) (text : List ℕ) (tokens : List Token) (made : List (List ℕ)) : Type 0 where
+  pub main : List ℕ
+  pub pieces : List Piece
+  pub is_body : IsBody kind text tokens main pieces
+  pub params : List ParamValue
+  pub are_params : AreParams pieces params
+  pub give : GiveBody pieces (written_main open_global kind main (run_octets text (solid is_body.first))) made
+
+-- the tokens of the text are no main part and parameters
+abbrev pub AreNoBody : ParamKind → List ℕ → List Token → Type 0
+AreNoBody kind text tokens = (main : List ℕ) (pieces : List Piece) (params : List ParamValue) → IsBody kind text tokens main pieces → ¬ AreParams pieces params
 
 -- a piece, with a semicolon where it isn't the last one
 abbrev pub ended : Bool → List ℕ → List ℕ

@@ -1,5 +1,5 @@
 -- Pieces by their names.
-use Rattle.std.specs.Prelude.{◌≡◌, ℕ, Bool, if◌then◌else◌, List, [], map, filter, is_some, Some, None}
+use Rattle.std.specs.Prelude.{◌≡◌, ℕ, Bool, true, false, if◌then◌else◌, List, [], map, filter, is_some, Some, None}
 use Rattle.std.specs.Borrow.{Bor}
 use Rattle.std.specs.BTreeMap.{BTreeMap, get_by}
 use Rattle.std.specs.Cmp.Lexicographic.{slice_cmp}
@@ -30,6 +30,10 @@ are_ascii pieces = list_all (λ piece. list_all is_ascii piece.written) pieces
 abbrev pub pieces_at : BTreeMap (Bor (List ℕ)) (Vec (Bor Piece)) → List ℕ → List Piece
 pieces_at names name = option_map_or (λ here. pieces_in here.items) (get_by (λ key. slice_cmp nat_cmp name key.now) names) []
 
+-- these are the pieces of a name
+abbrev pub AreNamed : List Piece → List ℕ → List (Bor Piece) → Type 0
+AreNamed pieces name named = pieces_in named ≡ filter (is_named name) pieces
+
 -- the map has the pieces of each name
 abbrev pub AreByName : List Piece → BTreeMap (Bor (List ℕ)) (Vec (Bor Piece)) → Type 0
 AreByName pieces names = (name : List ℕ) → pieces_at names name ≡ filter (is_named name) pieces
@@ -38,3 +42,7 @@ AreByName pieces names = (name : List ℕ) → pieces_at names name ≡ filter (
 abbrev pub HasBegun : List Piece → List Piece → BTreeMap (Bor (List ℕ)) Bool → Type 0
 HasBegun pieces before begun = (name : List ℕ) → get_by (λ key. slice_cmp nat_cmp name key.now) begun
     ≡ (if list_any (is_part_of name) before then Some (are_ascii (parts_named name pieces)) else None)
+
+-- the piece is a part, and no part of its name stands before
+abbrev pub IsFirstPart : List Piece → Piece → Type 0
+IsFirstPart before piece = (is_numbered piece ≡ true) × (list_any (is_part_of piece.base) before ≡ false)

@@ -1,8 +1,9 @@
 use Rattle.std.proofs.lemmas.Result.{IfOk-weaker}
 use Rattle.address_grammar.specs.private.Views.{values_of}
 use Rattle.address_lists.proofs.WritableTokens.{text_can}
-use Rattle.address_lists.proofs.ListRewriting.{list_pieces, says_elements}
+use Rattle.address_lists.proofs.ListRewriting.{list_pieces}
 use Rattle.address_lists.proofs.rewriting.rewrite_list.Goals as goal
+use Rattle.address_lists.proofs.AddressListTexts.{addresses_of}
 
 pub write_places-requires : goal.write_places-requires
 write_places-requires c = rw c.deref.ensures.value (text_can c.args.text.now (values_of c.in_ok-lexemes.lexemes.items) c.in_ok-lexemes.ensures.ok)
@@ -13,4 +14,4 @@ returns-clause-layout c = IfOk-weaker c.write_places.result _ _
 
 pub returns-clause-malformed : goal.returns-clause-malformed
 returns-clause-malformed c = λ e elements comments says.
-    (rw c.deref.ensures.value at c.write_places.ensures.malformed) e elements (says_elements c.args.text.now (values_of c.in_ok-lexemes.lexemes.items) elements comments c.in_ok-lexemes.ensures.ok says)
+    (rw c.deref.ensures.value at c.write_places.ensures.malformed) e elements (addresses_of c.args.text.now (values_of c.in_ok-lexemes.lexemes.items) elements comments c.in_ok-lexemes.ensures.ok says)

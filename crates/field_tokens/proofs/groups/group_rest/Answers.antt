@@ -1,5 +1,6 @@
 use Rattle.std.proofs.Common.{◌≡◌, arith}
-use Rattle.field_tokens.proofs.Levels.{Step-none, Step-more, first_is}
+use Rattle.encoded_words.proofs.QText.{first_is}
+use Rattle.field_tokens.proofs.Levels.{Step-none, Step-more}
 use Rattle.field_tokens.proofs.GroupLemmas.{group_found, group_never}
 use Rattle.field_tokens.proofs.groups.group_rest.Goals as goal
 

@@ -1,6 +1,7 @@
 use Rattle.std.proofs.Common.{◌≡◌, suc, ◌+◌, ◌-◌, ◌≤◌, ap, ◌∙◌, ◌∷◌, arith, refl}
 use Rattle.std.proofs.Common.{sym}
-use Rattle.field_tokens.proofs.Levels.{NeverCloses-plain, NeverCloses-pair, Step-plain, Step-pair, Step-close, Step-open, Step-at, NeverCloses-deep, NeverCloses-at, first_is}
+use Rattle.encoded_words.proofs.QText.{first_is}
+use Rattle.field_tokens.proofs.Levels.{NeverCloses-plain, NeverCloses-pair, Step-plain, Step-pair, Step-close, Step-open, Step-at, NeverCloses-deep, NeverCloses-at}
 use Rattle.field_tokens.proofs.groups.group_step.Goals as goal
 
 pub returns-then-octet-eq92-clause-found : goal.returns-then-octet-eq92-clause-found

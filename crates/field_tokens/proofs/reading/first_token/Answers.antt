@@ -1,6 +1,6 @@
-use Rattle.field_tokens.proofs.Levels.{first_is}
 use Rattle.field_tokens.proofs.TokenLemmas.{comment_none, quoted_none, literal_none, literal_octet, special_found, no_class, class_none}
 use Rattle.std.proofs.Common.{sym}
+use Rattle.encoded_words.proofs.QText.{first_is}
 use Rattle.field_tokens.proofs.reading.first_token.Goals as goal
 
 pub returns-in_default-clause-none : goal.returns-in_default-clause-none

@@ -1,6 +1,6 @@
 use Rattle.std.proofs.Common.{◌∷◌, ap, ◌∙◌}
 use Rattle.encoded_words.specs.CommentUnits.{Plain, Pair}
-use Rattle.field_tokens.proofs.Levels.{first_is}
+use Rattle.encoded_words.proofs.QText.{first_is}
 use Rattle.field_tokens.proofs.trees.item_rest.Goals as goal
 
 pub returns-then-octet-eq92-clause-found : goal.returns-then-octet-eq92-clause-found

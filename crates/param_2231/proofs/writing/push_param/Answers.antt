@@ -1,8 +1,9 @@
 use Rattle.std.proofs.Common.{sym, ◌∙◌}
 use Rattle.std.proofs.lemmas.Result.{on_ok_weaker}
+use Rattle.std.proofs.lemmas.Bool.{or_parts}
 use Rattle.encoded_words.specs.private.Values.{value_of}
 use Rattle.param_2231.specs.Layout.{is_short}
-use Rattle.param_2231.proofs.ParamWriting.{no_whole, adds_whole}
+use Rattle.param_2231.proofs.ParamWriting.{adds_whole}
 use Rattle.param_2231.proofs.writing.push_param.Goals as goal
 
 pub returns-then-is_whole : goal.returns-then-is_whole
@@ -11,5 +12,5 @@ returns-then-is_whole c =
 
 pub returns : goal.returns
 returns c =
-    let parts = (no_whole c.args.whole (is_short (value_of c.args.unit.now)) (sym c.is_whole.ensures ∙ c.if-is_whole.false)).0 in
+    let parts = (or_parts c.args.whole (is_short (value_of c.args.unit.now)) (sym c.is_whole.ensures ∙ c.if-is_whole.false)).0 in
     rw (parts) c.push_parts.ensures

@@ -1,5 +1,6 @@
 use Rattle.std.proofs.Common.{sym, arith}
-use Rattle.param_grammar.proofs.EscapeLemmas.{first_is, second_is, BeginsEscaped-plain, BeginsEscaped-escape}
+use Rattle.encoded_words.proofs.QText.{first_is, second_is}
+use Rattle.param_grammar.proofs.EscapeLemmas.{BeginsEscaped-plain, BeginsEscaped-escape}
 use Rattle.param_grammar.proofs.escapes.first_octet.Goals as goal
 
 pub returns-in_default-first-clause-found : goal.returns-in_default-first-clause-found

@@ -1,6 +1,7 @@
 use Rattle.std.proofs.Common.{map}
 use Rattle.clap.specs.Words.{app_of}
-use Rattle.setup_command.proofs.WordLemmas.{not_so, account_some, account_refused}
+use Rattle.std.proofs.lemmas.Bool.{false≢true}
+use Rattle.setup_command.proofs.WordLemmas.{account_some, account_refused}
 use Rattle.setup_command.proofs.values.two_values.Goals as goal
 
 pub returns-in-Ok-clause-some : goal.returns-in-Ok-clause-some
@@ -16,4 +17,4 @@ returns-in-Ok-clause-none c =
 pub returns-else-is_want_of_memory-clause-none : goal.returns-else-is_want_of_memory-clause-none
 returns-else-is_want_of_memory-clause-none c =
     account_refused (app_of c.in_ok-command.command) (map (λ s. s.now) c.args.words.now) c.in-Err.error c.in_ok-command.ensures c.requires c.in-Err.ensures.kinds
-    (λ memory. not_so (c.if-is_want_of_memory.ensures.1 memory))
+    (λ memory. false≢true (c.if-is_want_of_memory.ensures.1 memory))

@@ -1,13 +1,11 @@
-use Rattle.std.proofs.Common.{◌≡◌, true, false, sym, subst, ◌∙◌}
+use Rattle.std.proofs.Common.{true, false, sym, subst, ◌∙◌}
 use Rattle.std.proofs.lemmas.Result.{err_from_is_err_and}
+use Rattle.std.proofs.lemmas.Bool.{true≢false}
 use Rattle.mail_store.specs.declared.parcels.Parcel.{Parcel}
 use Rattle.mail_store.specs.Changing.{IsRefusedAs, delivered, delivery_refusal}
 use Rattle.mail_store.proofs.AccountLemmas.{refused_as}
 use Rattle.mail_store.proofs.EntryLemmas.{changes-nothing, for-nobody, nobody-of}
 use Rattle.mail_store.proofs.storing.Store.deliver.Goals as goal
-
-true_false : true ≡ false → ⊥
-true_false e = cc
 
 pub returns-in_err-parcel-clause-refusal : goal.returns-in_err-parcel-clause-refusal
 returns-in_err-parcel-clause-refusal g c =
@@ -24,4 +22,4 @@ returns-clause-refusal g c = subst (IsRefusedAs c.put_delivery.result) (sym c.in
 
 pub returns-clause-nothing : goal.returns-clause-nothing
 returns-clause-nothing g c = λ none.
-    absurd (true_false (sym (nobody-of c.args.self.now.kept c.args.delivery.now none) ∙ sym c.is_for_nobody.ensures ∙ c.if-is_for_nobody.false))
+    absurd (true≢false (sym (nobody-of c.args.self.now.kept c.args.delivery.now none) ∙ sym c.is_for_nobody.ensures ∙ c.if-is_for_nobody.false))

@@ -1,23 +1,21 @@
 use Rattle.std.proofs.Common.{◌≡◌, ℕ, true, false, eqb, List, length, refl, sym, ap, ◌∙◌}
 use Rattle.std.proofs.lemmas.Result.{err_from_is_err_and}
 use Rattle.std.specs.List.{list_all}
+use Rattle.std.proofs.lemmas.Bool.{true≢false}
 use Rattle.mail_store.specs.Changing.{is_live, expunged}
 use Rattle.mail_store.specs.private.Store.{kept_of, state_of}
 use Rattle.mail_store.proofs.ChangeLemmas.{changes-unwritten, changes-written}
 use Rattle.mail_store.proofs.ExpungeLemmas.{all_within, AreRecords-expunged, none_expunged}
 use Rattle.mail_store.proofs.storing.Store.expunge.Goals as goal
 
-true_false : true ≡ false → ⊥
-true_false e = cc
-
 pub returns-in_err-text-clause-nothing : goal.returns-in_err-text-clause-nothing
-returns-in_err-text-clause-nothing g c = λ none. absurd (true_false (sym (c.is_empty.ensures ∙ ap (λ (l : List ℕ). eqb (length l) 0) (none_expunged c.args.ids.now none)) ∙ c.if-is_empty.false))
+returns-in_err-text-clause-nothing g c = λ none. absurd (true≢false (sym (c.is_empty.ensures ∙ ap (λ (l : List ℕ). eqb (length l) 0) (none_expunged c.args.ids.now none)) ∙ c.if-is_empty.false))
 
 pub returns-in_err-write-clause-nothing : goal.returns-in_err-write-clause-nothing
-returns-in_err-write-clause-nothing g c = λ none. absurd (true_false (sym (c.is_empty.ensures ∙ ap (λ (l : List ℕ). eqb (length l) 0) (none_expunged c.args.ids.now none)) ∙ c.if-is_empty.false))
+returns-in_err-write-clause-nothing g c = λ none. absurd (true≢false (sym (c.is_empty.ensures ∙ ap (λ (l : List ℕ). eqb (length l) 0) (none_expunged c.args.ids.now none)) ∙ c.if-is_empty.false))
 
 pub returns-clause-nothing : goal.returns-clause-nothing
-returns-clause-nothing g c = λ none. absurd (true_false (sym (c.is_empty.ensures ∙ ap (λ (l : List ℕ). eqb (length l) 0) (none_expunged c.args.ids.now none)) ∙ c.if-is_empty.false))
+returns-clause-nothing g c = λ none. absurd (true≢false (sym (c.is_empty.ensures ∙ ap (λ (l : List ℕ). eqb (length l) 0) (none_expunged c.args.ids.now none)) ∙ c.if-is_empty.false))
 
 pub returns-in_err-write-clause-changes : goal.returns-in_err-write-clause-changes
 returns-in_err-write-clause-changes g c =

@@ -2,9 +2,10 @@ use Rattle.std.proofs.Common.{subst}
 use Rattle.std.specs.Prelude.{IfSome}
 use Rattle.address_grammar.specs.declared.Address.{Address}
 use Rattle.std.proofs.Common.{◌<◌, Option, length, arith}
+use Rattle.std.proofs.lemmas.Bool.{false≢true}
 use Rattle.journal_records.specs.declared.records.Record.TheVariants as records
 use Rattle.journal_records.specs.Addresses.{IsTextOf}
-use Rattle.journal_records.proofs.AddressTexts.{false_true, address_missing}
+use Rattle.journal_records.proofs.AddressTexts.{address_missing}
 use Rattle.mail_store.specs.declared.limits.TheConstants.{THINGS_MAX}
 use Rattle.mail_store.specs.Records.{IsInOrder}
 use Rattle.mail_store.specs.private.Store.{kept_of}
@@ -12,7 +13,7 @@ use Rattle.mail_store.specs.StoreState.{StoreState}
 use Rattle.mail_store.proofs.storing.Store.recorded_key.Goals as goal
 
 pub returns-in_default : goal.returns-in_default
-returns-in_default c = λ h. false_true ((address_missing c.args.address.now c.in_ok-own.field-0 c.in_default.is c.in_ok-own.ensures.none).1 h.0)
+returns-in_default c = λ h. false≢true ((address_missing c.args.address.now c.in_ok-own.field-0 c.in_default.is c.in_ok-own.ensures.none).1 h.0)
 
 pub returns : goal.returns
 returns c =
