@@ -15,7 +15,7 @@ use Rattle.idna.specs.Uts46.{has_dns_lengths, verify_dns_length, to_ascii, passe
 use Rattle.idna.proofs.LabelsLemmas.{labels_of_cons, join_labels-labels_of, All-labels_of}
 use Rattle.idna.proofs.Uts46Lemmas.{to_ascii_by_length, to_ascii_idem, All-to_ascii, IsAscii-to_ascii, IsOutputByte}
 use Rattle.idna.proofs.ValidityLemmas.{denies-STD3}
-use Rattle.ace_domains.specs.Domains.{is_atom_octet, IsDomain, normal_form, is_name_octet, HasLabelLength, IsDnsName}
+use Rattle.ace_domains.specs.Domains.{is_atext, IsDomain, normal_form, is_host_octet, HasLabelLength, IsDnsName}
 
 passed : {A : Type 0} (test : A → Bool) (o : Option A) (y : A) → option_and_then (if_passes test) o ≡ Some y → test y ≡ true
 passed test (Some x) y e =
@@ -34,7 +34,7 @@ lengths_verified domain form e =
     otherwise (is_full_stop (slice_index form (length form - 1))) (has_dns_lengths form)
     (passed (passes_dns_length Verify) (to_ascii STD3 Check Ignore domain) form (sym (to_ascii_by_length STD3 Check Verify domain) ∙ e))
 
-name_octet : (c : ℕ) → IsOutputByte STD3 c → is_name_octet c ≡ true
+name_octet : (c : ℕ) → IsOutputByte STD3 c → is_host_octet c ≡ true
 name_octet c byte =
     let open_ = sym (denies-STD3 c) ∙ byte.allowed in
     let small = byte.ascii in
@@ -56,14 +56,14 @@ pub form_name : (domain form : List ℕ) → normal_form domain ≡ Some form �
 form_name domain form e =
     let verified = and_parts (nat_le (length form) 253) (list_all (λ label. is_in_range 1 63 (length label)) (labels_of form)) (lengths_verified domain form e) in
     record {
-      octets = list_all-from_AllPass is_name_octet form (All-weaker (IsOutputByte STD3) (λ c. is_name_octet c ≡ true) name_octet form (All-to_ascii STD3 Check Verify domain form e));
+      octets = list_all-from_AllPass is_host_octet form (All-weaker (IsOutputByte STD3) (λ c. is_host_octet c ≡ true) name_octet form (All-to_ascii STD3 Check Verify domain form e));
       labels =
           All-weaker (λ label. is_in_range 1 63 (length label) ≡ true) HasLabelLength label_length (labels_of form)
           (AllPass-from_list_all (λ label. is_in_range 1 63 (length label)) (labels_of form) verified.1);
       short = leb-true (length form) 253 verified.0;
     }
 
-atom_octet : (c : ℕ) → is_name_octet c ≡ true → is_full_stop c ≡ false → is_atom_octet c ≡ true
+atom_octet : (c : ℕ) → is_host_octet c ≡ true → is_full_stop c ≡ false → is_atext c ≡ true
 atom_octet c name other = grind (arith, nat_tests)
 
 -- the labels of a name of the DNS are atoms
@@ -71,12 +71,12 @@ pub domain_of_name : (name : List ℕ) → IsDnsName name → IsDomain name
 domain_of_name name is =
     let parts = labels_of_cons name in
     let octets =
-    All-labels_of (λ c. is_atom_octet c ≡ true) name
-    (All-weaker (λ c. is_name_octet c ≡ true) (λ c. is_full_stop c ≡ false → is_atom_octet c ≡ true) atom_octet name (AllPass-from_list_all is_name_octet name is.octets)) in
+    All-labels_of (λ c. is_atext c ≡ true) name
+    (All-weaker (λ c. is_host_octet c ≡ true) (λ c. is_full_stop c ≡ false → is_atext c ≡ true) atom_octet name (AllPass-from_list_all is_host_octet name is.octets)) in
     record {
       atoms = labels_of name;
       some = rw parts.2 (omega arith);
-      each = λ k d lt. record { some = (is.labels k d lt).some; octets = list_all-from_AllPass is_atom_octet _ (octets k d lt) };
+      each = λ k d lt. record { some = (is.labels k d lt).some; octets = list_all-from_AllPass is_atext _ (octets k d lt) };
       whole = sym (join_labels-labels_of name);
     }
 

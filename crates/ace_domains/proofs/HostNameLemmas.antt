@@ -16,7 +16,7 @@ use Rattle.idna.specs.Validity.{hyphen, is_valid_char, passes_hyphens}
 use Rattle.idna.proofs.LabelsLemmas.{HasNoFullStop, labels_of_cons, join_labels-labels_of, HasNoFullStop-labels_of}
 use Rattle.idna.proofs.Uts46Lemmas.{to_ascii_by_length, to_ascii-plain}
 use Rattle.idna.proofs.ValidityLemmas.{denies-may_be_denied, is_valid_char-ascii}
-use Rattle.ace_domains.specs.Domains.{normal_form, is_name_octet, HasLabelLength, IsDnsName, HasInnerHyphens, IsHostName}
+use Rattle.ace_domains.specs.Domains.{normal_form, is_host_octet, HasLabelLength, IsDnsName, HasInnerHyphens, IsHostName}
 
 at_last : (first others : List ℕ) → 0 < length others → get_or (first ++ full_stop ∷ others) (length (first ++ full_stop ∷ others) - 1) 0 ≡ get_or others (length others - 1) 0
 at_last first [] some = absurd (omega arith)
@@ -56,7 +56,7 @@ lengths_pass name is =
     (All-weaker HasLabelLength (λ label. is_in_range 1 63 (length label) ≡ true) in_range (labels_of name) is.labels) in
     rw (ends.last, le-leb (length name) 253 is.short, labels)
 
-valid_octet : (c : ℕ) → is_name_octet c ≡ true → (c < 128) × (is_valid_char STD3 c ≡ true)
+valid_octet : (c : ℕ) → is_host_octet c ≡ true → (c < 128) × (is_valid_char STD3 c ≡ true)
 valid_octet c name =
     let small : c < 128 = grind (arith, nat_tests) in
     (small, rw (is_valid_char-ascii STD3 c small, denies-may_be_denied STD3 c (grind (arith, nat_tests))) (grind (arith, nat_tests)))
@@ -80,7 +80,7 @@ hyphens_placed label is =
 pub host_name_own : (name : List ℕ) → IsHostName name → normal_form name ≡ Some name
 host_name_own name is =
     let plain : IsPlain STD3 Check name = record {
-      valid = All-weaker (λ c. is_name_octet c ≡ true) (λ c. (c < 128) × (is_valid_char STD3 c ≡ true)) valid_octet name (AllPass-from_list_all is_name_octet name is.name_of_dns.octets);
+      valid = All-weaker (λ c. is_host_octet c ≡ true) (λ c. (c < 128) × (is_valid_char STD3 c ≡ true)) valid_octet name (AllPass-from_list_all is_host_octet name is.name_of_dns.octets);
       placed = list_all-from_AllPass (passes_hyphens Check) (labels_of name) (All-weaker HasInnerHyphens (λ label. passes_hyphens Check label ≡ true) hyphens_placed (labels_of name) is.hyphens);
     } in
     to_ascii_by_length STD3 Check Verify name

@@ -12,13 +12,13 @@ use Rattle.idna.specs.Validity.{hyphen}
 -- ---- the grammar
 
 -- atext (RFC 5322, 3.2.3)
-abbrev pub is_atom_octet : ℕ → Bool
-is_atom_octet c = is_ascii_alphanumeric c || list_any (λ b. b == c) (codes "!#$%&'*+-/=?^_`{|}~")
+abbrev pub is_atext : ℕ → Bool
+is_atext c = is_ascii_alphanumeric c || list_any (λ b. b == c) (codes "!#$%&'*+-/=?^_`{|}~")
 
 -- one or more of them
 pub record IsAtom (atom : List ℕ) : Type 0 where
   pub some : 0 < length atom
-  pub octets : list_all is_atom_octet atom ≡ true
+  pub octets : list_all is_atext atom ≡ true
 
 -- one or more atoms, with one dot between each two (RFC 5322, 3.2.3, dot-atom-text)
 pub record IsDomain (text : List ℕ) : Type 0 where
@@ -43,8 +43,8 @@ SameDomain a b = compared_form a ≡ compared_form b
 
 -- ---- names of the DNS
 
-abbrev pub is_name_octet : ℕ → Bool
-is_name_octet c = is_ascii_lowercase c || is_ascii_digit c || c == hyphen || c == full_stop
+abbrev pub is_host_octet : ℕ → Bool
+is_host_octet c = is_ascii_lowercase c || is_ascii_digit c || c == hyphen || c == full_stop
 
 -- a label has 1 to 63 octets (RFC 1035, 2.3.4)
 pub record HasLabelLength (label : List ℕ) : Type 0 where
@@ -53,7 +53,7 @@ pub record HasLabelLength (label : List ℕ) : Type 0 where
 
 -- letters in lower case, digits and hyphens in labels of these lengths, at most 253 octets in all
 pub record IsDnsName (name : List ℕ) : Type 0 where
-  pub octets : list_all is_name_octet name ≡ true
+  pub octets : list_all is_host_octet name ≡ true
   pub labels : All HasLabelLength (labels_of name)
   pub short : length name ≤ 253
 

@@ -5,7 +5,7 @@ use Rattle.field_tokens.specs.declared.Style.TheVariants.{Mail}
 use Rattle.field_tokens.specs.declared.Token.{Token}
 use Rattle.field_tokens.specs.Tokens.{TokenValue, AreTokens, tokens_from, IsLine, HasTokens}
 use Rattle.address_grammar.specs.declared.lexemes.Lexeme.{Lexeme}
-use Rattle.address_grammar.specs.private.Lexemes.{HasTokenValues, unquoted, content, contents}
+use Rattle.address_grammar.specs.private.Lexemes.{HasMailTokens, unquoted, content, contents}
 use Rattle.address_grammar.specs.private.Views.{value_of, values_of}
 
 pub unquoted_at : (b : Bool) (octets : List ℕ) (i : ℕ) → i < length octets → unquoted b (drop i octets) ≡ unquoted b (get_or octets i 0 ∷ drop (i + 1) octets)
@@ -59,12 +59,12 @@ Lexes-step text done token more rest l = by l.values l.left_is l.are_tokens l.on
           });
         }
 
-pub Lexes-end : (text : List ℕ) (done : List TokenValue) (rest : List ℕ) → IsLine text → Lexes text done [] rest → HasTokenValues text done
+pub Lexes-end : (text : List ℕ) (done : List TokenValue) (rest : List ℕ) → IsLine text → Lexes text done [] rest → HasMailTokens text done
 Lexes-end text done rest line l = by l.values l.left_is l.onward
   where
-    by : (vs : List TokenValue) → [] ≡ tokens_from l.place vs → AreTokens Mail (done ++ vs) text → HasTokenValues text done
+    by : (vs : List TokenValue) → [] ≡ tokens_from l.place vs → AreTokens Mail (done ++ vs) text → HasMailTokens text done
     by [] e onward = record { is_line = line; are_tokens = rw append-nil at onward }
     by (v ∷ vs) e onward = cc e
 
-pub no_token_values : (text : List ℕ) → ((tokens : List Token) → HasTokens Mail text tokens → ⊥) → (values : List TokenValue) → HasTokenValues text values → ⊥
+pub no_token_values : (text : List ℕ) → ((tokens : List Token) → HasTokens Mail text tokens → ⊥) → (values : List TokenValue) → HasMailTokens text values → ⊥
 no_token_values text none values has = none (tokens_from 0 values) (record { is_line = has.is_line; values = values; are_tokens = has.are_tokens; placed = refl })

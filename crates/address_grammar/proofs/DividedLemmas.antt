@@ -2,7 +2,7 @@
 use Rattle.std.proofs.Common.{◌≡◌, ℕ, true, List, [], ◌∷◌, ◌++◌, Option, Some, None, refl, sym, ap, ◌∙◌}
 use Rattle.std.proofs.lemmas.List.{append_assoc, append-nil}
 use Rattle.field_tokens.specs.Tokens.{TokenValue}
-use Rattle.address_grammar.specs.private.Lexemes.{is_mark}
+use Rattle.address_grammar.specs.private.Lexemes.{is_special_of}
 use Rattle.address_grammar.specs.private.Walks.{awaited_behind, and_then, walk, SplitsPlace, IsLastPlace}
 use Rattle.address_grammar.specs.AddressLists.{Divided, SayParts, AreDivided}
 use Rattle.address_grammar.proofs.WalkLemmas.{walked_not, not_last}
@@ -25,20 +25,20 @@ step : (o : Option (Option ℕ)) (a : List TokenValue) → and_then o (λ n. wal
 step None a e = cc e
 step (Some n) a e = record { next = n; is = refl; walked = e }
 
-stop : (w : Option ℕ) (h : TokenValue) (b : List TokenValue) → w ≡ None → is_mark 44 h ≡ true → walk w (h ∷ b) ≡ Some None → ⊥
+stop : (w : Option ℕ) (h : TokenValue) (b : List TokenValue) → w ≡ None → is_special_of 44 h ≡ true → walk w (h ∷ b) ≡ Some None → ⊥
 stop w h b none mark walked = cc (rw (mark) at (rw (none) at walked))
 
-cut_walk : (w : Option ℕ) (a b : List TokenValue) (s t : TokenValue) (x y : List TokenValue) → walk w a ≡ Some None → walk w b ≡ Some None → is_mark 44 s ≡ true → is_mark 44 t ≡ true
+cut_walk : (w : Option ℕ) (a b : List TokenValue) (s t : TokenValue) (x y : List TokenValue) → walk w a ≡ Some None → walk w b ≡ Some None → is_special_of 44 s ≡ true → is_special_of 44 t ≡ true
     → a ++ s ∷ x ≡ b ++ t ∷ y → SamePlace a b x y
 cut_walk w [] [] s t x y wa wb is it e = record { place = refl; rest = cc e }
 cut_walk w [] (h ∷ b) s t x y wa wb is it e =
     let none : w ≡ None = cc wa in
     let same : s ≡ h = cc e in
-    absurd (stop w h b none (sym (ap (is_mark 44) same) ∙ is) wb)
+    absurd (stop w h b none (sym (ap (is_special_of 44) same) ∙ is) wb)
 cut_walk w (h ∷ a) [] s t x y wa wb is it e =
     let none : w ≡ None = cc wb in
     let same : h ≡ t = cc e in
-    absurd (stop w h a none (ap (is_mark 44) same ∙ it) wa)
+    absurd (stop w h a none (ap (is_special_of 44) same ∙ it) wa)
 cut_walk w (h ∷ a) (k ∷ b) s t x y wa wb is it e =
     let same : h ≡ k = cc e in
     let rest : a ++ s ∷ x ≡ b ++ t ∷ y = cc e in
@@ -49,7 +49,7 @@ cut_walk w (h ∷ a) (k ∷ b) s t x y wa wb is it e =
     let front : a ≡ b = more.place in
     record { place = cc; rest = more.rest }
 
-pub cut_place : (a b : List TokenValue) (s t : TokenValue) (x y : List TokenValue) → walk None a ≡ Some None → walk None b ≡ Some None → is_mark 44 s ≡ true → is_mark 44 t ≡ true
+pub cut_place : (a b : List TokenValue) (s t : TokenValue) (x y : List TokenValue) → walk None a ≡ Some None → walk None b ≡ Some None → is_special_of 44 s ≡ true → is_special_of 44 t ≡ true
     → a ++ s ∷ x ≡ b ++ t ∷ y → SamePlace a b x y
 cut_place a b s t x y wa wb is it e = cut_walk None a b s t x y wa wb is it e
 

@@ -2,12 +2,13 @@
 use Rattle.std.proofs.Common.{◌≡◌, Bool, true, false, ◌&&◌, inl, inr, List, [], ◌∷◌, refl, sym, ◌∙◌}
 use Rattle.std.proofs.lemmas.Bool.{and_parts, cases_Bool}
 use Rattle.field_tokens.specs.Tokens.{TokenValue}
-use Rattle.address_grammar.specs.private.Lexemes.{is_blank_token, are_blank, words_of, is_mark, are_dotted, BeginsSo, BeginsOther}
+use Rattle.address_grammar.specs.private.Lexemes.{is_blank_token, are_blank, is_special_of, are_dotted, BeginsSo, BeginsOther}
+use Rattle.field_tokens.specs.Squeezed.{words_of}
 
 -- what may follow behind a word
 abbrev pub dotted_behind : (TokenValue → Bool) → List TokenValue → Bool
 dotted_behind p [] = true
-dotted_behind p (dot ∷ words) = is_mark 46 dot && are_dotted p words
+dotted_behind p (dot ∷ words) = is_special_of 46 dot && are_dotted p words
 
 dotted-word : (p : TokenValue → Bool) (w : TokenValue) (ws : List TokenValue) → p w ≡ true → are_dotted p (w ∷ ws) ≡ dotted_behind p ws
 dotted-word p w [] h = h
@@ -27,7 +28,7 @@ part_other p ts other = by (words_of ts) refl
     by [] e = refl
     by (w ∷ ws) e = other-word p w ws (other w ws e)
 
-pub dot_found : (p : TokenValue → Bool) (ts rest : List TokenValue) → BeginsSo (is_mark 46) ts rest → dotted_behind p (words_of ts) ≡ are_dotted p (words_of rest)
+pub dot_found : (p : TokenValue → Bool) (ts rest : List TokenValue) → BeginsSo (is_special_of 46) ts rest → dotted_behind p (words_of ts) ≡ are_dotted p (words_of rest)
 dot_found p ts rest b = rw (b.words, b.passes) refl
 
 -- tokens are blank where they have no word
@@ -50,7 +51,7 @@ word_not_blank w ws ts e = elim (cases_Bool (are_blank ts)) [
   | inr not_blank ↦ not_blank
 ]
 
-pub dot_other : (p : TokenValue → Bool) (ts : List TokenValue) → BeginsOther (is_mark 46) ts → dotted_behind p (words_of ts) ≡ are_blank ts
+pub dot_other : (p : TokenValue → Bool) (ts : List TokenValue) → BeginsOther (is_special_of 46) ts → dotted_behind p (words_of ts) ≡ are_blank ts
 dot_other p ts other = by (words_of ts) refl
   where
     by : (ws : List TokenValue) → words_of ts ≡ ws → dotted_behind p ws ≡ are_blank ts

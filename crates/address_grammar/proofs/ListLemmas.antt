@@ -5,7 +5,7 @@ use Rattle.encoded_words.specs.Words.{UnitValue}
 use Rattle.encoded_words.proofs.PhraseLemmas.{HasPhraseUnits-once}
 use Rattle.field_tokens.specs.Tokens.{TokenValue}
 use Rattle.address_grammar.specs.declared.Address.{Address}
-use Rattle.address_grammar.specs.private.Lexemes.{is_mark, lacks, are_blank, SplitsAt}
+use Rattle.address_grammar.specs.private.Lexemes.{is_special_of, lacks_special, are_blank, SplitsAt}
 use Rattle.address_grammar.specs.Addresses.{IsAddress}
 use Rattle.address_grammar.specs.Phrases.{phrase_items, SaysPhrase}
 use Rattle.address_grammar.specs.AddressLists.{Divided, IsRoute, MailboxValue, IsBare, IsRoutedOrNot, IsNamed, IsMailbox, SayParts, AreDivided, IsOneMailbox, AreMembers, ElementValue, One, Group, IsGroupBy, IsGroup, IsElement, SaysPlace}
@@ -20,33 +20,33 @@ use Rattle.address_grammar.proofs.DividedLemmas.{Walked, SaysOnce, divided_once}
 -- ---- walks
 
 -- nothing is awaited behind tokens without a comma, an opening bracket and a colon
-pub walk_plain : (ts : List TokenValue) → lacks 44 ts ≡ true → lacks 60 ts ≡ true → lacks 58 ts ≡ true → walk None ts ≡ Some None
+pub walk_plain : (ts : List TokenValue) → lacks_special 44 ts ≡ true → lacks_special 60 ts ≡ true → lacks_special 58 ts ≡ true → walk None ts ≡ Some None
 walk_plain [] a b c = refl
 walk_plain (t ∷ ts) a b c =
-    let p = and_parts (not (is_mark 44 t)) (lacks 44 ts) a in
-    let q = and_parts (not (is_mark 60 t)) (lacks 60 ts) b in
-    let r = and_parts (not (is_mark 58 t)) (lacks 58 ts) c in
-    rw (not-true (is_mark 44 t) p.0, not-true (is_mark 60 t) q.0, not-true (is_mark 58 t) r.0) (walk_plain ts p.1 q.1 r.1)
+    let p = and_parts (not (is_special_of 44 t)) (lacks_special 44 ts) a in
+    let q = and_parts (not (is_special_of 60 t)) (lacks_special 60 ts) b in
+    let r = and_parts (not (is_special_of 58 t)) (lacks_special 58 ts) c in
+    rw (not-true (is_special_of 44 t) p.0, not-true (is_special_of 60 t) q.0, not-true (is_special_of 58 t) r.0) (walk_plain ts p.1 q.1 r.1)
 
-walk_awaits : (m : ℕ) (ts : List TokenValue) → lacks m ts ≡ true → walk (Some m) ts ≡ Some (Some m)
+walk_awaits : (m : ℕ) (ts : List TokenValue) → lacks_special m ts ≡ true → walk (Some m) ts ≡ Some (Some m)
 walk_awaits m [] l = refl
 walk_awaits m (t ∷ ts) l =
-    let p = and_parts (not (is_mark m t)) (lacks m ts) l in
-    rw (not-true (is_mark m t) p.0) (walk_awaits m ts p.1)
+    let p = and_parts (not (is_special_of m t)) (lacks_special m ts) l in
+    rw (not-true (is_special_of m t) p.0) (walk_awaits m ts p.1)
 
 walk_blank : (ts : List TokenValue) → are_blank ts ≡ true → walk None ts ≡ Some None
 walk_blank ts h = walk_plain ts (blank_lacks 44 ts h) (blank_lacks 60 ts h) (blank_lacks 58 ts h)
 
 -- what stands between a mark and the one that it awaits
-walk_between : (n : ℕ) (before inner after : List TokenValue) (s t : TokenValue) → walk None before ≡ Some None → awaited_behind None s ≡ Some (Some n) → lacks n inner ≡ true → is_mark n t ≡ true → are_blank after ≡ true
+walk_between : (n : ℕ) (before inner after : List TokenValue) (s t : TokenValue) → walk None before ≡ Some None → awaited_behind None s ≡ Some (Some n) → lacks_special n inner ≡ true → is_special_of n t ≡ true → are_blank after ≡ true
     → walk None (before ++ s ∷ (inner ++ t ∷ after)) ≡ Some None
 walk_between n before inner after s t front opens l closes blank =
     rw (walk-append before (s ∷ (inner ++ t ∷ after)) None, front, opens, walk-append inner (t ∷ after) (Some n), walk_awaits n inner l, closes) (walk_blank after blank)
 
-opens_angle : (t : TokenValue) → is_mark 60 t ≡ true → awaited_behind None t ≡ Some (Some 62)
+opens_angle : (t : TokenValue) → is_special_of 60 t ≡ true → awaited_behind None t ≡ Some (Some 62)
 opens_angle t h = rw (other_mark 60 44 t (λ e. omega (arith, e)) h, h) refl
 
-opens_group : (t : TokenValue) → is_mark 58 t ≡ true → awaited_behind None t ≡ Some (Some 59)
+opens_group : (t : TokenValue) → is_special_of 58 t ≡ true → awaited_behind None t ≡ Some (Some 59)
 opens_group t h = rw (other_mark 58 44 t (λ e. omega (arith, e)) h, other_mark 58 60 t (λ e. omega (arith, e)) h, h) refl
 
 says_walked : (ts : List TokenValue) (phrase : Bool) (units : List UnitValue) → SaysPhrase ts phrase units → walk None ts ≡ Some None
@@ -69,28 +69,28 @@ one_walked ts (m ∷ n ∷ ms) is = absurd is
 
 -- ---- a mailbox has no semicolon
 
-mailbox_lacks : (ts : List TokenValue) (m : MailboxValue) → IsMailbox ts m → lacks 59 ts ≡ true
+mailbox_lacks : (ts : List TokenValue) (m : MailboxValue) → IsMailbox ts m → lacks_special 59 ts ≡ true
 mailbox_lacks ts m (inl is) = bare_lacks 59 ts m (λ e. omega (arith, e)) (λ e. omega (arith, e)) is
 mailbox_lacks ts m (inr is) =
     let a = is.angled in
     rw (a.whole) (lacks-append 59 is.before (a.open_mark ∷ (is.inner ++ a.close_mark ∷ a.after)) (says_lacks 59 is.before m.phrase m.display (λ e. omega (arith, e)) is.named.says)
-    (and_from (not (is_mark 59 a.open_mark)) (lacks 59 (is.inner ++ a.close_mark ∷ a.after)) (ap not (other_mark 60 59 a.open_mark (λ e. omega (arith, e)) a.opens))
+    (and_from (not (is_special_of 59 a.open_mark)) (lacks_special 59 (is.inner ++ a.close_mark ∷ a.after)) (ap not (other_mark 60 59 a.open_mark (λ e. omega (arith, e)) a.opens))
     (lacks-append 59 is.inner (a.close_mark ∷ a.after) (routed_lacks 59 is.inner m.address (λ e. omega (arith, e)) (λ e. omega (arith, e)) (λ e. omega (arith, e)) (λ e. omega (arith, e)) is.named.address)
-    (and_from (not (is_mark 59 a.close_mark)) (lacks 59 a.after) (ap not (other_mark 62 59 a.close_mark (λ e. omega (arith, e)) a.closes)) (blank_lacks 59 a.after a.behind)))))
+    (and_from (not (is_special_of 59 a.close_mark)) (lacks_special 59 a.after) (ap not (other_mark 62 59 a.close_mark (λ e. omega (arith, e)) a.closes)) (blank_lacks 59 a.after a.behind)))))
 
-one_lacks : (ts : List TokenValue) (ms : List MailboxValue) → IsOneMailbox ts ms → lacks 59 ts ≡ true
+one_lacks : (ts : List TokenValue) (ms : List MailboxValue) → IsOneMailbox ts ms → lacks_special 59 ts ≡ true
 one_lacks ts [] is = absurd is
 one_lacks ts (m ∷ []) is = mailbox_lacks ts m is
 one_lacks ts (m ∷ n ∷ ms) is = absurd is
 
-parts_lack : (parts : List (List TokenValue)) (ts : List TokenValue) (ms : List MailboxValue) → Divided 44 parts ts → SayParts IsOneMailbox parts ms → lacks 59 ts ≡ true
+parts_lack : (parts : List (List TokenValue)) (ts : List TokenValue) (ms : List MailboxValue) → Divided 44 parts ts → SayParts IsOneMailbox parts ms → lacks_special 59 ts ≡ true
 parts_lack [] ts ms d say = absurd d
 parts_lack (p ∷ []) ts ms d say = rw (d) (one_lacks p say.0 say.3)
 parts_lack (p ∷ n ∷ parts) ts ms d say =
     rw (d.2) (lacks-append 59 p (d.0 ∷ d.1) (one_lacks p say.0 say.3)
-    (and_from (not (is_mark 59 d.0)) (lacks 59 d.1) (ap not (other_mark 44 59 d.0 (λ e. omega (arith, e)) d.3)) (parts_lack (n ∷ parts) d.1 say.1 d.4 say.4)))
+    (and_from (not (is_special_of 59 d.0)) (lacks_special 59 d.1) (ap not (other_mark 44 59 d.0 (λ e. omega (arith, e)) d.3)) (parts_lack (n ∷ parts) d.1 say.1 d.4 say.4)))
 
-pub members_lack : (ts : List TokenValue) (ms : List MailboxValue) → AreMembers ts ms → lacks 59 ts ≡ true
+pub members_lack : (ts : List TokenValue) (ms : List MailboxValue) → AreMembers ts ms → lacks_special 59 ts ≡ true
 members_lack ts ms (inl none) = blank_lacks 59 ts none.0
 members_lack ts ms (inr d) = parts_lack d.parts ts ms d.divided d.say
 
@@ -123,10 +123,10 @@ says_once ts true false us vs h k = absurd (both_ways (are_blank ts) h.0.some k.
 says_once ts false true us vs h k = absurd (both_ways (are_blank ts) k.0.some h.0)
 says_once ts false false us vs h k = record { phrase = refl; units = h.1 ∙ sym k.1 }
 
-no_colon : (ts : List TokenValue) (a : Address) → IsAddress ts a → lacks 58 ts ≡ true
+no_colon : (ts : List TokenValue) (a : Address) → IsAddress ts a → lacks_special 58 ts ≡ true
 no_colon ts a is = address_lacks 58 ts a (λ e. omega (arith, e)) (λ e. omega (arith, e)) is
 
-route_colon : (ts : List TokenValue) → IsRoute ts → lacks 58 ts ≡ true
+route_colon : (ts : List TokenValue) → IsRoute ts → lacks_special 58 ts ≡ true
 route_colon ts r = route_lacks 58 ts (λ e. omega (arith, e)) (λ e. omega (arith, e)) (λ e. omega (arith, e)) r
 
 routed_once : (ts : List TokenValue) (a b : Address) → IsRoutedOrNot ts a → IsRoutedOrNot ts b → a ≡ b
@@ -207,17 +207,17 @@ group_name ts name ms is = record {
 }
 
 -- the first of two marks stands before the other
-two_marks : (a b : List TokenValue) (s t : TokenValue) (x y : List TokenValue) → lacks 60 a ≡ true → lacks 58 b ≡ true → is_mark 58 s ≡ true → is_mark 60 t ≡ true → a ++ s ∷ x ≡ b ++ t ∷ y → ⊥
-two_marks [] [] s t x y la lb is it e = let same : s ≡ t = cc e in both_ways (is_mark 58 t) (other_mark 60 58 t (λ e. omega (arith, e)) it) (sym (ap (is_mark 58) same) ∙ is)
+two_marks : (a b : List TokenValue) (s t : TokenValue) (x y : List TokenValue) → lacks_special 60 a ≡ true → lacks_special 58 b ≡ true → is_special_of 58 s ≡ true → is_special_of 60 t ≡ true → a ++ s ∷ x ≡ b ++ t ∷ y → ⊥
+two_marks [] [] s t x y la lb is it e = let same : s ≡ t = cc e in both_ways (is_special_of 58 t) (other_mark 60 58 t (λ e. omega (arith, e)) it) (sym (ap (is_special_of 58) same) ∙ is)
 two_marks [] (h ∷ b) s t x y la lb is it e =
     let same : s ≡ h = cc e in
-    both_ways (is_mark 58 h) (not-true (is_mark 58 h) (and_parts (not (is_mark 58 h)) (lacks 58 b) lb).0) (sym (ap (is_mark 58) same) ∙ is)
+    both_ways (is_special_of 58 h) (not-true (is_special_of 58 h) (and_parts (not (is_special_of 58 h)) (lacks_special 58 b) lb).0) (sym (ap (is_special_of 58) same) ∙ is)
 two_marks (h ∷ a) [] s t x y la lb is it e =
     let same : h ≡ t = cc e in
-    both_ways (is_mark 60 h) (not-true (is_mark 60 h) (and_parts (not (is_mark 60 h)) (lacks 60 a) la).0) (ap (is_mark 60) same ∙ it)
+    both_ways (is_special_of 60 h) (not-true (is_special_of 60 h) (and_parts (not (is_special_of 60 h)) (lacks_special 60 a) la).0) (ap (is_special_of 60) same ∙ it)
 two_marks (h ∷ a) (k ∷ b) s t x y la lb is it e =
     let rest : a ++ s ∷ x ≡ b ++ t ∷ y = cc e in
-    two_marks a b s t x y (and_parts (not (is_mark 60 h)) (lacks 60 a) la).1 (and_parts (not (is_mark 58 k)) (lacks 58 b) lb).1 is it rest
+    two_marks a b s t x y (and_parts (not (is_special_of 60 h)) (lacks_special 60 a) la).1 (and_parts (not (is_special_of 58 k)) (lacks_special 58 b) lb).1 is it rest
 
 -- where a name is split off, the element is a group
 pub mailbox_no_name : (ts before behind : List TokenValue) (m : MailboxValue) → SplitsName ts before behind → IsMailbox ts m → ⊥
@@ -274,10 +274,10 @@ place_once ts (e ∷ d ∷ es) fs p q = absurd p
 
 -- ---- where a name is split off
 
-pub no_name : (ts : List TokenValue) → lacks 58 ts ≡ true → (before behind : List TokenValue) → SplitsName ts before behind → ⊥
+pub no_name : (ts : List TokenValue) → lacks_special 58 ts ≡ true → (before behind : List TokenValue) → SplitsName ts before behind → ⊥
 no_name ts l before behind s = not_lacking 58 before behind s.splits.at s.splits.is_at (rw (s.splits.whole) at l)
 
-pub name_open : (ts before behind : List TokenValue) → SplitsAt 58 ts before behind → lacks 60 before ≡ false → (a b : List TokenValue) → SplitsName ts a b → ⊥
+pub name_open : (ts before behind : List TokenValue) → SplitsAt 58 ts before behind → lacks_special 60 before ≡ false → (a b : List TokenValue) → SplitsName ts a b → ⊥
 name_open ts before behind s l a b n =
     let cut = cut_once 58 before a s.at n.splits.at behind b s.first n.splits.first s.is_at n.splits.is_at (sym s.whole ∙ n.splits.whole) in
-    both_ways (lacks 60 a) (rw (cut.front) at l) n.closed
+    both_ways (lacks_special 60 a) (rw (cut.front) at l) n.closed

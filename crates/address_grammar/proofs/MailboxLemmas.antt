@@ -10,7 +10,7 @@ use Rattle.field_tokens.specs.declared.TokenKind.TheVariants.{Atom, Quoted, Lite
 use Rattle.field_tokens.specs.Tokens.{TokenValue}
 use Rattle.address_grammar.specs.declared.Address.{Address}
 use Rattle.address_grammar.specs.declared.lexemes.Lexeme.{Lexeme}
-use Rattle.address_grammar.specs.private.Lexemes.{is_blank_token, are_blank, is_special_kind, is_word_kind, is_mark, lacks, SplitsAt}
+use Rattle.address_grammar.specs.private.Lexemes.{is_blank_token, are_blank, is_word_kind, is_special_of, lacks_special, SplitsAt}
 use Rattle.address_grammar.specs.private.Views.{value_of, values_of}
 use Rattle.address_grammar.specs.Addresses.{is_domain, IsAddress}
 use Rattle.address_grammar.specs.Paths.{IsFirstAngled}
@@ -19,6 +19,7 @@ use Rattle.address_grammar.specs.AddressLists.{Divided, IsHop, IsRoute, MailboxV
 use Rattle.address_grammar.proofs.LexemeLemmas.{no_mark, other_mark, blank_lacks, cut_once, not_lacking}
 use Rattle.address_grammar.proofs.AddressLemmas.{domain_lacks, lacks-append, address_lacks}
 use Rattle.address_grammar.proofs.PathLemmas.{angles_once}
+use Rattle.field_tokens.specs.Squeezed.{is_special_kind}
 
 -- ---- phrases
 
@@ -33,20 +34,20 @@ blank_or_word Special b h = inr h
 blank_or_word Gap b h = inl refl
 blank_or_word Comment b h = inl refl
 
-phrase_tokens_lack : (m : ℕ) (ts : List TokenValue) → m ≢ 46 → list_all may_stand_in_phrase ts ≡ true → lacks m ts ≡ true
+phrase_tokens_lack : (m : ℕ) (ts : List TokenValue) → m ≢ 46 → list_all may_stand_in_phrase ts ≡ true → lacks_special m ts ≡ true
 phrase_tokens_lack m [] ne h = refl
 phrase_tokens_lack m (t ∷ ts) ne h =
     let parts = and_parts (may_stand_in_phrase t) (list_all may_stand_in_phrase ts) h in
     let rest = phrase_tokens_lack m ts ne parts.1 in
-    elim (blank_or_word t.kind (is_mark 46 t) parts.0) [
-      | inl plain ↦ and_from (not (is_mark m t)) (lacks m ts) (ap not (no_mark m t plain)) rest
-      | inr dot ↦ and_from (not (is_mark m t)) (lacks m ts) (ap not (other_mark 46 m t (λ e. ne (sym e)) dot)) rest
+    elim (blank_or_word t.kind (is_special_of 46 t) parts.0) [
+      | inl plain ↦ and_from (not (is_special_of m t)) (lacks_special m ts) (ap not (no_mark m t plain)) rest
+      | inr dot ↦ and_from (not (is_special_of m t)) (lacks_special m ts) (ap not (other_mark 46 m t (λ e. ne (sym e)) dot)) rest
     ]
 
-pub phrase_lacks : (m : ℕ) (ts : List TokenValue) → m ≢ 46 → IsPhrase ts → lacks m ts ≡ true
+pub phrase_lacks : (m : ℕ) (ts : List TokenValue) → m ≢ 46 → IsPhrase ts → lacks_special m ts ≡ true
 phrase_lacks m ts ne p = phrase_tokens_lack m ts ne p.each
 
-pub says_lacks : (m : ℕ) (ts : List TokenValue) (phrase : Bool) (units : List UnitValue) → m ≢ 46 → SaysPhrase ts phrase units → lacks m ts ≡ true
+pub says_lacks : (m : ℕ) (ts : List TokenValue) (phrase : Bool) (units : List UnitValue) → m ≢ 46 → SaysPhrase ts phrase units → lacks_special m ts ≡ true
 says_lacks m ts true units ne s = phrase_lacks m ts ne s.0
 says_lacks m ts false units ne s = blank_lacks m ts s.0
 
@@ -56,10 +57,10 @@ no_says ts not_blank not_phrase false units s = both_ways (are_blank ts) not_bla
 
 -- ---- routes
 
-pub hop_lacks : (m : ℕ) (ts : List TokenValue) → m ≢ 46 → m ≢ 64 → IsHop ts → lacks m ts ≡ true
+pub hop_lacks : (m : ℕ) (ts : List TokenValue) → m ≢ 46 → m ≢ 64 → IsHop ts → lacks_special m ts ≡ true
 hop_lacks m ts dot at is =
     rw (is.whole) (lacks-append m is.before (is.at ∷ is.domain) (blank_lacks m is.before is.nothing_before)
-    (and_from (not (is_mark m is.at)) (lacks m is.domain) (ap not (other_mark 64 m is.at (λ e. at (sym e)) is.is_at)) (domain_lacks m is.domain dot is.is_domain)))
+    (and_from (not (is_special_of m is.at)) (lacks_special m is.domain) (ap not (other_mark 64 m is.at (λ e. at (sym e)) is.is_at)) (domain_lacks m is.domain dot is.is_domain)))
 
 pub record HopParts (before domain : List TokenValue) : Type 0 where
   pub nothing_before : are_blank before ≡ true
@@ -73,7 +74,7 @@ hop_parts ts before domain s is =
 pub hop_made : (ts before domain : List TokenValue) → SplitsAt 64 ts before domain → are_blank before ≡ true → is_domain domain ≡ true → IsHop ts
 hop_made ts before domain s blank dom = record { before = before; at = s.at; domain = domain; whole = s.whole; nothing_before = blank; is_at = s.is_at; is_domain = dom }
 
-pub no_hop : (ts : List TokenValue) → lacks 64 ts ≡ true → IsHop ts → ⊥
+pub no_hop : (ts : List TokenValue) → lacks_special 64 ts ≡ true → IsHop ts → ⊥
 no_hop ts l is = not_lacking 64 is.before is.domain is.at is.is_at (rw (is.whole) at l)
 
 no_comma_dot : ◌≡◌ {A = ℕ} 44 46 → ⊥
@@ -82,10 +83,10 @@ no_comma_dot e = omega (arith, e)
 no_comma_at : ◌≡◌ {A = ℕ} 44 64 → ⊥
 no_comma_at e = omega (arith, e)
 
-hop_comma : (ts : List TokenValue) → IsHop ts → lacks 44 ts ≡ true
+hop_comma : (ts : List TokenValue) → IsHop ts → lacks_special 44 ts ≡ true
 hop_comma ts is = hop_lacks 44 ts no_comma_dot no_comma_at is
 
-pub route_last : (ts : List TokenValue) → lacks 44 ts ≡ true → IsRoute ts → IsHop ts
+pub route_last : (ts : List TokenValue) → lacks_special 44 ts ≡ true → IsRoute ts → IsHop ts
 route_last ts l r = by r.hops r.divided r.each
   where
     by : (hops : List (List TokenValue)) → Divided 44 hops ts → AllByRecursion IsHop hops → IsHop ts
@@ -129,29 +130,29 @@ same_route ts = record { onward = λ r. r; back = λ r. r }
 pub same_more : (ts old hop new : List TokenValue) → SameRoute ts old → SplitsAt 44 old hop new → IsHop hop → SameRoute ts new
 same_more ts old hop new same s h = record { onward = λ r. same.onward (route_more old hop new s h r); back = λ r. (route_parts old hop new s (same.back r)).is_route }
 
-pub route_is : (ts rest : List TokenValue) (hop : Bool) → SameRoute ts rest → lacks 44 rest ≡ true → (hop ≡ true → IsHop rest) × (IsHop rest → hop ≡ true) → (hop ≡ true → IsRoute ts) × (IsRoute ts → hop ≡ true)
+pub route_is : (ts rest : List TokenValue) (hop : Bool) → SameRoute ts rest → lacks_special 44 rest ≡ true → (hop ≡ true → IsHop rest) × (IsHop rest → hop ≡ true) → (hop ≡ true → IsRoute ts) × (IsRoute ts → hop ≡ true)
 route_is ts rest hop same l is = (λ t. same.onward (route_one rest (is.0 t)), λ r. is.1 (route_last rest l (same.back r)))
 
 pub route_not : (ts rest hop after : List TokenValue) (b : Bool) → SameRoute ts rest → SplitsAt 44 rest hop after → b ≡ false → (IsHop hop → b ≡ true) → (false ≡ true → IsRoute ts) × (IsRoute ts → false ≡ true)
 route_not ts rest hop after b same s e h = (λ t. cc t, λ r. sym e ∙ h (route_parts rest hop after s (same.back r)).is_hop)
 
-pub route_lacks : (m : ℕ) (ts : List TokenValue) → m ≢ 46 → m ≢ 64 → m ≢ 44 → IsRoute ts → lacks m ts ≡ true
+pub route_lacks : (m : ℕ) (ts : List TokenValue) → m ≢ 46 → m ≢ 64 → m ≢ 44 → IsRoute ts → lacks_special m ts ≡ true
 route_lacks m ts dot at comma r = by r.hops ts r.divided r.each
   where
-    by : (hops : List (List TokenValue)) (us : List TokenValue) → Divided 44 hops us → AllByRecursion IsHop hops → lacks m us ≡ true
+    by : (hops : List (List TokenValue)) (us : List TokenValue) → Divided 44 hops us → AllByRecursion IsHop hops → lacks_special m us ≡ true
     by [] us d e = absurd d
     by (h ∷ []) us d e = rw (d) (hop_lacks m h dot at e.0)
     by (h ∷ n ∷ hops) us d e =
         rw (d.2) (lacks-append m h (d.0 ∷ d.1) (hop_lacks m h dot at e.0)
-        (and_from (not (is_mark m d.0)) (lacks m d.1) (ap not (other_mark 44 m d.0 (λ e. comma (sym e)) d.3)) (by (n ∷ hops) d.1 d.4 e.1)))
+        (and_from (not (is_special_of m d.0)) (lacks_special m d.1) (ap not (other_mark 44 m d.0 (λ e. comma (sym e)) d.3)) (by (n ∷ hops) d.1 d.4 e.1)))
 
 -- ---- routed addresses
 
-pub routed_lacks : (m : ℕ) (ts : List TokenValue) (a : Address) → m ≢ 46 → m ≢ 64 → m ≢ 44 → m ≢ 58 → IsRoutedOrNot ts a → lacks m ts ≡ true
+pub routed_lacks : (m : ℕ) (ts : List TokenValue) (a : Address) → m ≢ 46 → m ≢ 64 → m ≢ 44 → m ≢ 58 → IsRoutedOrNot ts a → lacks_special m ts ≡ true
 routed_lacks m ts a dot at comma colon (inl is) = address_lacks m ts a dot at is
 routed_lacks m ts a dot at comma colon (inr is) =
     rw (is.whole) (lacks-append m is.route (is.colon ∷ is.behind) (route_lacks m is.route dot at comma is.is_route)
-    (and_from (not (is_mark m is.colon)) (lacks m is.behind) (ap not (other_mark 58 m is.colon (λ e. colon (sym e)) is.is_colon)) (address_lacks m is.behind a dot at is.is_address)))
+    (and_from (not (is_special_of m is.colon)) (lacks_special m is.behind) (ap not (other_mark 58 m is.colon (λ e. colon (sym e)) is.is_colon)) (address_lacks m is.behind a dot at is.is_address)))
 
 pub routed_parts : (ts route behind : List TokenValue) (a : Address) → SplitsAt 58 ts route behind → IsRoutedOrNot ts a → IsRoute route × IsAddress behind a
 routed_parts ts route behind a s (inl is) =
@@ -164,7 +165,7 @@ routed_parts ts route behind a s (inr is) =
 pub routed_made : (ts route behind : List TokenValue) (a : Address) → SplitsAt 58 ts route behind → IsRoute route → IsAddress behind a → IsRoutedOrNot ts a
 routed_made ts route behind a s r is = inr (record { route = route; colon = s.at; behind = behind; whole = s.whole; is_colon = s.is_at; is_route = r; is_address = is })
 
-pub unrouted : (ts : List TokenValue) (a : Address) → lacks 58 ts ≡ true → IsRoutedOrNot ts a → IsAddress ts a
+pub unrouted : (ts : List TokenValue) (a : Address) → lacks_special 58 ts ≡ true → IsRoutedOrNot ts a → IsAddress ts a
 unrouted ts a l (inl is) = is
 unrouted ts a l (inr is) = absurd (not_lacking 58 is.route is.behind is.colon is.is_colon (rw (is.whole) at l))
 
@@ -182,16 +183,16 @@ named_parts ts before inner m first is =
     let same = angles_once ts before is.before inner is.inner first (named_angles ts m is) in
     rw (same.before, same.inner) is.named
 
-pub bare_lacks : (mark : ℕ) (ts : List TokenValue) (m : MailboxValue) → mark ≢ 46 → mark ≢ 64 → IsBare ts m → lacks mark ts ≡ true
+pub bare_lacks : (mark : ℕ) (ts : List TokenValue) (m : MailboxValue) → mark ≢ 46 → mark ≢ 64 → IsBare ts m → lacks_special mark ts ≡ true
 bare_lacks mark ts m dot at is = address_lacks mark ts m.address dot at is.is_address
 
 -- without an opening bracket a mailbox is an address
-pub only_bare : (ts : List TokenValue) (m : MailboxValue) → lacks 60 ts ≡ true → IsMailbox ts m → IsBare ts m
+pub only_bare : (ts : List TokenValue) (m : MailboxValue) → lacks_special 60 ts ≡ true → IsMailbox ts m → IsBare ts m
 only_bare ts m l (inl is) = is
 only_bare ts m l (inr is) = absurd (not_lacking 60 is.before _ is.angled.open_mark is.angled.opens (rw (is.angled.whole) at l))
 
-pub only_named : (ts : List TokenValue) (m : MailboxValue) → lacks 60 ts ≡ false → IsMailbox ts m → IsNamed ts m
-only_named ts m l (inl is) = absurd (both_ways (lacks 60 ts) l (bare_lacks 60 ts m (λ e. omega (arith, e)) (λ e. omega (arith, e)) is))
+pub only_named : (ts : List TokenValue) (m : MailboxValue) → lacks_special 60 ts ≡ false → IsMailbox ts m → IsNamed ts m
+only_named ts m l (inl is) = absurd (both_ways (lacks_special 60 ts) l (bare_lacks 60 ts m (λ e. omega (arith, e)) (λ e. omega (arith, e)) is))
 only_named ts m l (inr is) = is
 
 pub named_made : (ts before inner : List TokenValue) (m : MailboxValue) → IsFirstAngled ts before inner → IsNamedBy before inner m → IsMailbox ts m

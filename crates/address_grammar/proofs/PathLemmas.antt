@@ -7,13 +7,13 @@ use Rattle.field_tokens.proofs.TokenLists.{AreTokens-once}
 use Rattle.address_grammar.specs.declared.Address.{Address}
 use Rattle.address_grammar.specs.declared.AddressFault.{AddressFault}
 use Rattle.address_grammar.specs.declared.AddressFault.TheVariants.{Malformed, Memory}
-use Rattle.address_grammar.specs.private.Lexemes.{HasTokenValues, lacks, are_blank, SplitsAt}
+use Rattle.address_grammar.specs.private.Lexemes.{HasMailTokens, lacks_special, are_blank, SplitsAt}
 use Rattle.address_grammar.specs.Addresses.{IsAddress}
 use Rattle.address_grammar.specs.Paths.{IsFirstAngled, IsPathOf, IsPath, HasPath}
 use Rattle.address_grammar.proofs.LexemeLemmas.{blank_lacks, cut_once, not_lacking}
 use Rattle.address_grammar.proofs.AddressLemmas.{IsAddress-once, address_lacks, address_missing}
 
-pub HasTokenValues-once : (text : List ℕ) (ts us : List TokenValue) → HasTokenValues text ts → HasTokenValues text us → ts ≡ us
+pub HasTokenValues-once : (text : List ℕ) (ts us : List TokenValue) → HasMailTokens text ts → HasMailTokens text us → ts ≡ us
 HasTokenValues-once text ts us p q = AreTokens-once Mail text ts us p.are_tokens q.are_tokens
 
 pub angled_made : (ts before behind inner after : List TokenValue) → SplitsAt 60 ts before behind → SplitsAt 62 behind inner after → are_blank after ≡ true → IsFirstAngled ts before inner
@@ -31,10 +31,10 @@ angled_made ts before behind inner after opens closes_it blank = record {
   first_close = closes_it.first;
 }
 
-pub no_open : (ts before inner : List TokenValue) → lacks 60 ts ≡ true → IsFirstAngled ts before inner → ⊥
+pub no_open : (ts before inner : List TokenValue) → lacks_special 60 ts ≡ true → IsFirstAngled ts before inner → ⊥
 no_open ts before inner l is = not_lacking 60 before (inner ++ is.angled.close_mark ∷ is.angled.after) is.angled.open_mark is.angled.opens (rw (is.angled.whole) at l)
 
-pub no_close : (ts front behind before inner : List TokenValue) → SplitsAt 60 ts front behind → lacks 62 behind ≡ true → IsFirstAngled ts before inner → ⊥
+pub no_close : (ts front behind before inner : List TokenValue) → SplitsAt 60 ts front behind → lacks_special 62 behind ≡ true → IsFirstAngled ts before inner → ⊥
 no_close ts front behind before inner splits l is =
     let cut = cut_once 60 front before splits.at is.angled.open_mark behind (inner ++ is.angled.close_mark ∷ is.angled.after) splits.first is.first_open splits.is_at is.angled.opens (sym splits.whole ∙ is.angled.whole) in
     not_lacking 62 inner is.angled.after is.angled.close_mark is.angled.closes (rw (cut.rest) at l)
@@ -60,7 +60,7 @@ something_behind ts front behind inner after before within opens closes_it not_b
     let blank : are_blank after ≡ true = rw (second.rest) is.angled.behind in
     absurd (cc (sym not_blank ∙ blank))
 
-path_lacks : (ts : List TokenValue) (answer : Option Address) → IsPathOf ts answer → lacks 62 ts ≡ true
+path_lacks : (ts : List TokenValue) (answer : Option Address) → IsPathOf ts answer → lacks_special 62 ts ≡ true
 path_lacks ts None h = blank_lacks 62 ts h
 path_lacks ts (Some a) h = address_lacks 62 ts a (λ e. omega (arith, e)) (λ e. omega (arith, e)) h
 
@@ -87,7 +87,7 @@ HasPath-once text a b p q =
     IsPath-once p.tokens a b p.is_path (rw (same) q.is_path)
 
 -- what a text's tokens say of its paths
-pub path_of_tokens : (text : List ℕ) (ts : List TokenValue) (answer : Option Address) → HasTokenValues text ts → HasPath text answer → IsPath ts answer
+pub path_of_tokens : (text : List ℕ) (ts : List TokenValue) (answer : Option Address) → HasMailTokens text ts → HasPath text answer → IsPath ts answer
 path_of_tokens text ts answer has path = rw (HasTokenValues-once text ts path.tokens has path.has_tokens) path.is_path
 
 -- what is known of a path whose first brackets are known
@@ -95,13 +95,13 @@ pub record KnownPath (before inner : List TokenValue) (answer : Option Address) 
   pub nothing_before : are_blank before ≡ true
   pub holds : IsPathOf inner answer
 
-pub path_known : (text : List ℕ) (ts before inner : List TokenValue) (answer : Option Address) → HasTokenValues text ts → IsFirstAngled ts before inner → HasPath text answer → KnownPath before inner answer
+pub path_known : (text : List ℕ) (ts before inner : List TokenValue) (answer : Option Address) → HasMailTokens text ts → IsFirstAngled ts before inner → HasPath text answer → KnownPath before inner answer
 path_known text ts before inner answer has first path =
     let is = path_of_tokens text ts answer has path in
     let same = angles_once ts before is.before inner is.inner first (path_angles ts answer is) in
     record { nothing_before = rw (same.before) is.nothing_before; holds = rw (same.inner) is.holds }
 
-pub path_unangled : (text : List ℕ) (ts : List TokenValue) (answer : Option Address) → HasTokenValues text ts → ((before inner : List TokenValue) → IsFirstAngled ts before inner → ⊥) → HasPath text answer → ⊥
+pub path_unangled : (text : List ℕ) (ts : List TokenValue) (answer : Option Address) → HasMailTokens text ts → ((before inner : List TokenValue) → IsFirstAngled ts before inner → ⊥) → HasPath text answer → ⊥
 path_unangled text ts answer has none path = let is = path_of_tokens text ts answer has path in none is.before is.inner (path_angles ts answer is)
 
 pub null_path : (before inner : List TokenValue) (answer : Option Address) → are_blank inner ≡ true → KnownPath before inner answer → None ≡ answer

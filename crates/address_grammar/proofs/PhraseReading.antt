@@ -5,15 +5,16 @@ use Rattle.std.proofs.lemmas.Slice.Eq.{bytes_eq-Decides}
 use Rattle.encoded_words.specs.declared.units.Merging.{Merging}
 use Rattle.encoded_words.specs.Words.{UnitValue, Text}
 use Rattle.encoded_words.specs.Units.{Place, with_text, word_unit, merged, raw_units, begins_encoded, run_text}
-use Rattle.encoded_words.specs.private.Merging.{IsMerging, TakesWord, done_values, units_then, onto}
+use Rattle.encoded_words.specs.private.Merging.{IsMerging, TakesWord, done_values, all_units_then, onto}
 use Rattle.encoded_words.specs.PhraseUnits.{PhraseItem, Separator, word_before, gap_before, begins_free, has_word, phrase_words, IsPhrasePlace, ArePhrasePlaces, HasPhraseUnits}
 use Rattle.encoded_words.proofs.Reading.{merged-onto, and_false, then_text, and_true}
 use Rattle.field_tokens.specs.declared.TokenKind.{TokenKind}
 use Rattle.field_tokens.specs.declared.TokenKind.TheVariants.{Atom, Quoted, Literal, Special, Gap, Comment}
 use Rattle.address_grammar.specs.declared.phrases.PhraseReader.{PhraseReader}
-use Rattle.address_grammar.specs.private.Lexemes.{is_blank_token, is_atom_kind, is_mark, content_of}
+use Rattle.address_grammar.specs.private.Lexemes.{is_blank_token, is_special_of, said_content}
 use Rattle.address_grammar.specs.Phrases.{may_stand_in_phrase, item_of}
 use Rattle.address_grammar.specs.private.PhraseSteps.{TakesPart, IsFreshReader, ReadsSoFar}
+use Rattle.field_tokens.specs.Squeezed.{is_atom_kind}
 
 -- ---- one word
 
@@ -34,7 +35,7 @@ part_plain old mid new run word was run_is word_is = record {
 -- what ReadsSoFar says, over the parts of the reader
 abbrev pub SoFar : List PhraseItem → Merging → Bool → Bool → Bool → List PhraseItem → Type 0
 SoFar phrase m first free encoded items = (places : List Place) → ArePhrasePlaces (phrase_words free items) places
-    → HasPhraseUnits phrase (units_then m (with_text (cond (encoded && begins_encoded places) [] (cond (not first && ((free || begins_free items) && has_word items)) (32 ∷ []) [])) (merged (raw_units places))))
+    → HasPhraseUnits phrase (all_units_then m (with_text (cond (encoded && begins_encoded places) [] (cond (not first && ((free || begins_free items) && has_word items)) (32 ∷ []) [])) (merged (raw_units places))))
 
 pub separator : (phrase items : List PhraseItem) (m : Merging) (first free encoded : Bool) → SoFar phrase m first free encoded (Separator ∷ items) → SoFar phrase m first true encoded items
 separator phrase items m first free encoded reads = λ places are. rw (or_right free true refl) at (reads places are)
@@ -48,7 +49,7 @@ run_is false false = refl
 word_turn : (phrase items : List PhraseItem) (octets : List ℕ) (old new : Merging) (first free was may encoded : Bool)
     → TakesPart old new (cond (free && not first) (32 ∷ []) []) was octets may encoded
     → ((p : Place) (places : List Place) → IsPhrasePlace (word_before octets may items) p → ArePhrasePlaces (phrase_words false items) places
-    → HasPhraseUnits phrase (units_then old (with_text (cond (was && is_some p.says) [] (cond (not first && ((free || false) && true)) (32 ∷ []) [])) (merged (raw_units (p ∷ places))))))
+    → HasPhraseUnits phrase (all_units_then old (with_text (cond (was && is_some p.says) [] (cond (not first && ((free || false) && true)) (32 ∷ []) [])) (merged (raw_units (p ∷ places))))))
     → SoFar phrase new false false encoded items
 word_turn phrase items octets old new first free was may encoded t reads = λ places are.
     let p : Place = record { word = octets; says = t.says; run = gap_before items } in
@@ -58,17 +59,17 @@ word_turn phrase items octets old new first free was may encoded t reads = λ pl
     let same = t.units behind in
     rw (t.encoded_is, same, t.encoded_is, run_is first free, ← raw) has
 
-dot_octets : (octets : List ℕ) → is_mark 46 (record { kind = Special; octets = octets }) ≡ true → octets ≡ 46 ∷ []
+dot_octets : (octets : List ℕ) → is_special_of 46 (record { kind = Special; octets = octets }) ≡ true → octets ≡ 46 ∷ []
 dot_octets octets h = (bytes_eq-Decides octets (46 ∷ [])).0 h
 
 pub token_turn : (kind : TokenKind) (octets : List ℕ) (phrase items : List PhraseItem) (old new : Merging) (first free was next encoded : Bool)
     → may_stand_in_phrase (record { kind = kind; octets = octets }) ≡ true → is_blank_token (record { kind = kind; octets = octets }) ≡ false
-    → TakesPart old new (cond (free && not first) (32 ∷ []) []) was (content_of kind octets) ((free && next) && is_atom_kind kind) encoded
+    → TakesPart old new (cond (free && not first) (32 ∷ []) []) was (said_content kind octets) ((free && next) && is_atom_kind kind) encoded
     → begins_free items ≡ next → SoFar phrase old first free was (item_of kind octets ∷ items) → SoFar phrase new false false encoded items
 token_turn Atom octets phrase items old new first free was next encoded may word t free_behind reads =
     word_turn phrase items octets old new first free was (free && begins_free items) encoded (rw (free_behind) (rw (and_true (free && next)) at t)) (λ p places is are. reads (p ∷ places) (is, are))
 token_turn Quoted octets phrase items old new first free was next encoded may word t free_behind reads =
-    word_turn phrase items (content_of Quoted octets) old new first free was false encoded (rw (and_false (free && next)) at t) (λ p places is are. reads (p ∷ places) (is, are))
+    word_turn phrase items (said_content Quoted octets) old new first free was false encoded (rw (and_false (free && next)) at t) (λ p places is are. reads (p ∷ places) (is, are))
 token_turn Special octets phrase items old new first free was next encoded may word t free_behind reads =
     word_turn phrase items (46 ∷ []) old new first free was false encoded (rw (and_false (free && next), dot_octets octets may) at t) (λ p places is are. reads (p ∷ places) (is, are))
 token_turn Literal octets phrase items old new first free was next encoded may word t free_behind reads = cc may
@@ -89,7 +90,7 @@ pub fresh_reads : (phrase : List PhraseItem) (r : PhraseReader) → IsFreshReade
 fresh_reads phrase r fresh = λ places are.
     rw (fresh.is_first, fresh.after_encoded, fresh.units.done_is, fresh.units.text_is) (record { places = places; are_places = rw (fresh.is_free) at are; says = refl })
 
-pub end_reads : (phrase : List PhraseItem) (r : PhraseReader) → ReadsSoFar phrase r [] → HasPhraseUnits phrase (units_then r.units [])
+pub end_reads : (phrase : List PhraseItem) (r : PhraseReader) → ReadsSoFar phrase r [] → HasPhraseUnits phrase (all_units_then r.units [])
 end_reads phrase r reads = rw (no_run r.is_first r.is_free r.after_encoded) at (reads [] tt)
   where
     no_run : (first free encoded : Bool) → cond {A = List ℕ} (encoded && false) [] (cond {A = List ℕ} (not first && ((free || true) && false)) (32 ∷ []) []) ≡ []

@@ -10,17 +10,18 @@ use Rattle.encoded_words.proofs.WritableUnits.{behind_ascii, before_ascii}
 use Rattle.field_tokens.specs.declared.Style.TheVariants.{Mail}
 use Rattle.field_tokens.specs.declared.TokenKind.{TokenKind}
 use Rattle.field_tokens.specs.declared.TokenKind.TheVariants.{Atom, Quoted, Literal, Special, Gap, Comment}
-use Rattle.field_tokens.specs.Groups.{IsGroup, inside_octets}
+use Rattle.field_tokens.specs.Groups.{IsEnclosed, inside_octets}
 use Rattle.field_tokens.specs.TokenOctets.{is_atom_octet, is_line_octet}
 use Rattle.field_tokens.specs.Tokens.{TokenValue, AreTokens, IsToken, IsLine, quoted_marks, literal_marks}
-use Rattle.address_grammar.specs.private.Lexemes.{is_blank_token, words_of, unquoted, inner_octets, content_of, content, contents}
+use Rattle.address_grammar.specs.private.Lexemes.{is_blank_token, unquoted, inner_octets, said_content, content, contents}
 use Rattle.field_tokens.proofs.TokenLines.{token_utf8}
 use Rattle.address_grammar.proofs.Utf8Lemmas.{unquoted_utf8}
+use Rattle.field_tokens.specs.Squeezed.{words_of}
 
 -- what an atom or a literal is, whatever follows
 abbrev pub Shape : TokenKind → List ℕ → Type 0
 Shape Atom octets = (0 < length octets) × (list_all (is_atom_octet Mail) octets ≡ true)
-Shape Literal octets = IsGroup literal_marks octets
+Shape Literal octets = IsEnclosed literal_marks octets
 Shape Quoted octets = Unit {0}
 Shape Special octets = Unit {0}
 Shape Gap octets = Unit {0}
@@ -56,7 +57,7 @@ unquoted_all p false (x ∷ octets) h =
       | inr other ↦ rw (other) (and_from (p x) (list_all p (unquoted false octets)) parts.0 (unquoted_all p false octets parts.1))
     ]
 
-content_utf8 : (kind : TokenKind) (octets rest : List ℕ) → IsToken Mail kind octets rest → IsUtf8 octets → IsUtf8 (content_of kind octets)
+content_utf8 : (kind : TokenKind) (octets rest : List ℕ) → IsToken Mail kind octets rest → IsUtf8 octets → IsUtf8 (said_content kind octets)
 content_utf8 Atom octets rest is u = u
 content_utf8 Literal octets rest is u = u
 content_utf8 Special octets rest is u = u
@@ -67,7 +68,7 @@ content_utf8 Quoted octets rest is u =
     let within : IsUtf8 (inside ++ 34 ∷ []) = behind_ascii 34 (inside ++ 34 ∷ []) (omega arith) (rw (is.spelled) at u) in
     rw (inner-group octets inside is.spelled) (unquoted_utf8 inside (before_ascii inside (34 ∷ []) (omega arith) within).front)
 
-content_line : (kind : TokenKind) (octets rest : List ℕ) → IsToken Mail kind octets rest → list_all is_line_octet octets ≡ true → list_all is_line_octet (content_of kind octets) ≡ true
+content_line : (kind : TokenKind) (octets rest : List ℕ) → IsToken Mail kind octets rest → list_all is_line_octet octets ≡ true → list_all is_line_octet (said_content kind octets) ≡ true
 content_line Atom octets rest is u = u
 content_line Literal octets rest is u = u
 content_line Special octets rest is u = u
@@ -121,7 +122,7 @@ contents_line [] s = refl
 contents_line (t ∷ ts) s =
     list_all-append is_line_octet (content t) (contents ts) ∙ and_from (list_all is_line_octet (content t)) (list_all is_line_octet (contents ts)) s.0.line (contents_line ts s.1)
 
-blank_content : (kind : TokenKind) (octets : List ℕ) → is_blank_token (record { kind = kind; octets = octets }) ≡ true → content_of kind octets ≡ []
+blank_content : (kind : TokenKind) (octets : List ℕ) → is_blank_token (record { kind = kind; octets = octets }) ≡ true → said_content kind octets ≡ []
 blank_content Gap octets h = refl
 blank_content Comment octets h = refl
 blank_content Atom octets h = cc h

@@ -4,7 +4,7 @@ use Rattle.std.proofs.lemmas.Bool.{cases_Bool}
 use Rattle.std.proofs.lemmas.List.{take-append-drop, drop_more, map-append, take_all, take_more}
 use Rattle.field_tokens.specs.Tokens.{TokenValue}
 use Rattle.address_grammar.specs.declared.lexemes.Lexeme.{Lexeme}
-use Rattle.address_grammar.specs.private.Lexemes.{is_mark}
+use Rattle.address_grammar.specs.private.Lexemes.{is_special_of}
 use Rattle.address_grammar.specs.private.Views.{value_of, values_of}
 use Rattle.address_grammar.specs.private.Walks.{awaited_behind, and_then, walk, IsLastPlace, EndsAt}
 
@@ -20,18 +20,18 @@ walk-append (t ∷ a) b awaited = by (awaited_behind awaited t) (walk-append a b
 -- a comma ends a place where nothing is awaited
 pub record IsEnd (awaited : Option ℕ) (t : TokenValue) : Type 0 where
   pub nothing : awaited ≡ None
-  pub comma : is_mark 44 t ≡ true
+  pub comma : is_special_of 44 t ≡ true
 
 pub ends_here : (awaited : Option ℕ) (t : TokenValue) → awaited_behind awaited t ≡ None → IsEnd awaited t
-ends_here (Some mark) t e = elim (cases_Bool (is_mark mark t)) [
+ends_here (Some mark) t e = elim (cases_Bool (is_special_of mark t)) [
   | inl is ↦ cc (rw (is) at e)
   | inr other ↦ cc (rw (other) at e)
 ]
-ends_here None t e = elim (cases_Bool (is_mark 44 t)) [
+ends_here None t e = elim (cases_Bool (is_special_of 44 t)) [
   | inl is ↦ record { nothing = refl; comma = is }
-  | inr other ↦ elim (cases_Bool (is_mark 60 t)) [
+  | inr other ↦ elim (cases_Bool (is_special_of 60 t)) [
     | inl is ↦ cc (rw (is) at (rw (other) at e))
-    | inr neither ↦ elim (cases_Bool (is_mark 58 t)) [
+    | inr neither ↦ elim (cases_Bool (is_special_of 58 t)) [
       | inl is ↦ cc (rw (is) at (rw (neither) at (rw (other) at e)))
       | inr none ↦ cc (rw (none) at (rw (neither) at (rw (other) at e)))
     ]
@@ -63,8 +63,8 @@ walks_on ls i d awaited next h walked e =
 pub last_place : (ls : List Lexeme) (i : ℕ) (awaited : Option ℕ) → length ls ≤ i → walk None (values_of (take i ls)) ≡ Some awaited → IsLastPlace (values_of ls)
 last_place ls i awaited h walked e = cc (sym (rw (take_all i ls h) at walked) ∙ e)
 
-pub walked_not : (a : List TokenValue) (c : TokenValue) (b : List TokenValue) → walk None a ≡ Some None → is_mark 44 c ≡ true → walk None (a ++ c ∷ b) ≡ None
+pub walked_not : (a : List TokenValue) (c : TokenValue) (b : List TokenValue) → walk None a ≡ Some None → is_special_of 44 c ≡ true → walk None (a ++ c ∷ b) ≡ None
 walked_not a c b walked is = rw (walk-append a (c ∷ b) None, walked, is) refl
 
-pub not_last : (a : List TokenValue) (c : TokenValue) (b : List TokenValue) → walk None a ≡ Some None → is_mark 44 c ≡ true → IsLastPlace (a ++ c ∷ b) → ⊥
+pub not_last : (a : List TokenValue) (c : TokenValue) (b : List TokenValue) → walk None a ≡ Some None → is_special_of 44 c ≡ true → IsLastPlace (a ++ c ∷ b) → ⊥
 not_last a c b walked is last = last (walked_not a c b walked is)

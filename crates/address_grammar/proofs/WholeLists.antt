@@ -7,8 +7,8 @@ use Rattle.field_tokens.specs.Tokens.{TokenValue, tokens_from, HasTokens}
 use Rattle.field_tokens.specs.Trees.{Tree}
 use Rattle.field_tokens.proofs.TokenLists.{AreTokens-once}
 use Rattle.address_grammar.specs.declared.AddressList.{AddressList}
-use Rattle.address_grammar.specs.private.Lexemes.{HasTokenValues, lacks, are_blank, SplitsAt}
-use Rattle.address_grammar.specs.AddressLists.{MailboxValue, IsMailbox, AreDivided, IsOneMailbox, AreMembers, ElementValue, One, Group, IsElement, SaysPlace, comments_of, HaveTrees, HasAddresses}
+use Rattle.address_grammar.specs.private.Lexemes.{HasMailTokens, lacks_special, are_blank, SplitsAt}
+use Rattle.address_grammar.specs.AddressLists.{MailboxValue, IsMailbox, AreDivided, IsOneMailbox, AreMembers, ElementValue, One, Group, IsElement, SaysPlace, comment_tokens, HaveTrees, HasAddresses}
 use Rattle.address_grammar.specs.private.ListSteps.{SplitsName, SaysGroup, SaysSingle, IsListOf}
 use Rattle.address_grammar.specs.private.ListViews.{element_values, trees_of}
 use Rattle.address_grammar.proofs.LexemeLemmas.{not_lacking}
@@ -21,7 +21,7 @@ pub members_malformed : (ts : List TokenValue) → are_blank ts ≡ false → ((
 members_malformed ts not_blank none ms (inl is) = both_ways (are_blank ts) not_blank is.0
 members_malformed ts not_blank none ms (inr is) = none ms is
 
-pub group_unclosed : (before behind : List TokenValue) → lacks 59 behind ≡ true → (e : ElementValue) → SaysGroup before behind e → ⊥
+pub group_unclosed : (before behind : List TokenValue) → lacks_special 59 behind ≡ true → (e : ElementValue) → SaysGroup before behind e → ⊥
 group_unclosed before behind l (One m) is = is
 group_unclosed before behind l (Group name ms) is = not_lacking 59 is.inner is.after is.semicolon is.is_semicolon (rw (is.whole) at l)
 
@@ -42,14 +42,14 @@ single_malformed ts unnamed none e is = single_mailbox ts none e (element_single
 
 -- ---- whole texts
 
-pub tokens_placed : (text : List ℕ) (tokens : List Token) (values : List TokenValue) → HasTokens Mail text tokens → HasTokenValues text values → tokens ≡ tokens_from 0 values
+pub tokens_placed : (text : List ℕ) (tokens : List Token) (values : List TokenValue) → HasTokens Mail text tokens → HasMailTokens text values → tokens ≡ tokens_from 0 values
 tokens_placed text tokens values has vs = has.placed ∙ ap (tokens_from 0) (AreTokens-once Mail text has.values values has.are_tokens vs.are_tokens)
 
-pub elements_of : (text : List ℕ) (ts : List TokenValue) (es : List ElementValue) (cs : List Tree) → HasTokenValues text ts → HasAddresses text es cs → AreDivided SaysPlace ts es
+pub elements_of : (text : List ℕ) (ts : List TokenValue) (es : List ElementValue) (cs : List Tree) → HasMailTokens text ts → HasAddresses text es cs → AreDivided SaysPlace ts es
 elements_of text ts es cs has list = rw (HasTokenValues-once text ts list.tokens has list.has_tokens) list.are_elements
 
-pub list_made : (text : List ℕ) (tokens : List Token) (ts : List TokenValue) (es : List ElementValue) (cs : List Tree) → HasTokens Mail text tokens → HasTokenValues text ts → AreDivided SaysPlace ts es
-    → HaveTrees text (comments_of tokens) cs → HasAddresses text es cs
+pub list_made : (text : List ℕ) (tokens : List Token) (ts : List TokenValue) (es : List ElementValue) (cs : List Tree) → HasTokens Mail text tokens → HasMailTokens text ts → AreDivided SaysPlace ts es
+    → HaveTrees text (comment_tokens tokens) cs → HasAddresses text es cs
 list_made text tokens ts es cs has values are trees = record {
   tokens = ts;
   has_tokens = values;
@@ -62,7 +62,7 @@ elements_once text es fs cs ds p q = divided_once SaysPlace place_walked place_o
 
 pub comments_once : (text : List ℕ) (es fs : List ElementValue) (cs ds : List Tree) → HasAddresses text es cs → HasAddresses text fs ds → cs ≡ ds
 comments_once text es fs cs ds p q =
-    trees_once text (comments_of (tokens_from 0 p.tokens)) cs ds p.have_trees (rw (← HasTokenValues-once text p.tokens q.tokens p.has_tokens q.has_tokens) at q.have_trees)
+    trees_once text (comment_tokens (tokens_from 0 p.tokens)) cs ds p.have_trees (rw (← HasTokenValues-once text p.tokens q.tokens p.has_tokens q.has_tokens) at q.have_trees)
 
 pub list_is : (text : List ℕ) (es : List ElementValue) (cs : List Tree) (list : AddressList) → HasAddresses text (element_values list.elements) (trees_of list.comments.items) → HasAddresses text es cs → IsListOf es cs list
 list_is text es cs list p q = record {

@@ -11,16 +11,17 @@ use Rattle.encoded_words.proofs.WritableUnits.{one_ascii}
 use Rattle.field_tokens.specs.declared.Style.TheVariants.{Mail}
 use Rattle.field_tokens.specs.declared.TokenKind.{TokenKind}
 use Rattle.field_tokens.specs.declared.TokenKind.TheVariants.{Atom, Quoted, Literal, Special, Gap, Comment}
-use Rattle.field_tokens.specs.Groups.{Inside, End, Plain, Pair, IsInside, IsGroup, inside_octets, depth_of}
+use Rattle.field_tokens.specs.Groups.{Inside, End, Plain, Pair, IsInside, IsEnclosed, inside_octets, depth_of}
 use Rattle.field_tokens.specs.TokenOctets.{is_atom_octet, is_line_octet}
 use Rattle.field_tokens.specs.Tokens.{TokenValue, AreTokens, IsToken, IsLine, quoted_marks}
 use Rattle.address_grammar.specs.declared.Address.{Address}
-use Rattle.address_grammar.specs.private.Lexemes.{is_blank_token, words_of, is_special_kind, is_mark, is_atom_kind, is_word_kind, is_literal_kind, is_part, unquoted, content_of, contents, are_dotted}
+use Rattle.address_grammar.specs.private.Lexemes.{is_blank_token, is_special_of, is_word_kind, is_literal_kind, is_part, unquoted, said_content, contents, are_dotted}
 use Rattle.address_grammar.specs.Addresses.{IsLocal, is_one_literal, is_domain, IsAddress, is_some_atom, is_dot_atom, quoted_octet, quoted_string, local_text, address_text}
 use Rattle.address_grammar.specs.Paths.{HasPath, ComesInPath, in_angles}
 use Rattle.field_tokens.proofs.TokenLines.{line_append}
 use Rattle.address_grammar.proofs.Utf8Lemmas.{quoted_utf8}
 use Rattle.address_grammar.proofs.SoundLemmas.{Shape, IsSound, inner-group, tokens_sound, sound_front, sound_rest, sound_words, contents_utf8, contents_line, contents-words}
+use Rattle.field_tokens.specs.Squeezed.{is_atom_kind, is_special_kind, words_of}
 
 abbrev pub HasShape : TokenValue → Type 0
 HasShape t = Shape t.kind t.octets
@@ -49,7 +50,7 @@ atom_token Special octets rest h shape stops = cc h
 atom_token Gap octets rest h shape stops = cc h
 atom_token Comment octets rest h shape stops = cc h
 
-atom_content : (kind : TokenKind) (octets : List ℕ) → is_atom_kind kind ≡ true → content_of kind octets ≡ octets
+atom_content : (kind : TokenKind) (octets : List ℕ) → is_atom_kind kind ≡ true → said_content kind octets ≡ octets
 atom_content Atom octets h = refl
 atom_content Quoted octets h = cc h
 atom_content Literal octets h = cc h
@@ -66,7 +67,7 @@ special_is Gap h = cc h
 special_is Comment h = cc h
 
 -- a mark is the token of its octet
-pub mark_is : (m : ℕ) (t : TokenValue) → is_mark m t ≡ true → t ≡ record { kind = Special; octets = m ∷ [] }
+pub mark_is : (m : ℕ) (t : TokenValue) → is_special_of m t ≡ true → t ≡ record { kind = Special; octets = m ∷ [] }
 mark_is m t h =
     let parts = and_parts (is_special_kind t.kind) (bytes_eq t.octets (m ∷ [])) h in
     let kind : t.kind ≡ Special = special_is t.kind parts.0 in
@@ -79,8 +80,8 @@ dotted_writes [] h s more rest stops are = cc h
 dotted_writes (w ∷ []) h s more rest stops are =
     (rest, rw (atom_content w.kind w.octets h, append-nil) refl, atom_token w.kind w.octets rest h s.0 stops, are)
 dotted_writes (w ∷ d ∷ ws) h s more rest stops are =
-    let parts = and_parts (is_part false w) (is_mark 46 d && are_dotted (is_part false) ws) h in
-    let others = and_parts (is_mark 46 d) (are_dotted (is_part false) ws) parts.1 in
+    let parts = and_parts (is_part false w) (is_special_of 46 d && are_dotted (is_part false) ws) h in
+    let others = and_parts (is_special_of 46 d) (are_dotted (is_part false) ws) parts.1 in
     let behind : AreTokens Mail (ws ++ more) (contents ws ++ rest) = dotted_writes ws others.1 s.1.1 more rest stops are in
     rw (mark_is 46 d others.0) (
       (46 ∷ (contents ws ++ rest)),
@@ -99,7 +100,7 @@ literal_token Special octets rest h shape = cc h
 literal_token Gap octets rest h shape = cc h
 literal_token Comment octets rest h shape = cc h
 
-literal_content : (kind : TokenKind) (octets : List ℕ) → is_literal_kind kind ≡ true → content_of kind octets ≡ octets
+literal_content : (kind : TokenKind) (octets : List ℕ) → is_literal_kind kind ≡ true → said_content kind octets ≡ octets
 literal_content Literal octets h = refl
 literal_content Atom octets h = cc h
 literal_content Quoted octets h = cc h
@@ -184,10 +185,10 @@ allow_quoted : (ws : List TokenValue) → are_dotted (is_part false) ws ≡ true
 allow_quoted [] h = h
 allow_quoted (w ∷ []) h = atoms_are_words w.kind h
 allow_quoted (w ∷ d ∷ ws) h =
-    let parts = and_parts (is_part false w) (is_mark 46 d && are_dotted (is_part false) ws) h in
-    let others = and_parts (is_mark 46 d) (are_dotted (is_part false) ws) parts.1 in
-    and_from (is_part true w) (is_mark 46 d && are_dotted (is_part true) ws) (atoms_are_words w.kind parts.0)
-    (and_from (is_mark 46 d) (are_dotted (is_part true) ws) others.0 (allow_quoted ws others.1))
+    let parts = and_parts (is_part false w) (is_special_of 46 d && are_dotted (is_part false) ws) h in
+    let others = and_parts (is_special_of 46 d) (are_dotted (is_part false) ws) parts.1 in
+    and_from (is_part true w) (is_special_of 46 d && are_dotted (is_part true) ws) (atoms_are_words w.kind parts.0)
+    (and_from (is_special_of 46 d) (are_dotted (is_part true) ws) others.0 (allow_quoted ws others.1))
 
 atoms_written : (local : List ℕ) → is_dot_atom local ≡ true → WritesLocal local (dotted_tokens (slice_split (λ x. eqb x 46) local))
 atoms_written local h =
@@ -236,7 +237,7 @@ inside_flat (x ∷ octets) = elim (cases_Bool (eqb x 34 || eqb x 92)) [
   | inr other ↦ rw (other) (inside_flat octets)
 ]
 
-quoted_group : (local : List ℕ) → IsGroup quoted_marks (quoted_string local)
+quoted_group : (local : List ℕ) → IsEnclosed quoted_marks (quoted_string local)
 quoted_group local = record {
   inside = inside_of local;
   is_inside = inside_is local;
@@ -256,11 +257,11 @@ unquoted_again (x ∷ octets) = elim (cases_Bool (eqb x 34 || eqb x 92)) [
 
 quoted_written : (local : List ℕ) → is_dot_atom local ≡ false → WritesLocal local (record { kind = Quoted; octets = quoted_string local } ∷ [])
 quoted_written local h =
-    let says : content_of Quoted (quoted_string local) ≡ local = ap (unquoted false) (inner-group (quoted_string local) (flat_map quoted_octet local) refl) ∙ unquoted_again local in
+    let says : said_content Quoted (quoted_string local) ≡ local = ap (unquoted false) (inner-group (quoted_string local) (flat_map quoted_octet local) refl) ∙ unquoted_again local in
     record {
       writes = record { are_tokens = λ more rest stops are. (rest, rw (h) refl, quoted_group local, are) };
       is_local = refl;
-      says = sym (append-nil (content_of Quoted (quoted_string local)) ∙ says);
+      says = sym (append-nil (said_content Quoted (quoted_string local)) ∙ says);
       words = refl;
     }
 

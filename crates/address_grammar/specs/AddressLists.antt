@@ -8,7 +8,7 @@ use Rattle.field_tokens.specs.Tokens.{TokenValue, tokens_from}
 use Rattle.field_tokens.specs.Squeezed.{is_comment}
 use Rattle.field_tokens.specs.Trees.{Tree, HasComment}
 use Rattle.address_grammar.specs.declared.Address.{Address}
-use Rattle.address_grammar.specs.private.Lexemes.{HasTokenValues, is_mark, are_blank}
+use Rattle.address_grammar.specs.private.Lexemes.{HasMailTokens, is_special_of, are_blank}
 use Rattle.address_grammar.specs.Addresses.{is_domain, IsAddress}
 use Rattle.address_grammar.specs.Paths.{IsAngled}
 use Rattle.address_grammar.specs.Phrases.{IsPhrase, SaysPhrase, phrase_items}
@@ -18,7 +18,7 @@ abbrev pub Divided : ℕ → List (List TokenValue) → List TokenValue → Type
 Divided mark [] tokens = ⊥
 Divided mark (part ∷ []) tokens = tokens ≡ part
 Divided mark (part ∷ next ∷ parts) tokens =
-    (divider : TokenValue) × (rest : List TokenValue) × (tokens ≡ part ++ divider ∷ rest) × (is_mark mark divider ≡ true) × Divided mark (next ∷ parts) rest
+    (divider : TokenValue) × (rest : List TokenValue) × (tokens ≡ part ++ divider ∷ rest) × (is_special_of mark divider ≡ true) × Divided mark (next ∷ parts) rest
 
 -- ---- mailboxes
 
@@ -29,7 +29,7 @@ pub record IsHop (tokens : List TokenValue) : Type 0 where
   pub domain : List TokenValue
   pub whole : tokens ≡ before ++ at ∷ domain
   pub nothing_before : are_blank before ≡ true
-  pub is_at : is_mark 64 at ≡ true
+  pub is_at : is_special_of 64 at ≡ true
   pub is_domain : is_domain domain ≡ true
 
 -- domains each with `@` before it, divided by commas (RFC 5322, 4.4, obs-domain-list)
@@ -44,7 +44,7 @@ pub record IsRouted (tokens : List TokenValue) (address : Address) : Type 0 wher
   pub colon : TokenValue
   pub behind : List TokenValue
   pub whole : tokens ≡ route ++ colon ∷ behind
-  pub is_colon : is_mark 58 colon ≡ true
+  pub is_colon : is_special_of 58 colon ≡ true
   pub is_route : IsRoute route
   pub is_address : IsAddress behind address
 
@@ -114,7 +114,7 @@ pub record IsGroupBy (before behind : List TokenValue) (name : List UnitValue) (
   pub semicolon : TokenValue
   pub after : List TokenValue
   pub whole : behind ≡ inner ++ semicolon ∷ after
-  pub is_semicolon : is_mark 59 semicolon ≡ true
+  pub is_semicolon : is_special_of 59 semicolon ≡ true
   pub nothing_after : are_blank after ≡ true
   pub is_phrase : IsPhrase before
   pub says : HasPhraseUnits (phrase_items before) name
@@ -126,7 +126,7 @@ pub record IsGroup (tokens : List TokenValue) (name : List UnitValue) (members :
   pub colon : TokenValue
   pub behind : List TokenValue
   pub whole : tokens ≡ before ++ colon ∷ behind
-  pub is_colon : is_mark 58 colon ≡ true
+  pub is_colon : is_special_of 58 colon ≡ true
   pub group : IsGroupBy before behind name members
 
 abbrev pub IsElement : List TokenValue → ElementValue → Type 0
@@ -141,8 +141,8 @@ SaysPlace tokens [] = are_blank tokens ≡ true
 SaysPlace tokens (e ∷ []) = IsElement tokens e
 SaysPlace tokens (e ∷ f ∷ es) = ⊥
 
-abbrev pub comments_of : List Token → List Token
-comments_of tokens = filter (λ t. is_comment t.kind) tokens
+abbrev pub comment_tokens : List Token → List Token
+comment_tokens tokens = filter (λ t. is_comment t.kind) tokens
 
 -- the trees of comments, one for each
 abbrev pub HaveTrees : List ℕ → List Token → List Tree → Type 0
@@ -154,6 +154,6 @@ HaveTrees text (token ∷ tokens) (tree ∷ trees) = HasComment text token tree 
 -- the text is a list of these elements, and has these comments, in the order of its octets
 pub record HasAddresses (text : List ℕ) (elements : List ElementValue) (comments : List Tree) : Type 0 where
   pub tokens : List TokenValue
-  pub has_tokens : HasTokenValues text tokens
+  pub has_tokens : HasMailTokens text tokens
   pub are_elements : AreDivided SaysPlace tokens elements
-  pub have_trees : HaveTrees text (comments_of (tokens_from 0 tokens)) comments
+  pub have_trees : HaveTrees text (comment_tokens (tokens_from 0 tokens)) comments

@@ -5,7 +5,8 @@ use Rattle.field_tokens.specs.declared.Style.TheVariants.{Mail}
 use Rattle.field_tokens.specs.Tokens.{TokenValue}
 use Rattle.field_tokens.specs.TokenOctets.{is_atom_octet}
 use Rattle.address_grammar.specs.declared.Address.{Address}
-use Rattle.address_grammar.specs.private.Lexemes.{is_mark, is_part, is_literal_kind, words_of, contents, are_dotted}
+use Rattle.address_grammar.specs.private.Lexemes.{is_special_of, is_part, is_literal_kind, contents, are_dotted}
+use Rattle.field_tokens.specs.Squeezed.{words_of}
 
 -- atoms and quoted strings divided by dots
 abbrev pub IsLocal : List TokenValue → Type 0
@@ -26,7 +27,7 @@ pub record IsAddress (tokens : List TokenValue) (address : Address) : Type 0 whe
   pub at : TokenValue
   pub domain : List TokenValue
   pub whole : tokens ≡ local ++ at ∷ domain
-  pub is_at : is_mark 64 at ≡ true
+  pub is_at : is_special_of 64 at ≡ true
   pub is_local : IsLocal local
   pub is_domain : is_domain domain ≡ true
   pub local_says : address.local ≡ contents local

@@ -2,7 +2,7 @@
 use Rattle.std.specs.Prelude.{◌≡◌, ℕ, true, List, [], ◌∷◌, ◌++◌, Option, Some, None}
 use Rattle.field_tokens.specs.Tokens.{TokenValue}
 use Rattle.address_grammar.specs.declared.Address.{Address}
-use Rattle.address_grammar.specs.private.Lexemes.{HasTokenValues, is_mark, lacks, are_blank}
+use Rattle.address_grammar.specs.private.Lexemes.{HasMailTokens, is_special_of, lacks_special, are_blank}
 use Rattle.address_grammar.specs.Addresses.{IsAddress}
 
 -- tokens in angle brackets, what stands before them, and only gaps and comments behind them
@@ -11,15 +11,15 @@ pub record IsAngled (tokens before inner : List TokenValue) : Type 0 where
   pub close_mark : TokenValue
   pub after : List TokenValue
   pub whole : tokens ≡ before ++ open_mark ∷ (inner ++ close_mark ∷ after)
-  pub opens : is_mark 60 open_mark ≡ true
-  pub closes : is_mark 62 close_mark ≡ true
+  pub opens : is_special_of 60 open_mark ≡ true
+  pub closes : is_special_of 62 close_mark ≡ true
   pub behind : are_blank after ≡ true
 
 -- and these are the first brackets
 pub record IsFirstAngled (tokens before inner : List TokenValue) : Type 0 where
   pub angled : IsAngled tokens before inner
-  pub first_open : lacks 60 before ≡ true
-  pub first_close : lacks 62 inner ≡ true
+  pub first_open : lacks_special 60 before ≡ true
+  pub first_close : lacks_special 62 inner ≡ true
 
 -- nothing, or an address
 abbrev pub IsPathOf : List TokenValue → Option Address → Type 0
@@ -37,7 +37,7 @@ pub record IsPath (tokens : List TokenValue) (answer : Option Address) : Type 0 
 -- the text is a path, and the null path has no address
 pub record HasPath (text : List ℕ) (answer : Option Address) : Type 0 where
   pub tokens : List TokenValue
-  pub has_tokens : HasTokenValues text tokens
+  pub has_tokens : HasMailTokens text tokens
   pub is_path : IsPath tokens answer
 
 -- some path has this address

@@ -6,11 +6,11 @@ use Rattle.field_tokens.specs.declared.TokenKind.TheVariants.{Atom, Quoted, Lite
 use Rattle.field_tokens.specs.Tokens.{TokenValue}
 use Rattle.encoded_words.specs.Words.{UnitValue}
 use Rattle.encoded_words.specs.PhraseUnits.{PhraseItem, Atom as AtomItem, Content, Dot, Separator, HasPhraseUnits}
-use Rattle.address_grammar.specs.private.Lexemes.{is_blank_token, are_blank, is_word, is_mark, content_of}
+use Rattle.address_grammar.specs.private.Lexemes.{is_blank_token, are_blank, is_word, is_special_of, said_content}
 
 -- an atom, a quoted string or a dot, or what separates them
 abbrev pub may_stand_in_phrase : TokenValue → Bool
-may_stand_in_phrase t = is_blank_token t || (is_word t || is_mark 46 t)
+may_stand_in_phrase t = is_blank_token t || (is_word t || is_special_of 46 t)
 
 -- one or more words and dots, with gaps and comments anywhere
 pub record IsPhrase (tokens : List TokenValue) : Type 0 where
@@ -19,7 +19,7 @@ pub record IsPhrase (tokens : List TokenValue) : Type 0 where
 
 abbrev pub item_of : TokenKind → List ℕ → PhraseItem
 item_of Atom octets = AtomItem octets
-item_of Quoted octets = Content (content_of Quoted octets)
+item_of Quoted octets = Content (said_content Quoted octets)
 item_of Special octets = Dot
 item_of Gap octets = Separator
 item_of Comment octets = Separator

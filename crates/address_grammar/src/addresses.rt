@@ -1,9 +1,10 @@
 //! One address.
 ghost use Rattle.std.specs.Prelude.{◌≡◌, ◌<◌, length, IfOk, IfSome, IfNone};
-ghost use Rattle.address_grammar.specs.private.Lexemes.{words_of, is_mark as is_mark_of, is_part as is_part_of, BeginsSo, BeginsOther, are_dotted as are_dotted_of};
+ghost use Rattle.address_grammar.specs.private.Lexemes.{is_special_of as is_mark_of, is_part as is_part_of, BeginsSo, BeginsOther, are_dotted as are_dotted_of};
 ghost use Rattle.address_grammar.specs.private.Views.{value_of, values_of};
 ghost use Rattle.address_grammar.specs.Addresses.{is_one_literal as is_one_literal_of, is_domain as is_domain_of, IsAddress};
 ghost use Rattle.address_grammar.specs.declared.Address.{Address};
+ghost use Rattle.field_tokens.specs.Squeezed.{words_of};
 
 use crate::lexemes::{
     Lexeme, are_blank, contents, first_word, is_atom, is_mark, is_word, split_at_mark,

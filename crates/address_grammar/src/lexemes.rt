@@ -3,8 +3,9 @@ ghost use Rattle.std.specs.Prelude.{◌≡◌, ◌<◌, ◌++◌, ◌∷◌, [],
 ghost use Rattle.std.specs.List.{list_all};
 ghost use Rattle.field_tokens.specs.Tokens.{TokenValue, HasTokens};
 ghost use Rattle.field_tokens.specs.declared.Style.TheVariants.{Mail};
-ghost use Rattle.address_grammar.specs.private.Lexemes.{HasTokenValues, is_blank_token, words_of, are_blank as are_blank_of, is_mark as is_mark_of, lacks, is_atom as is_atom_of, is_word as is_word_of, unquoted, content as content_of, contents as contents_of, inner_octets as inner_octets_of, SplitsAt};
+ghost use Rattle.address_grammar.specs.private.Lexemes.{HasMailTokens, is_blank_token, are_blank as are_blank_of, is_special_of as is_mark_of, lacks_special, is_atom as is_atom_of, is_word as is_word_of, unquoted, content as content_of, contents as contents_of, inner_octets as inner_octets_of, SplitsAt};
 ghost use Rattle.address_grammar.specs.private.Views.{value_of, values_of};
+ghost use Rattle.field_tokens.specs.Squeezed.{words_of};
 
 use crate::AddressFault;
 use field_tokens::{Style, Token, TokenKind, read_tokens};
@@ -88,7 +89,7 @@ pub fn split_at_mark<'a, 'b>(
 ) -> Option<(&'b [Lexeme<'a>], &'b [Lexeme<'a>])>
     ensures found { IfSome result (λ x. SplitsAt mark (values_of lexemes.now) (values_of x.0.now) (values_of x.1.now)) }
     ensures shorter { IfSome result (λ x. length x.1.now < length lexemes.now) }
-    ensures none { IfNone result (lacks mark (values_of lexemes.now) ≡ true) }
+    ensures none { IfNone result (lacks_special mark (values_of lexemes.now) ≡ true) }
 {
     let Some(at) = find_mark(lexemes, mark) else {
         return None;
@@ -104,7 +105,7 @@ fn all_other(lexemes: &[Lexeme<'_>], mark: u8) -> bool
 
 /// Whether none of the tokens is the special of this octet.
 pub fn lacks_mark(lexemes: &[Lexeme<'_>], mark: u8) -> bool
-    ensures { result ≡ lacks mark (values_of lexemes.now) }
+    ensures { result ≡ lacks_special mark (values_of lexemes.now) }
 {
     all_other(lexemes, mark)
 }
@@ -112,7 +113,7 @@ pub fn lacks_mark(lexemes: &[Lexeme<'_>], mark: u8) -> bool
 /// The tokens of a text, by their places.
 pub fn mail_tokens(alloc: Global, text: &[u8]) -> Result<Vec<Token>, AddressFault>
     ensures ok { IfOk result (λ tokens. HasTokens Mail text.now tokens.items) }
-    ensures malformed { result ≡ Err AddressFault.Malformed → (tokens : List TokenValue) → ¬ HasTokenValues text.now tokens }
+    ensures malformed { result ≡ Err AddressFault.Malformed → (tokens : List TokenValue) → ¬ HasMailTokens text.now tokens }
 {
     match read_tokens(alloc, Style::Mail, text) {
         Ok(Some(found)) => Ok(found),
@@ -128,7 +129,7 @@ pub fn lexemes_of<'a>(
     tokens: &[Token],
 ) -> Result<Vec<Lexeme<'a>>, Memory>
     requires { HasTokens Mail text.now tokens.now }
-    ensures { IfOk result (λ lexemes. HasTokenValues text.now (values_of lexemes.items)) }
+    ensures { IfOk result (λ lexemes. HasMailTokens text.now (values_of lexemes.items)) }
 {
     let mut lexemes = Vec::new(alloc);
     let mut left = tokens;
@@ -147,8 +148,8 @@ pub fn lexemes_of<'a>(
 
 /// The tokens of a text, by their octets.
 pub fn read_lexemes<'a>(alloc: Global, text: &'a [u8]) -> Result<Vec<Lexeme<'a>>, AddressFault>
-    ensures ok { IfOk result (λ lexemes. HasTokenValues text.now (values_of lexemes.items)) }
-    ensures malformed { result ≡ Err AddressFault.Malformed → (tokens : List TokenValue) → ¬ HasTokenValues text.now tokens }
+    ensures ok { IfOk result (λ lexemes. HasMailTokens text.now (values_of lexemes.items)) }
+    ensures malformed { result ≡ Err AddressFault.Malformed → (tokens : List TokenValue) → ¬ HasMailTokens text.now tokens }
 {
     let found = mail_tokens(alloc, text)?;
     let Ok(lexemes) = lexemes_of(alloc, text, &found) else {

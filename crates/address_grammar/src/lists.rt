@@ -3,7 +3,7 @@ ghost use Rattle.std.specs.Prelude.{◌≡◌, List, IfOk, IfSome, IfNone, OnOk,
 ghost use Rattle.field_tokens.specs.declared.Style.TheVariants.{Mail};
 ghost use Rattle.field_tokens.specs.Tokens.{TokenValue, HasTokens, IsTokenOf};
 ghost use Rattle.field_tokens.specs.Trees.{Tree};
-ghost use Rattle.address_grammar.specs.AddressLists.{MailboxValue, ElementValue, IsMailbox, AreDivided, IsOneMailbox, AreMembers, IsElement, SaysPlace, HaveTrees, comments_of, HasAddresses};
+ghost use Rattle.address_grammar.specs.AddressLists.{MailboxValue, ElementValue, IsMailbox, AreDivided, IsOneMailbox, AreMembers, IsElement, SaysPlace, HaveTrees, comment_tokens, HasAddresses};
 ghost use Rattle.address_grammar.specs.private.ListSteps.{AddsMailbox, AddsPlace, AddsTree, SplitsName, SaysGroup, SaysSingle, IsListOf};
 ghost use Rattle.address_grammar.specs.private.Views.{values_of};
 ghost use Rattle.address_grammar.specs.private.ListViews.{mailbox_values, element_value, element_values, trees_of};
@@ -189,7 +189,7 @@ fn push_comment(
 // The comments among tokens.
 fn read_comments(alloc: Global, text: &[u8], tokens: &[Token]) -> Result<Vec<Comment>, Memory>
     requires { HasTokens Mail text.now tokens.now }
-    ensures { IfOk result (λ made. HaveTrees text.now (comments_of tokens.now) (trees_of made.items)) }
+    ensures { IfOk result (λ made. HaveTrees text.now (comment_tokens tokens.now) (trees_of made.items)) }
 {
     let mut made = Vec::new(alloc);
     for token in tokens {

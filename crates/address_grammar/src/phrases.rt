@@ -1,7 +1,7 @@
 //! Phrases.
 ghost use Rattle.std.specs.Prelude.{◌≡◌, ◌&&◌, not, [], ◌∷◌, true, if◌then◌else◌, IfOk, OnOk, IsTrue, ◌↔◌};
 ghost use Rattle.std.specs.List.{list_all};
-ghost use Rattle.encoded_words.specs.private.Merging.{units_then};
+ghost use Rattle.encoded_words.specs.private.Merging.{all_units_then};
 ghost use Rattle.encoded_words.specs.PhraseUnits.{HasPhraseUnits, begins_free as begins_free_of};
 ghost use Rattle.address_grammar.specs.private.Lexemes.{is_atom as is_atom_of};
 ghost use Rattle.address_grammar.specs.Phrases.{may_stand_in_phrase as may_stand_of, IsPhrase, phrase_items};
@@ -122,7 +122,7 @@ impl PhraseReader {
 
     // The units that were read.
     fn finish(self, alloc: Global) -> Result<Vec<Unit>, Memory>
-        ensures { IfOk result (λ made. unit_values made.items ≡ units_then self.units []) }
+        ensures { IfOk result (λ made. unit_values made.items ≡ all_units_then self.units []) }
     {
         let mut units = self.units;
         units.end_text(alloc)?;

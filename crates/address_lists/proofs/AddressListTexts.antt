@@ -4,7 +4,7 @@ use Rattle.field_tokens.specs.Tokens.{TokenValue}
 use Rattle.field_tokens.specs.Squeezed.{comments_of}
 use Rattle.field_tokens.specs.Comments.{CommentValue}
 use Rattle.field_tokens.proofs.CommentValues.{CommentsSay-once, CommentsSay-some}
-use Rattle.address_grammar.specs.private.Lexemes.{HasTokenValues}
+use Rattle.address_grammar.specs.private.Lexemes.{HasMailTokens}
 use Rattle.address_grammar.specs.AddressLists.{AreDivided, ElementValue, SaysPlace}
 use Rattle.address_lists.specs.ListPieces.{SaysAddresses, AddressesPieces}
 use Rattle.address_grammar.proofs.PathLemmas.{HasTokenValues-once}
@@ -12,7 +12,7 @@ use Rattle.address_grammar.proofs.DividedLemmas.{divided_once}
 use Rattle.address_grammar.proofs.ListLemmas.{place_walked, place_once}
 use Rattle.address_lists.proofs.SoundPhrases.{text_comments}
 
-pub addresses_of : (text : List ℕ) (ts : List TokenValue) (es : List ElementValue) (cs : List CommentValue) → HasTokenValues text ts → SaysAddresses text es cs → AreDivided SaysPlace ts es
+pub addresses_of : (text : List ℕ) (ts : List TokenValue) (es : List ElementValue) (cs : List CommentValue) → HasMailTokens text ts → SaysAddresses text es cs → AreDivided SaysPlace ts es
 addresses_of text ts es cs has says = rw (HasTokenValues-once text ts says.tokens has says.has) says.are_elements
 
 pub record SameAddresses (es fs : List ElementValue) (cs ds : List CommentValue) : Type 0 where

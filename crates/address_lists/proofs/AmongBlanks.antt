@@ -13,12 +13,13 @@ use Rattle.field_tokens.specs.declared.TokenKind.{TokenKind}
 use Rattle.field_tokens.specs.declared.TokenKind.TheVariants.{Atom, Quoted, Literal, Special, Gap, Comment}
 use Rattle.field_tokens.specs.Tokens.{TokenValue}
 use Rattle.address_grammar.specs.declared.Address.{Address}
-use Rattle.address_grammar.specs.private.Lexemes.{is_blank_token, are_blank, words_of, is_special_kind, is_mark, contents}
+use Rattle.address_grammar.specs.private.Lexemes.{is_blank_token, are_blank, is_special_of, contents}
 use Rattle.address_grammar.specs.Addresses.{IsAddress}
 use Rattle.address_grammar.specs.Phrases.{may_stand_in_phrase, IsPhrase, phrase_items, SaysPhrase}
 use Rattle.address_grammar.specs.AddressLists.{Divided, MailboxValue, IsBare, IsNamed, IsMailbox, SayParts, AreDivided, IsOneMailbox, ElementValue, One, Group, IsGroup, IsElement, SaysPlace}
 use Rattle.address_grammar.proofs.SoundLemmas.{contents-words}
 use Rattle.address_lists.proofs.PhrasesAgain.{blank_separators}
+use Rattle.field_tokens.specs.Squeezed.{is_special_kind, words_of}
 
 -- What may be said of tokens with gaps and comments at their ends as well as without.
 pub record StandsAmongBlanks (P : List TokenValue → Type 0) : Type 0 where
@@ -64,9 +65,9 @@ blank_no_special Quoted octets h s = cc h
 blank_no_special Literal octets h s = cc h
 blank_no_special Special octets h s = cc h
 
-mark_not_blank : (m : ℕ) (t u : TokenValue) → is_blank_token t ≡ true → is_mark m u ≡ true → t ≡ u → ⊥
+mark_not_blank : (m : ℕ) (t u : TokenValue) → is_blank_token t ≡ true → is_special_of m u ≡ true → t ≡ u → ⊥
 mark_not_blank m t u blank is e =
-    let here : is_mark m t ≡ true = ap (is_mark m) e ∙ is in
+    let here : is_special_of m t ≡ true = ap (is_special_of m) e ∙ is in
     blank_no_special t.kind t.octets blank (and_parts (is_special_kind t.kind) (bytes_eq t.octets (m ∷ [])) here).0
 
 -- the first token stands before the mark
@@ -75,7 +76,7 @@ record FirstBefore (t : TokenValue) (ts l r : List TokenValue) (m : TokenValue) 
   is_left : l ≡ t ∷ left
   whole : ts ≡ left ++ m ∷ r
 
-first_before : (n : ℕ) (t : TokenValue) (ts l : List TokenValue) (m : TokenValue) (r : List TokenValue) → is_blank_token t ≡ true → is_mark n m ≡ true → t ∷ ts ≡ l ++ m ∷ r → FirstBefore t ts l r m
+first_before : (n : ℕ) (t : TokenValue) (ts l : List TokenValue) (m : TokenValue) (r : List TokenValue) → is_blank_token t ≡ true → is_special_of n m ≡ true → t ∷ ts ≡ l ++ m ∷ r → FirstBefore t ts l r m
 first_before n t ts [] m r blank is e = absurd (mark_not_blank n t m blank is (cc e))
 first_before n t ts (k ∷ l) m r blank is e =
     let head : t ≡ k = cc e in
@@ -92,7 +93,7 @@ nothing_left : (l : List TokenValue) (m : TokenValue) (r : List TokenValue) → 
 nothing_left [] m r e = cc e
 nothing_left (k ∷ l) m r e = cc e
 
-last_behind : (n : ℕ) (ts : List TokenValue) (t : TokenValue) (l : List TokenValue) (m : TokenValue) (r : List TokenValue) → is_blank_token t ≡ true → is_mark n m ≡ true → ts ++ t ∷ [] ≡ l ++ m ∷ r → LastBehind ts t l r m
+last_behind : (n : ℕ) (ts : List TokenValue) (t : TokenValue) (l : List TokenValue) (m : TokenValue) (r : List TokenValue) → is_blank_token t ≡ true → is_special_of n m ≡ true → ts ++ t ∷ [] ≡ l ++ m ∷ r → LastBehind ts t l r m
 last_behind n [] t [] m r blank is e = absurd (mark_not_blank n t m blank is (cc e))
 last_behind n (u ∷ ts) t [] m r blank is e =
     let head : u ≡ m = cc e in
@@ -304,7 +305,7 @@ divided_behind {E = E} Says more a ts es blank d = by d.parts d.divided d.say
     }
 
 -- a part, a comma and the rest
-pub divided_put : {E : Type 0} (Says : List TokenValue → List E → Type 0) (p us rest : List TokenValue) (c : TokenValue) (first others : List E) → us ≡ p ++ c ∷ rest → is_mark 44 c ≡ true → Says p first
+pub divided_put : {E : Type 0} (Says : List TokenValue → List E → Type 0) (p us rest : List TokenValue) (c : TokenValue) (first others : List E) → us ≡ p ++ c ∷ rest → is_special_of 44 c ≡ true → Says p first
     → AreDivided Says rest others → AreDivided Says us (first ++ others)
 divided_put {E = E} Says p us rest c first others whole comma says d = by d.parts d.divided d.say
   where

@@ -14,10 +14,10 @@ use Rattle.field_tokens.specs.Squeezed.{octets_of, comments_of}
 use Rattle.field_tokens.specs.Comments.{CommentValue, CommentsSay}
 use Rattle.field_tokens.proofs.Parts.{EndsNoGap-append, tokens_some, comments_of-append, octets_of-append}
 use Rattle.address_grammar.specs.declared.Address.{Address}
-use Rattle.address_grammar.specs.private.Lexemes.{HasTokenValues, inner_octets, content_of, content, contents}
+use Rattle.address_grammar.specs.private.Lexemes.{HasMailTokens, inner_octets, said_content, content, contents}
 use Rattle.address_grammar.specs.Addresses.{IsAddress}
 use Rattle.address_grammar.specs.AddressLists.{Divided, MailboxValue, IsRoutedOrNot, IsMailbox, SayParts, IsOneMailbox, AreMembers, ElementValue, One, Group, IsElement}
-use Rattle.address_lists.specs.ListPieces.{served_address, is_plain, HasText}
+use Rattle.address_lists.specs.ListPieces.{served_address, has_served_address, HasText}
 use Rattle.address_lists.specs.ListReadBack.{IsServedMailbox, StandsForElement}
 use Rattle.address_grammar.proofs.SoundLemmas.{unquoted_all}
 use Rattle.address_lists.proofs.PlaceTokens.{HasTokenValues-part}
@@ -41,7 +41,7 @@ ascii_rest a b h = pass-back is_ascii (octets_of a) (octets_of b) (rw (octets_of
 ascii_tail : (t : TokenValue) (ts : List TokenValue) → AreAscii (t ∷ ts) → AreAscii ts
 ascii_tail t ts h = pass-back is_ascii t.octets (octets_of ts) h
 
-content_all : (q : ℕ → Bool) (kind : TokenKind) (octets : List ℕ) → list_all q octets ≡ true → list_all q (content_of kind octets) ≡ true
+content_all : (q : ℕ → Bool) (kind : TokenKind) (octets : List ℕ) → list_all q octets ≡ true → list_all q (said_content kind octets) ≡ true
 content_all q Atom octets h = h
 content_all q Literal octets h = h
 content_all q Special octets h = h
@@ -99,9 +99,9 @@ ascii_members ts ms h (inr d) = ascii_parts d.parts ts ms h d.divided d.say
 pub own_mailbox : (m : MailboxValue) → IsAsServed m → IsServedMailbox m m
 own_mailbox m h = record { phrase = refl; display = refl; angle = refl; address = h }
 
-own_plain : (ms : List MailboxValue) → AllByRecursion IsAsServed ms → list_all is_plain ms ≡ true
+own_plain : (ms : List MailboxValue) → AllByRecursion IsAsServed ms → list_all has_served_address ms ≡ true
 own_plain [] all = refl
-own_plain (m ∷ ms) all = and_from (is_plain m) (list_all is_plain ms) (ap is_some all.0) (own_plain ms all.1)
+own_plain (m ∷ ms) all = and_from (has_served_address m) (list_all has_served_address ms) (ap is_some all.0) (own_plain ms all.1)
 
 own_mailboxes : (ms : List MailboxValue) → AllByRecursion IsAsServed ms → AllZip IsServedMailbox ms ms
 own_mailboxes [] all = tt
@@ -117,9 +117,9 @@ ascii_stands ts (Group name ms) h is =
 
 -- ---- the tokens without gaps at both ends
 
-text_made : (ts text : List TokenValue) → HasTokenValues (octets_of ts) ts → AreAscii ts → HasText ts text → AreMade text (octets_of text ∷ [])
+text_made : (ts text : List TokenValue) → HasMailTokens (octets_of ts) ts → AreAscii ts → HasText ts text → AreMade text (octets_of text ∷ [])
 text_made ts text has h is =
-    let part = HasTokenValues-part (octets_of ts) is.lead text is.trail (subst (HasTokenValues (octets_of ts)) is.whole has) in
+    let part = HasTokenValues-part (octets_of ts) is.lead text is.trail (subst (HasMailTokens (octets_of ts)) is.whole has) in
     let whole : AreAscii (is.lead ++ (text ++ is.trail)) = subst AreAscii is.whole h in
     record {
       are_tokens = part.are_tokens;
@@ -157,7 +157,7 @@ ascii_member_again ts text m values is h has = record {
 
 -- what is known of an element in its place
 pub record IsElementIn (ts : List TokenValue) (e : ElementValue) (values : List CommentValue) : Type 0 where
-  pub text : HasTokenValues (octets_of ts) ts
+  pub text : HasMailTokens (octets_of ts) ts
   pub is_element : IsElement ts e
   pub say : CommentsSay (comments_of ts) values
 

@@ -6,12 +6,12 @@ use Rattle.encoded_words.specs.Words.{UnitValue}
 use Rattle.encoded_words.proofs.AllUnits.{HasPhraseUnits-some}
 use Rattle.field_tokens.specs.declared.Style.TheVariants.{Mail}
 use Rattle.field_tokens.specs.Tokens.{TokenValue}
-use Rattle.field_tokens.specs.Squeezed.{comments_of}
+use Rattle.field_tokens.specs.Squeezed.{comments_of, words_of}
 use Rattle.field_tokens.specs.Comments.{CommentValue}
 use Rattle.field_tokens.proofs.CommentValues.{CommentsSay-some}
 use Rattle.field_tokens.proofs.DecideTokens.{decide_tokens}
 use Rattle.address_grammar.specs.declared.Address.{Address}
-use Rattle.address_grammar.specs.private.Lexemes.{is_part, is_mark, lacks, words_of, contents, are_blank, are_dotted, SplitsAt}
+use Rattle.address_grammar.specs.private.Lexemes.{is_part, is_special_of, lacks_special, contents, are_blank, are_dotted, SplitsAt}
 use Rattle.address_grammar.specs.Addresses.{is_domain, IsAddress}
 use Rattle.address_grammar.specs.Phrases.{IsPhrase, phrase_items, SaysPhrase}
 use Rattle.address_grammar.specs.AddressLists.{IsHop, IsRoute, MailboxValue, IsRoutedOrNot, IsNamed, IsMailbox, SayParts, IsOneMailbox, AreMembers, ElementValue, One, Group, IsGroupBy, IsElement, SaysPlace}
@@ -31,13 +31,13 @@ use Rattle.address_lists.proofs.AddressListTexts.{addresses_of}
 
 -- ---- marks
 
-pub splits_or_lacks : (m : ℕ) (ts : List TokenValue) → ((before after : List TokenValue) × SplitsAt m ts before after) ⊎ (lacks m ts ≡ true)
+pub splits_or_lacks : (m : ℕ) (ts : List TokenValue) → ((before after : List TokenValue) × SplitsAt m ts before after) ⊎ (lacks_special m ts ≡ true)
 splits_or_lacks m [] = inr refl
-splits_or_lacks m (t ∷ ts) = elim (cases_Bool (is_mark m t)) [
+splits_or_lacks m (t ∷ ts) = elim (cases_Bool (is_special_of m t)) [
   | inl is ↦ inl ([], ts, record { at = t; whole = refl; is_at = is; first = refl })
   | inr other ↦ elim (splits_or_lacks m ts) [
-    | inl s ↦ inl (t ∷ s.0, s.1, record { at = s.2.at; whole = ap (λ r. t ∷ r) s.2.whole; is_at = s.2.is_at; first = and_from (not (is_mark m t)) (lacks m s.0) (ap not other) s.2.first })
-    | inr l ↦ inr (and_from (not (is_mark m t)) (lacks m ts) (ap not other) l)
+    | inl s ↦ inl (t ∷ s.0, s.1, record { at = s.2.at; whole = ap (λ r. t ∷ r) s.2.whole; is_at = s.2.is_at; first = and_from (not (is_special_of m t)) (lacks_special m s.0) (ap not other) s.2.first })
+    | inr l ↦ inr (and_from (not (is_special_of m t)) (lacks_special m ts) (ap not other) l)
   ]
 ]
 
@@ -213,7 +213,7 @@ decide_single ts unnamed = elim (decide_mailbox ts) [
 decide_element : (ts : List TokenValue) → Found (IsElement ts)
 decide_element ts = elim (splits_or_lacks 58 ts) [
   | inr l ↦ decide_single ts (no_name ts l)
-  | inl s ↦ elim (cases_Bool (lacks 60 s.0)) [
+  | inl s ↦ elim (cases_Bool (lacks_special 60 s.0)) [
     | inr other ↦ decide_single ts (name_open ts s.0 s.1 s.2 other)
     | inl closed ↦
         let name : SplitsName ts s.0 s.1 = record { splits = s.2; closed = closed } in

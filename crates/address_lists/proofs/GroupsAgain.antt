@@ -11,10 +11,10 @@ use Rattle.field_tokens.specs.Tokens.{TokenValue}
 use Rattle.field_tokens.specs.Squeezed.{octets_of, comments_of, space}
 use Rattle.field_tokens.specs.Comments.{CommentValue, CommentsSay, CommentsPieces}
 use Rattle.field_tokens.proofs.Parts.{comments_of-append}
-use Rattle.address_grammar.specs.private.Lexemes.{HasTokenValues, is_blank_token, is_mark, are_blank}
+use Rattle.address_grammar.specs.private.Lexemes.{HasMailTokens, is_blank_token, is_special_of, are_blank}
 use Rattle.address_lists.specs.PhrasePieces.{PlacePieces}
 use Rattle.address_grammar.specs.AddressLists.{Divided, MailboxValue, SayParts, AreDivided, IsOneMailbox, AreMembers, Group, IsGroup}
-use Rattle.address_lists.specs.ListPieces.{is_plain, group_units, no_members, MemberPieces, with_comma, MembersPieces, InnerPieces, GroupPieces, Kept, Emptied}
+use Rattle.address_lists.specs.ListPieces.{has_served_address, group_units, no_members, MemberPieces, with_comma, MembersPieces, InnerPieces, GroupPieces, Kept, Emptied}
 use Rattle.address_lists.specs.ListReadBack.{IsServedMailbox}
 use Rattle.address_grammar.proofs.SoundLemmas.{IsSound, sound_front, sound_rest}
 use Rattle.address_lists.proofs.PlaceTokens.{HasTokenValues-part}
@@ -33,22 +33,22 @@ use Rattle.address_lists.proofs.AsciiElements.{ascii_member_again}
 
 -- what stands before a mark in a text, and what stands behind it
 pub record CutsText (n : ℕ) (ts before after : List TokenValue) : Type 0 where
-  pub front : HasTokenValues (octets_of before) before
-  pub rest : HasTokenValues (octets_of after) after
+  pub front : HasMailTokens (octets_of before) before
+  pub rest : HasMailTokens (octets_of after) after
   pub comments : comments_of ts ≡ comments_of before ++ comments_of after
 
-pub cut_text : (n : ℕ) (ts before after : List TokenValue) (t : TokenValue) → HasTokenValues (octets_of ts) ts → ts ≡ before ++ t ∷ after → is_mark n t ≡ true → CutsText n ts before after
+pub cut_text : (n : ℕ) (ts before after : List TokenValue) (t : TokenValue) → HasMailTokens (octets_of ts) ts → ts ≡ before ++ t ∷ after → is_special_of n t ≡ true → CutsText n ts before after
 cut_text n ts before after t has whole is =
     let behind : ts ≡ (before ++ t ∷ []) ++ (after ++ []) = whole ∙ sym (append_assoc before (t ∷ []) after) ∙ ap (λ r. (before ++ t ∷ []) ++ r) (sym (append-nil after)) in
     record {
-      front = HasTokenValues-part (octets_of ts) [] before (t ∷ after) (subst (HasTokenValues (octets_of ts)) whole has);
-      rest = HasTokenValues-part (octets_of ts) (before ++ t ∷ []) after [] (subst (HasTokenValues (octets_of ts)) behind has);
+      front = HasTokenValues-part (octets_of ts) [] before (t ∷ after) (subst (HasMailTokens (octets_of ts)) whole has);
+      rest = HasTokenValues-part (octets_of ts) (before ++ t ∷ []) after [] (subst (HasMailTokens (octets_of ts)) behind has);
       comments = ap comments_of whole ∙ mark_comments n before after t is;
     }
 
 -- ---- members
 
-member_again : (b : Bool) (ts : List TokenValue) (m : MailboxValue) (values : List CommentValue) (pieces : List (List ℕ)) → list_all is_ascii (octets_of ts) ≡ b → IsMailboxIn ts m values → is_plain m ≡ true
+member_again : (b : Bool) (ts : List TokenValue) (m : MailboxValue) (values : List CommentValue) (pieces : List (List ℕ)) → list_all is_ascii (octets_of ts) ≡ b → IsMailboxIn ts m values → has_served_address m ≡ true
     → MemberPieces b ts pieces → IsMailboxAgain m values pieces
 member_again true ts m values pieces ascii is plain given = rw (given.2) (ascii_member_again ts given.0 m values is ascii given.1)
 member_again false ts m values pieces other is plain given = plain_again ts m values pieces is plain given
@@ -85,18 +85,18 @@ next_member m ms front behind first others one more = record {
   are_made = made_divided one.tokens more.tokens first others one.are_made more.are_made;
 }
 
-all_plain : (m : MailboxValue) (ms : List MailboxValue) → list_all is_plain (m ∷ ms) ≡ true → (is_plain m ≡ true) × (list_all is_plain ms ≡ true)
-all_plain m ms h = and_parts (is_plain m) (list_all is_plain ms) h
+all_plain : (m : MailboxValue) (ms : List MailboxValue) → list_all has_served_address (m ∷ ms) ≡ true → (has_served_address m ≡ true) × (list_all has_served_address ms ≡ true)
+all_plain m ms h = and_parts (has_served_address m) (list_all has_served_address ms) h
 
-one_member : (p : List TokenValue) (ms : List MailboxValue) (values : List CommentValue) (pieces : List (List ℕ)) → HasTokenValues (octets_of p) p → IsOneMailbox p ms → list_all is_plain ms ≡ true
+one_member : (p : List TokenValue) (ms : List MailboxValue) (values : List CommentValue) (pieces : List (List ℕ)) → HasMailTokens (octets_of p) p → IsOneMailbox p ms → list_all has_served_address ms ≡ true
     → CommentsSay (comments_of p) values → MemberPieces (list_all is_ascii (octets_of p)) p pieces → AreMailboxesAgain ms values pieces
 one_member p [] values pieces has is plain say given = absurd is
 one_member p (m ∷ []) values pieces has is plain say given =
     last_member m values pieces (member_again (list_all is_ascii (octets_of p)) p m values pieces refl (record { text = has; is_mailbox = is; say = say }) (all_plain m [] plain).0 given)
 one_member p (m ∷ n ∷ ms) values pieces has is plain say given = absurd is
 
-more_members : (p : List TokenValue) (ms ns : List MailboxValue) (front behind : List CommentValue) (first others : List (List ℕ)) → HasTokenValues (octets_of p) p → IsOneMailbox p ms → list_all is_plain (ms ++ ns) ≡ true
-    → CommentsSay (comments_of p) front → MemberPieces (list_all is_ascii (octets_of p)) p first → (list_all is_plain ns ≡ true → AreMailboxesAgain ns behind others)
+more_members : (p : List TokenValue) (ms ns : List MailboxValue) (front behind : List CommentValue) (first others : List (List ℕ)) → HasMailTokens (octets_of p) p → IsOneMailbox p ms → list_all has_served_address (ms ++ ns) ≡ true
+    → CommentsSay (comments_of p) front → MemberPieces (list_all is_ascii (octets_of p)) p first → (list_all has_served_address ns ≡ true → AreMailboxesAgain ns behind others)
     → AreMailboxesAgain (ms ++ ns) (front ++ behind) (with_comma first ++ others)
 more_members p [] ns front behind first others has is plain say given more = absurd is
 more_members p (m ∷ []) ns front behind first others has is plain say given more =
@@ -104,16 +104,16 @@ more_members p (m ∷ []) ns front behind first others has is plain say given mo
     next_member m ns front behind first others (member_again (list_all is_ascii (octets_of p)) p m front first refl (record { text = has; is_mailbox = is; say = say }) parts.0 given) (more parts.1)
 more_members p (m ∷ n ∷ ms) ns front behind first others has is plain say given more = absurd is
 
-pub MembersPieces-read : (parts : List (List TokenValue)) (ts : List TokenValue) (ms : List MailboxValue) (values : List CommentValue) (pieces : List (List ℕ)) → HasTokenValues (octets_of ts) ts → Divided 44 parts ts
-    → SayParts IsOneMailbox parts ms → list_all is_plain ms ≡ true → CommentsSay (comments_of ts) values → MembersPieces parts pieces → AreMailboxesAgain ms values pieces
+pub MembersPieces-read : (parts : List (List TokenValue)) (ts : List TokenValue) (ms : List MailboxValue) (values : List CommentValue) (pieces : List (List ℕ)) → HasMailTokens (octets_of ts) ts → Divided 44 parts ts
+    → SayParts IsOneMailbox parts ms → list_all has_served_address ms ≡ true → CommentsSay (comments_of ts) values → MembersPieces parts pieces → AreMailboxesAgain ms values pieces
 MembersPieces-read [] ts ms values pieces has d say plain comments given = absurd d
 MembersPieces-read (p ∷ []) ts ms values pieces has d say plain comments given =
     let all : ms ≡ say.0 = say.2 ∙ ap (λ r. say.0 ++ r) say.4 ∙ append-nil say.0 in
-    rw (all) (one_member p say.0 values pieces (subst (λ r. HasTokenValues (octets_of r) r) d has) say.3 (rw (← all) plain) (subst (λ r. CommentsSay (comments_of r) values) d comments) given)
+    rw (all) (one_member p say.0 values pieces (subst (λ r. HasMailTokens (octets_of r) r) d has) say.3 (rw (← all) plain) (subst (λ r. CommentsSay (comments_of r) values) d comments) given)
 MembersPieces-read (p ∷ q ∷ parts) ts ms values pieces has d say plain comments given =
     let cut = cut_text 44 ts p d.1 d.0 has d.2 d.3 in
     let both = say_both (comments_of p) (comments_of d.1) values (subst (λ r. CommentsSay r values) cut.comments comments) in
-    let both_plain : list_all is_plain (say.0 ++ say.1) ≡ true = subst (λ r. list_all is_plain r ≡ true) say.2 plain in
+    let both_plain : list_all has_served_address (say.0 ++ say.1) ≡ true = subst (λ r. list_all has_served_address r ≡ true) say.2 plain in
     let made = more_members p say.0 say.1 both.first both.more given.0 given.1 cut.front say.3 both_plain both.first_say given.2
     (λ rest_plain. MembersPieces-read (q ∷ parts) d.1 say.1 both.more given.1 cut.rest d.4 say.4 rest_plain both.more_say given.3) in
     subst (λ r. AreMailboxesAgain r values pieces) (sym say.2) (subst (λ r. AreMailboxesAgain (say.0 ++ say.1) r pieces) (sym both.whole) (subst (AreMailboxesAgain (say.0 ++ say.1) (both.first ++ both.more)) (sym given.4) made))
@@ -137,7 +137,7 @@ some_members_said : (ts : List TokenValue) (ms : List MailboxValue) → are_blan
 some_members_said ts ms filled (inl none) = absurd (both_ways (are_blank ts) filled none.0)
 some_members_said ts ms filled (inr d) = d
 
-inner_again : (ts : List TokenValue) (ms : List MailboxValue) (values : List CommentValue) (pieces : List (List ℕ)) → HasTokenValues (octets_of ts) ts → AreMembers ts ms → list_all is_plain ms ≡ true → CommentsSay (comments_of ts) values
+inner_again : (ts : List TokenValue) (ms : List MailboxValue) (values : List CommentValue) (pieces : List (List ℕ)) → HasMailTokens (octets_of ts) ts → AreMembers ts ms → list_all has_served_address ms ≡ true → CommentsSay (comments_of ts) values
     → InnerPieces ts pieces → IsInnerAgain ms values pieces
 inner_again ts ms values pieces has are plain say (inl given) =
     let b = comments_behind (comments_of ts) values pieces (text_line_comments (octets_of ts) ts has) say given.1 in
@@ -185,7 +185,7 @@ kept_comments n i b =
     ∙ ap (λ r. comments_of n ++ r) (mark_comments 59 (i ++ space ∷ []) b (mark 59) refl ∙ ap (λ r. r ++ comments_of b) (spaced_comments i))
 
 -- the three parts of a group that are written beside each other
-kept_made : (name : List UnitValue) (ms : List MailboxValue) (v w x : List CommentValue) (first inner comments : List (List ℕ)) → list_all is_plain ms ≡ true → MadePhrase name v first → IsInnerAgain ms w inner → MadeBehind x comments
+kept_made : (name : List UnitValue) (ms : List MailboxValue) (v w x : List CommentValue) (first inner comments : List (List ℕ)) → list_all has_served_address ms ≡ true → MadePhrase name v first → IsInnerAgain ms w inner → MadeBehind x comments
     → IsElementAgain (Group name ms) (v ++ (w ++ x)) (first ++ (58 ∷ []) ∷ (inner ++ (59 ∷ []) ∷ comments))
 kept_made name ms v w x first inner comments plain n i b =
     let whole : List TokenValue = (n.tokens ++ space ∷ []) ++ mark 58 ∷ ((i.tokens ++ space ∷ []) ++ mark 59 ∷ b.tokens) in
@@ -228,8 +228,8 @@ kept_made name ms v w x first inner comments plain n i b =
     }
 
 -- the pieces of a group whose members can be served
-kept_again : (ts : List TokenValue) (name : List UnitValue) (ms : List MailboxValue) (values : List CommentValue) (first inner comments : List (List ℕ)) → HasTokenValues (octets_of ts) ts → (g : IsGroup ts name ms)
-    → CommentsSay (comments_of ts) values → list_all is_plain ms ≡ true → PlacePieces g.before first → InnerPieces g.group.inner inner → CommentsPieces (comments_of g.group.after) comments
+kept_again : (ts : List TokenValue) (name : List UnitValue) (ms : List MailboxValue) (values : List CommentValue) (first inner comments : List (List ℕ)) → HasMailTokens (octets_of ts) ts → (g : IsGroup ts name ms)
+    → CommentsSay (comments_of ts) values → list_all has_served_address ms ≡ true → PlacePieces g.before first → InnerPieces g.group.inner inner → CommentsPieces (comments_of g.group.after) comments
     → IsElementAgain (Group name ms) values (first ++ (58 ∷ []) ∷ (inner ++ (59 ∷ []) ∷ comments))
 kept_again ts name ms values first inner comments has g say plain place members behind =
     let outer = cut_text 58 ts g.before g.behind g.colon has g.whole g.is_colon in
@@ -249,8 +249,8 @@ group_sound ts name ms sound g =
     (sound_front g.before (g.colon ∷ g.behind) outer, sound_front g.group.inner (g.group.semicolon ∷ g.group.after) within)
 
 -- the pieces of a group with an address that can't be served
-emptied_group : (ts : List TokenValue) (name : List UnitValue) (ms : List MailboxValue) (values : List CommentValue) (words comments : List (List ℕ)) → HasTokenValues (octets_of ts) ts → IsGroup ts name ms → CommentsSay (comments_of ts) values
-    → list_all is_plain ms ≡ false → WriteAll (group_units name ms) words → CommentsPieces (comments_of ts) comments → IsElementAgain (Group name ms) values (words ++ no_members ∷ comments)
+emptied_group : (ts : List TokenValue) (name : List UnitValue) (ms : List MailboxValue) (values : List CommentValue) (words comments : List (List ℕ)) → HasMailTokens (octets_of ts) ts → IsGroup ts name ms → CommentsSay (comments_of ts) values
+    → list_all has_served_address ms ≡ false → WriteAll (group_units name ms) words → CommentsPieces (comments_of ts) comments → IsElementAgain (Group name ms) values (words ++ no_members ∷ comments)
 emptied_group ts name ms values words comments has g say other writes are =
     let sound = group_sound ts name ms (text_sound ts has) g in
     let stand = group_stands g.before name ms sound.0 g.group.says (members_sound g.group.inner ms sound.1 g.group.are_members) in
@@ -265,7 +265,7 @@ emptied_group ts name ms values words comments has g say other writes are =
     }
 
 -- the pieces of a group
-pub GroupPieces-read : (ts : List TokenValue) (name : List UnitValue) (ms : List MailboxValue) (values : List CommentValue) (pieces : List (List ℕ)) → HasTokenValues (octets_of ts) ts → IsGroup ts name ms
+pub GroupPieces-read : (ts : List TokenValue) (name : List UnitValue) (ms : List MailboxValue) (values : List CommentValue) (pieces : List (List ℕ)) → HasMailTokens (octets_of ts) ts → IsGroup ts name ms
     → CommentsSay (comments_of ts) values → GroupPieces ts pieces → IsElementAgain (Group name ms) values pieces
 GroupPieces-read ts name ms values pieces has is say (Kept n ns first inner comments g plain place members behind whole) =
     let same : Group name ms ≡ Group n ns = IsElement-once ts (Group name ms) (Group n ns) is g in

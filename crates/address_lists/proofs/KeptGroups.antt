@@ -8,10 +8,10 @@ use Rattle.encoded_words.specs.Words.{UnitValue}
 use Rattle.field_tokens.specs.Tokens.{TokenValue}
 use Rattle.field_tokens.specs.Squeezed.{octets_of, comments_of}
 use Rattle.field_tokens.specs.Comments.{CommentsPieces, AddsPieces}
-use Rattle.address_grammar.specs.private.Lexemes.{lacks, are_blank, SplitsAt}
+use Rattle.address_grammar.specs.private.Lexemes.{lacks_special, are_blank, SplitsAt}
 use Rattle.address_lists.specs.PhrasePieces.{PlacePieces}
 use Rattle.address_grammar.specs.AddressLists.{Divided, SayParts, AreDivided, MailboxValue, IsMailbox, IsOneMailbox, AreMembers, IsGroupBy, IsGroup}
-use Rattle.address_lists.specs.ListPieces.{is_plain, group_units, MailboxPieces, with_comma, MemberPieces, MembersPieces, InnerPieces, GroupPieces}
+use Rattle.address_lists.specs.ListPieces.{has_served_address, group_units, MailboxPieces, with_comma, MemberPieces, MembersPieces, InnerPieces, GroupPieces}
 use Rattle.address_lists.specs.private.ListWriting.{CanBeWritten, EmptiedPieces, AsciiPieces, IsPlainGroup, IsSomeMailbox, AreSomeMailboxes, AreSomeMembers, GivesMember, GivesMembers}
 use Rattle.address_grammar.specs.private.Walks.{SplitsPlace, IsLastPlace}
 use Rattle.address_grammar.proofs.LexemeLemmas.{not_lacking, cut_once}
@@ -119,7 +119,7 @@ inner_mailboxes ts some known = members_divided ts known.0 some known.1
 
 -- ---- groups
 
-pub no_colon : (ts : List TokenValue) → IsPlainGroup ts → lacks 58 ts ≡ true → ⊥
+pub no_colon : (ts : List TokenValue) → IsPlainGroup ts → lacks_special 58 ts ≡ true → ⊥
 no_colon ts g l = let is = g.group in not_lacking 58 is.before is.behind is.colon is.is_colon (rw (is.whole) at l)
 
 pub group_at : (ts before behind : List TokenValue) (g : IsPlainGroup ts) → SplitsAt 58 ts before behind → IsGroupBy before behind g.name g.members
@@ -128,7 +128,7 @@ group_at ts before behind g s =
     let cut = cut_once 58 before is.before s.at is.colon behind is.behind s.first (phrase_lacks 58 is.before (λ e. omega (arith, e)) is.group.is_phrase) s.is_at is.is_colon (sym s.whole ∙ is.whole) in
     rw (cut.front, cut.rest) is.group
 
-pub no_semicolon : (ts before behind : List TokenValue) → IsPlainGroup ts → SplitsAt 58 ts before behind → lacks 59 behind ≡ true → ⊥
+pub no_semicolon : (ts before behind : List TokenValue) → IsPlainGroup ts → SplitsAt 58 ts before behind → lacks_special 59 behind ≡ true → ⊥
 no_semicolon ts before behind g s l = let is = group_at ts before behind g s in not_lacking 59 is.inner is.after is.semicolon is.is_semicolon (rw (is.whole) at l)
 
 pub inner_known : (ts before behind inner after : List TokenValue) → IsPlainGroup ts → SplitsAt 58 ts before behind → SplitsAt 59 behind inner after → AreSomeMembers inner
@@ -167,7 +167,7 @@ kept_adds ts before behind inner after old a b c d new g s t p e q f r = record 
       ∙ append_assoc old p.pieces ((58 ∷ []) ∷ (q.pieces ++ (59 ∷ []) ∷ r.pieces));
 }
 
-pub emptied_group : (ts : List TokenValue) (name : List UnitValue) (ms : List MailboxValue) (ps : List (List ℕ)) → IsGroup ts name ms → list_all is_plain ms ≡ false → EmptiedPieces (group_units name ms) ts ps → GroupPieces ts ps
+pub emptied_group : (ts : List TokenValue) (name : List UnitValue) (ms : List MailboxValue) (ps : List (List ℕ)) → IsGroup ts name ms → list_all has_served_address ms ≡ false → EmptiedPieces (group_units name ms) ts ps → GroupPieces ts ps
 emptied_group ts name ms ps is plain e = GroupPieces.Emptied name ms e.words e.comments is plain e.write e.comments_are e.pieces_are
 
 pub group_some : (ts : List TokenValue) (ps : List (List ℕ)) → GroupPieces ts ps → ps ≢ []

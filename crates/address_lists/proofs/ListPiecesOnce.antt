@@ -11,13 +11,13 @@ use Rattle.field_tokens.specs.Squeezed.{is_gap, octets_of, comments_of}
 use Rattle.field_tokens.specs.Comments.{CommentsPieces}
 use Rattle.field_tokens.proofs.CommentValues.{CommentsPieces-once}
 use Rattle.address_grammar.specs.declared.Address.{Address}
-use Rattle.address_grammar.specs.private.Lexemes.{lacks, are_blank}
+use Rattle.address_grammar.specs.private.Lexemes.{lacks_special, are_blank}
 use Rattle.address_grammar.specs.Addresses.{address_text}
 use Rattle.address_grammar.specs.Paths.{IsAngled, IsFirstAngled, in_angles}
 use Rattle.address_lists.specs.PhrasePieces.{HasCore, PhrasePieces, PlacePieces}
 use Rattle.address_grammar.specs.private.PhraseSteps.{BeginsNoGap}
 use Rattle.address_grammar.specs.AddressLists.{Divided, MailboxValue, IsNamedBy, IsNamed, IsMailbox, IsOneMailbox, IsGroup, SaysPlace}
-use Rattle.address_lists.specs.ListPieces.{served_address, is_plain, mailbox_units, group_units, no_members, MailboxPieces, Bare, Angled, Named, Emptied, HasText, MemberPieces, with_comma, MembersPieces, InnerPieces, GroupPieces, Kept, ElementPieces, PlaceOfListPieces, followed_by, PlacesPieces, AddressesPieces}
+use Rattle.address_lists.specs.ListPieces.{served_address, has_served_address, mailbox_units, group_units, no_members, MailboxPieces, Bare, Angled, Named, Emptied, HasText, MemberPieces, with_comma, MembersPieces, InnerPieces, GroupPieces, Kept, ElementPieces, PlaceOfListPieces, comma_followed, PlacesPieces, AddressesPieces}
 use Rattle.address_grammar.proofs.LexemeLemmas.{cut_once}
 use Rattle.address_grammar.proofs.PathLemmas.{SameAngles, angles_once, HasTokenValues-once}
 use Rattle.address_grammar.proofs.MailboxLemmas.{phrase_lacks, says_lacks, routed_lacks}
@@ -60,10 +60,10 @@ served_same ts m n s t p q e f =
 units_same : (ts : List TokenValue) (m n : MailboxValue) (vs ws : List (List ℕ)) → IsMailbox ts m → IsMailbox ts n → WriteAll (mailbox_units m) vs → WriteAll (mailbox_units n) ws → vs ≡ ws
 units_same ts m n vs ws p q v w = WriteAll-once (mailbox_units n) vs ws (subst (λ k. WriteAll (mailbox_units k) vs) (IsMailbox-once ts m n p q) v) w
 
-open_first : (before inner : List TokenValue) (m : MailboxValue) → IsNamedBy before inner m → lacks 60 before ≡ true
+open_first : (before inner : List TokenValue) (m : MailboxValue) → IsNamedBy before inner m → lacks_special 60 before ≡ true
 open_first before inner m named = says_lacks 60 before m.phrase m.display (λ e. omega (arith, e)) named.says
 
-close_first : (before inner : List TokenValue) (m : MailboxValue) → IsNamedBy before inner m → lacks 62 inner ≡ true
+close_first : (before inner : List TokenValue) (m : MailboxValue) → IsNamedBy before inner m → lacks_special 62 inner ≡ true
 close_first before inner m named = routed_lacks 62 inner m.address (λ e. omega (arith, e)) (λ e. omega (arith, e)) (λ e. omega (arith, e)) (λ e. omega (arith, e)) named.address
 
 abbrev first_angled : (ts before inner : List TokenValue) (m : MailboxValue) → IsAngled ts before inner → IsNamedBy before inner m → IsFirstAngled ts before inner
@@ -153,8 +153,8 @@ groups_same ts us vs ms ns p q =
     p.group.is_semicolon q.group.is_semicolon (sym p.group.whole ∙ name.rest ∙ q.group.whole) in
     record { before = name.front; inner = inner.front; after = inner.rest }
 
-plain_or_not : (ts : List TokenValue) (us vs : List UnitValue) (ms ns : List MailboxValue) → IsGroup ts us ms → IsGroup ts vs ns → list_all is_plain ms ≡ true → list_all is_plain ns ≡ false → ⊥
-plain_or_not ts us vs ms ns p q e f = both_ways (list_all is_plain ns) f (sym (ap (list_all is_plain) (IsGroup-once ts us vs ms ns p q).members) ∙ e)
+plain_or_not : (ts : List TokenValue) (us vs : List UnitValue) (ms ns : List MailboxValue) → IsGroup ts us ms → IsGroup ts vs ns → list_all has_served_address ms ≡ true → list_all has_served_address ns ≡ false → ⊥
+plain_or_not ts us vs ms ns p q e f = both_ways (list_all has_served_address ns) f (sym (ap (list_all has_served_address) (IsGroup-once ts us vs ms ns p q).members) ∙ e)
 
 group_units_same : (ts : List TokenValue) (us vs : List UnitValue) (ms ns : List MailboxValue) (ps qs : List (List ℕ)) → IsGroup ts us ms → IsGroup ts vs ns
     → WriteAll (group_units us ms) ps → WriteAll (group_units vs ns) qs → ps ≡ qs
@@ -203,7 +203,7 @@ PlacesPieces-once [] ps qs p q = p ∙ sym q
 PlacesPieces-once (t ∷ places) ps qs p q =
     let first = PlaceOfListPieces-once (are_blank t) t p.0 q.0 p.2 q.2 in
     let more = PlacesPieces-once places p.1 q.1 p.3 q.3 in
-    p.4 ∙ ap (λ r. followed_by t places r ++ p.1) first ∙ ap (λ r. followed_by t places q.0 ++ r) more ∙ sym q.4
+    p.4 ∙ ap (λ r. comma_followed t places r ++ p.1) first ∙ ap (λ r. comma_followed t places q.0 ++ r) more ∙ sym q.4
 
 -- a list of addresses has one list of pieces
 pub AddressesPieces-once : (text : List ℕ) (ps qs : List (List ℕ)) → AddressesPieces text ps → AddressesPieces text qs → ps ≡ qs

@@ -24,7 +24,7 @@ use Rattle.address_grammar.specs.Phrases.{IsPhrase, phrase_items, SaysPhrase}
 use Rattle.address_lists.specs.PhrasePieces.{HasCore}
 use Rattle.address_grammar.specs.private.PhraseSteps.{BeginsNoGap}
 use Rattle.address_grammar.specs.AddressLists.{Divided, MailboxValue, IsRoutedOrNot, IsNamedBy, IsMailbox, SayParts, IsOneMailbox, AreMembers, ElementValue, One, Group, IsGroup, IsElement, SaysPlace}
-use Rattle.address_lists.specs.ListPieces.{served_address, is_plain, mailbox_units, member_units, members_units, group_units, no_members, MailboxPieces, Bare, Angled, Named, Emptied, HasText, MemberPieces, with_comma, MembersPieces, InnerPieces, GroupPieces, Kept, ElementPieces, PlaceOfListPieces, followed_by, PlacesPieces, SaysAddresses, AddressesPieces}
+use Rattle.address_lists.specs.ListPieces.{served_address, has_served_address, mailbox_units, member_units, members_units, group_units, no_members, MailboxPieces, Bare, Angled, Named, Emptied, HasText, MemberPieces, with_comma, MembersPieces, InnerPieces, GroupPieces, Kept, ElementPieces, PlaceOfListPieces, comma_followed, PlacesPieces, SaysAddresses, AddressesPieces}
 use Rattle.address_grammar.proofs.SoundLemmas.{IsSound, tokens_sound, sound_front, sound_rest, contents_utf8}
 use Rattle.address_lists.proofs.SoundPhrases.{sound_items, text_comments}
 use Rattle.address_lists.proofs.PhraseWriting.{gaps_blank, blank-append, core_utf8, core_writable, trail_writable, CommentsPieces-append, writable_front, writable_rest}
@@ -268,7 +268,7 @@ GroupPieces-some ts name ms can is =
     let g = is.group in
     let both = serves_both ts is.before is.colon is.behind is.whole can in
     let more = serves_both is.behind g.inner g.semicolon g.after g.whole both.rest in
-    elim (cases_Bool (list_all is_plain ms)) [
+    elim (cases_Bool (list_all has_served_address ms)) [
       | inl plain ↦
           let first = PlacePieces-some is.before g.is_phrase (sound_items is.before both.front.sound) both.front.comments in
           let inner = InnerPieces-some g.inner ms more.front g.are_members in
@@ -306,7 +306,7 @@ PlacesHave places = (ps : List (List ℕ)) × PlacesPieces places ps
 places_more : (place : List TokenValue) (places : List (List TokenValue)) (es : List ElementValue) → CanServe place → SaysPlace place es → PlacesHave places → PlacesHave (place ∷ places)
 places_more place places es can is more =
     let first = place_some (are_blank place) place es can refl is in
-    (followed_by place places first.0 ++ more.0, (first.0, more.0, first.1, more.1, refl))
+    (comma_followed place places first.0 ++ more.0, (first.0, more.0, first.1, more.1, refl))
 
 PlacesPieces-some : (places : List (List TokenValue)) (ts : List TokenValue) (es : List ElementValue) → Divided 44 places ts → SayParts SaysPlace places es → CanServe ts → PlacesHave places
 PlacesPieces-some [] ts es d say can = absurd d

@@ -8,12 +8,12 @@ use Rattle.mail_wire.specs.Octets.{is_ascii}
 use Rattle.field_tokens.specs.declared.TokenKind.{TokenKind}
 use Rattle.field_tokens.specs.declared.TokenKind.TheVariants.{Atom, Quoted, Literal, Special, Gap, Comment}
 use Rattle.field_tokens.specs.Tokens.{TokenValue}
-use Rattle.field_tokens.specs.Squeezed.{octets_of, comments_of}
+use Rattle.field_tokens.specs.Squeezed.{octets_of, comments_of, is_special_kind}
 use Rattle.field_tokens.specs.Comments.{CommentsPieces, AddsPieces}
-use Rattle.address_grammar.specs.private.Lexemes.{HasTokenValues, is_special_kind, is_mark, is_blank_token, are_blank}
+use Rattle.address_grammar.specs.private.Lexemes.{HasMailTokens, is_special_of, is_blank_token, are_blank}
 use Rattle.address_grammar.specs.AddressLists.{Divided, SayParts, AreDivided, ElementValue, IsElement, SaysPlace}
 use Rattle.address_grammar.specs.private.Walks.{awaited_behind, and_then, walk, SplitsPlace, IsLastPlace}
-use Rattle.address_lists.specs.ListPieces.{MailboxPieces, GroupPieces, with_comma, ElementPieces, PlaceOfListPieces, followed_by, PlacesPieces, AddressesPieces}
+use Rattle.address_lists.specs.ListPieces.{MailboxPieces, GroupPieces, with_comma, ElementPieces, PlaceOfListPieces, comma_followed, PlacesPieces, AddressesPieces}
 use Rattle.address_lists.specs.private.ListWriting.{CanBeWritten, AsciiPieces, is_element_token, GivesPlace, GivesFollowed, GivesPlaces}
 use Rattle.address_grammar.proofs.LexemeLemmas.{no_mark}
 use Rattle.address_grammar.proofs.DividedLemmas.{ReadsParts, parts_start, parts_turn, parts_stuck, parts_stuck_last}
@@ -96,13 +96,13 @@ one_part (t ∷ ts) w = elim (cases_Bool (is_blank_token t)) [
   | inl blank ↦
       let special = blank_special t.kind t.octets blank in
       rw (blank) (one_part ts (rw (no_mark 44 t special, no_mark 60 t special, no_mark 58 t special) at w))
-  | inr word ↦ elim (cases_Bool (is_mark 44 t)) [
+  | inr word ↦ elim (cases_Bool (is_special_of 44 t)) [
     | inl comma ↦ absurd (stopped (awaited_behind None t) ts (rw (comma) refl) w)
     | inr other ↦ rw (word, other) refl
   ]
 ]
 
-comma_token : (t : TokenValue) → is_mark 44 t ≡ true → is_element_token t ≡ false
+comma_token : (t : TokenValue) → is_special_of 44 t ≡ true → is_element_token t ≡ false
 comma_token t h = rw (h, or_right (is_blank_token t) true refl) refl
 
 later : (parts : List (List TokenValue)) (ts : List TokenValue) (es : List ElementValue) → Divided 44 parts ts → SayParts SaysPlace parts es → list_any (λ p. not (are_blank p)) parts ≡ list_any is_element_token ts
@@ -144,7 +144,7 @@ places_onward ts rest place after mid put w s g [] es more d say p = absurd d
 places_onward ts rest place after mid put w s g (q ∷ parts) es more d say p =
     let whole : AreDivided SaysPlace rest (g.elements ++ es)
     = record { parts = place ∷ q ∷ parts; divided = (s.comma, after, s.whole, s.is_comma, d); say = (g.elements, es, refl, g.says, say) } in
-    let pieces : put ++ more ≡ followed_by place (q ∷ parts) g.first ++ more
+    let pieces : put ++ more ≡ comma_followed place (q ∷ parts) g.first ++ more
     = ap (λ r. r ++ more) (g.pieces_are ∙ ap (λ b. cond (not (are_blank place) && b) (with_comma g.first) g.first) (sym (later (q ∷ parts) after es d say))) in
     w.onward (g.elements ++ es) whole (put ++ more) (g.first, more, g.gives, p, pieces)
 
@@ -177,5 +177,5 @@ places_stuck_last ts rest pieces w last none = parts_stuck_last SaysPlace place_
 
 -- ---- whole texts
 
-pub list_pieces : (text : List ℕ) (ts : List TokenValue) (ps : List (List ℕ)) → HasTokenValues text ts → GivesPlaces ts ps → AddressesPieces text ps
+pub list_pieces : (text : List ℕ) (ts : List TokenValue) (ps : List (List ℕ)) → HasMailTokens text ts → GivesPlaces ts ps → AddressesPieces text ps
 list_pieces text ts ps has g = record { tokens = ts; has = has; elements = g.elements; are_elements = g.are_elements; pieces_are = g.pieces_are }

@@ -12,7 +12,7 @@ use Rattle.field_tokens.specs.declared.Style.TheVariants.{Mail}
 use Rattle.field_tokens.specs.declared.TokenKind.{TokenKind}
 use Rattle.field_tokens.specs.declared.TokenKind.TheVariants.{Atom, Quoted, Literal, Special, Gap, Comment}
 use Rattle.field_tokens.specs.TokenOctets.{is_line_octet}
-use Rattle.field_tokens.specs.Groups.{IsGroup}
+use Rattle.field_tokens.specs.Groups.{IsEnclosed}
 use Rattle.field_tokens.specs.Tokens.{comment_marks, TokenValue, AreTokens, IsLine}
 use Rattle.field_tokens.specs.Squeezed.{octets_of, is_comment, comments_of, space, apart, IsPart}
 use Rattle.field_tokens.specs.Comments.{CommentValue, CommentsSay, CommentsPieces, AreWritableComments, AreLineComments, IsLinePiece, AreWritten}
@@ -21,7 +21,7 @@ use Rattle.field_tokens.proofs.TokenLines.{comments_are_comments, comments_are_l
 use Rattle.field_tokens.proofs.LinePieces.{CommentsPieces-line, CommentsPieces-there}
 use Rattle.field_tokens.proofs.WrittenComments.{CommentsPieces-written}
 use Rattle.field_tokens.proofs.PieceLemmas.{join_two, comments_groups as groups, join_more}
-use Rattle.address_grammar.specs.private.Lexemes.{HasTokenValues, is_blank_token, are_blank}
+use Rattle.address_grammar.specs.private.Lexemes.{HasMailTokens, is_blank_token, are_blank}
 use Rattle.address_grammar.specs.Phrases.{IsPhrase, phrase_items}
 use Rattle.address_lists.specs.private.PhraseReadBack.{IsPhraseAgain}
 use Rattle.address_lists.specs.ListPieces.{with_comma}
@@ -204,17 +204,17 @@ again_phrase us values pieces is = by is.parts refl
 
 -- comments of a line
 pub record IsLineComment (comment : List ℕ) : Type 0 where
-  pub is_comment : IsGroup comment_marks comment
+  pub is_comment : IsEnclosed comment_marks comment
   pub is_line : IsLine comment
 
 abbrev pub AreCommentsOfLine : List (List ℕ) → Type 0
 AreCommentsOfLine cs = AllByRecursion IsLineComment cs
 
-of_line : (cs : List (List ℕ)) → AllByRecursion (IsGroup comment_marks) cs → AllByRecursion IsLine cs → AreCommentsOfLine cs
+of_line : (cs : List (List ℕ)) → AllByRecursion (IsEnclosed comment_marks) cs → AllByRecursion IsLine cs → AreCommentsOfLine cs
 of_line [] groups lines = tt
 of_line (c ∷ cs) groups lines = (record { is_comment = groups.0; is_line = lines.0 }, of_line cs groups.1 lines.1)
 
-pub text_line_comments : (text : List ℕ) (ts : List TokenValue) → HasTokenValues text ts → AreCommentsOfLine (comments_of ts)
+pub text_line_comments : (text : List ℕ) (ts : List TokenValue) → HasMailTokens text ts → AreCommentsOfLine (comments_of ts)
 text_line_comments text ts has = of_line (comments_of ts) (comments_are_comments Mail ts text has.are_tokens) (comments_are_lines Mail ts text has.are_tokens has.is_line)
 
 line_writable : (cs : List (List ℕ)) → AreCommentsOfLine cs → AreWritableComments cs

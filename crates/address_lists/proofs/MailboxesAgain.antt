@@ -11,18 +11,18 @@ use Rattle.encoded_words.specs.PhraseUnits.{HasPhraseUnits}
 use Rattle.encoded_words.specs.Written.{WriteAll}
 use Rattle.field_tokens.specs.TokenOctets.{is_line_octet}
 use Rattle.field_tokens.specs.Tokens.{TokenValue}
-use Rattle.field_tokens.specs.Squeezed.{octets_of, comments_of, space}
+use Rattle.field_tokens.specs.Squeezed.{octets_of, comments_of, space, is_special_kind}
 use Rattle.field_tokens.specs.Comments.{CommentValue, CommentsSay, CommentsPieces}
 use Rattle.field_tokens.proofs.Parts.{EndsNoGap-append, comments_of-append}
 use Rattle.address_grammar.specs.declared.Address.{Address}
-use Rattle.address_grammar.specs.private.Lexemes.{HasTokenValues, is_special_kind, is_mark, are_blank}
+use Rattle.address_grammar.specs.private.Lexemes.{HasMailTokens, is_special_of, are_blank}
 use Rattle.address_grammar.specs.Addresses.{address_text}
 use Rattle.address_grammar.specs.Paths.{IsAngled, in_angles}
 use Rattle.address_grammar.specs.Phrases.{IsPhrase, phrase_items, SaysPhrase}
 use Rattle.address_lists.specs.PhrasePieces.{PhrasePieces, HasCore}
 use Rattle.address_lists.specs.private.PhraseReadBack.{IsPhraseAgain}
 use Rattle.address_grammar.specs.AddressLists.{MailboxValue, IsBare, IsRoutedOrNot, IsNamedBy, IsMailbox, ElementValue, One, Group, IsElement}
-use Rattle.address_lists.specs.ListPieces.{served_address, is_plain, mailbox_units, no_members, MailboxPieces, Bare, Angled, Named, Emptied}
+use Rattle.address_lists.specs.ListPieces.{served_address, has_served_address, mailbox_units, no_members, MailboxPieces, Bare, Angled, Named, Emptied}
 use Rattle.address_lists.specs.ListReadBack.{IsServedMailbox, StandsForElement}
 use Rattle.address_grammar.proofs.SoundLemmas.{IsSound, tokens_sound, sound_front, sound_rest}
 use Rattle.address_lists.proofs.PlaceTokens.{HasTokenValues-part}
@@ -74,12 +74,12 @@ with_address m served = record { phrase = m.phrase; display = m.display; angle =
 same_served : (m : MailboxValue) (served : Address) → served_address m.address ≡ Some served → IsServedMailbox m (with_address m served)
 same_served m served e = record { phrase = refl; display = refl; angle = refl; address = e }
 
-pub text_sound : (ts : List TokenValue) → HasTokenValues (octets_of ts) ts → AllByRecursion IsSound ts
+pub text_sound : (ts : List TokenValue) → HasMailTokens (octets_of ts) ts → AllByRecursion IsSound ts
 text_sound ts has = tokens_sound ts (octets_of ts) has.are_tokens has.is_line
 
 -- ---- an address by itself
 
-bare_again : (ts : List TokenValue) (m : MailboxValue) (served : Address) (values : List CommentValue) (comments : List (List ℕ)) → HasTokenValues (octets_of ts) ts → IsBare ts m → served_address m.address ≡ Some served
+bare_again : (ts : List TokenValue) (m : MailboxValue) (served : Address) (values : List CommentValue) (comments : List (List ℕ)) → HasMailTokens (octets_of ts) ts → IsBare ts m → served_address m.address ≡ Some served
     → CommentsSay (comments_of ts) values → CommentsPieces (comments_of ts) comments → IsMailboxAgain m values (address_text served ∷ comments)
 bare_again ts m served values comments has is e say are =
     let w = address_served ts m.address served (text_sound ts has) is.is_address e in
@@ -121,7 +121,7 @@ routed_served : (ts : List TokenValue) (a served : Address) → AllByRecursion I
 routed_served ts a served sound (inl is) e = address_served ts a served sound is e
 routed_served ts a served sound (inr is) e = address_served is.behind a served (sound_rest is.route (is.colon ∷ is.behind) (rw (is.whole) at sound)).1 is.is_address e
 
-angled_served : (ts before inner : List TokenValue) (m : MailboxValue) (served : Address) → HasTokenValues (octets_of ts) ts → IsAngled ts before inner → IsNamedBy before inner m → served_address m.address ≡ Some served → WritesAddress served
+angled_served : (ts before inner : List TokenValue) (m : MailboxValue) (served : Address) → HasMailTokens (octets_of ts) ts → IsAngled ts before inner → IsNamedBy before inner m → served_address m.address ≡ Some served → WritesAddress served
 angled_served ts before inner m served has angled named e =
     let all : AllByRecursion IsSound (before ++ angled.open_mark ∷ (inner ++ angled.close_mark ∷ angled.after)) = rw (angled.whole) at (text_sound ts has) in
     routed_served inner m.address served (sound_front inner (angled.close_mark ∷ angled.after) (sound_rest before (angled.open_mark ∷ (inner ++ angled.close_mark ∷ angled.after)) all).1) named.address e
@@ -148,7 +148,7 @@ nothing_says : (ts : List TokenValue) (phrase : Bool) (us : List UnitValue) → 
 nothing_says ts true us e says = cc e
 nothing_says ts false us e says = (refl, says.1)
 
-angled_again : (ts before inner : List TokenValue) (m : MailboxValue) (served : Address) (values : List CommentValue) (comments : List (List ℕ)) → HasTokenValues (octets_of ts) ts → IsAngled ts before inner → IsNamedBy before inner m
+angled_again : (ts before inner : List TokenValue) (m : MailboxValue) (served : Address) (values : List CommentValue) (comments : List (List ℕ)) → HasMailTokens (octets_of ts) ts → IsAngled ts before inner → IsNamedBy before inner m
     → m.phrase ≡ false → served_address m.address ≡ Some served → CommentsSay (comments_of ts) values → CommentsPieces (comments_of ts) comments → IsMailboxAgain m values (in_angles (address_text served) ∷ comments)
 angled_again ts before inner m served values comments has angled named none e say are =
     let w = angled_served ts before inner m served has angled named e in
@@ -167,7 +167,7 @@ angled_again ts before inner m served values comments has angled named none e sa
 -- ---- a phrase and angle brackets
 
 -- a phrase by itself
-pub core_again : (ts core trail : List TokenValue) (us : List UnitValue) (values : List CommentValue) (first : List (List ℕ)) → HasTokenValues (octets_of core) core → IsPhrase ts → HasPhraseUnits (phrase_items ts) us → HasCore ts core trail
+pub core_again : (ts core trail : List TokenValue) (us : List UnitValue) (values : List CommentValue) (first : List (List ℕ)) → HasMailTokens (octets_of core) core → IsPhrase ts → HasPhraseUnits (phrase_items ts) us → HasCore ts core trail
     → CommentsSay (comments_of core) values → PhrasePieces (list_all is_ascii (octets_of core)) core first → IsPhraseAgain us values first
 core_again ts core trail us values first has p units is say pieces =
     PlacePieces-read core us values first has (phrase_core ts core trail p is) (core_units ts core trail us is units) say (record {
@@ -182,7 +182,7 @@ core_again ts core trail us values first has p units is say pieces =
     })
 
 -- a mark is no comment
-pub mark_comments : (n : ℕ) (a b : List TokenValue) (t : TokenValue) → is_mark n t ≡ true → comments_of (a ++ t ∷ b) ≡ comments_of a ++ comments_of b
+pub mark_comments : (n : ℕ) (a b : List TokenValue) (t : TokenValue) → is_special_of n t ≡ true → comments_of (a ++ t ∷ b) ≡ comments_of a ++ comments_of b
 mark_comments n a b t is = comments_of-append a (t ∷ b) ∙ rw (special_no_comment t.kind (and_parts (is_special_kind t.kind) (bytes_eq t.octets (n ∷ [])) is).0) refl
 
 angled_comments : (ts before inner : List TokenValue) (angled : IsAngled ts before inner) → comments_of ts ≡ comments_of before ++ (comments_of inner ++ comments_of angled.after)
@@ -199,11 +199,11 @@ named_comments ts before inner core trail angled is =
     ∙ append_assoc (comments_of core) (comments_of trail) (comments_of inner ++ comments_of angled.after)
     ∙ ap (λ r. comments_of core ++ r) (sym (append_assoc (comments_of trail) (comments_of inner) (comments_of angled.after)) ∙ sym behind)
 
-core_text : (ts before core trail rest : List TokenValue) → HasTokenValues (octets_of ts) ts → ts ≡ before ++ rest → HasCore before core trail → HasTokenValues (octets_of core) core
+core_text : (ts before core trail rest : List TokenValue) → HasMailTokens (octets_of ts) ts → ts ≡ before ++ rest → HasCore before core trail → HasMailTokens (octets_of core) core
 core_text ts before core trail rest has whole is =
     let all : ts ≡ is.lead ++ (core ++ (trail ++ rest))
     = whole ∙ ap (λ r. r ++ rest) is.whole ∙ append_assoc is.lead (core ++ trail) rest ∙ ap (λ r. is.lead ++ r) (append_assoc core trail rest) in
-    HasTokenValues-part (octets_of ts) is.lead core (trail ++ rest) (subst (HasTokenValues (octets_of ts)) all has)
+    HasTokenValues-part (octets_of ts) is.lead core (trail ++ rest) (subst (HasMailTokens (octets_of ts)) all has)
 
 pub line_rest : (a b : List (List ℕ)) → AreCommentsOfLine (a ++ b) → AreCommentsOfLine b
 line_rest [] b all = all
@@ -217,7 +217,7 @@ phrase_says : (ts : List TokenValue) (phrase : Bool) (us : List UnitValue) → p
 phrase_says ts true us e p units = (p, units)
 phrase_says ts false us e p units = cc e
 
-named_again : (ts before inner core trail : List TokenValue) (m : MailboxValue) (served : Address) (values : List CommentValue) (first comments : List (List ℕ)) → HasTokenValues (octets_of ts) ts → (angled : IsAngled ts before inner)
+named_again : (ts before inner core trail : List TokenValue) (m : MailboxValue) (served : Address) (values : List CommentValue) (first comments : List (List ℕ)) → HasMailTokens (octets_of ts) ts → (angled : IsAngled ts before inner)
     → IsNamedBy before inner m → m.phrase ≡ true → HasCore before core trail → PhrasePieces (list_all is_ascii (octets_of core)) core first → served_address m.address ≡ Some served → CommentsSay (comments_of ts) values
     → CommentsPieces (comments_of ((trail ++ inner) ++ angled.after)) comments → IsMailboxAgain m values (first ++ in_angles (address_text served) ∷ comments)
 named_again ts before inner core trail m served values first comments has angled named phrase is pieces e say are =
@@ -253,7 +253,7 @@ named_again ts before inner core trail m served values first comments has angled
 
 -- what is known of a mailbox in its place
 pub record IsMailboxIn (ts : List TokenValue) (m : MailboxValue) (values : List CommentValue) : Type 0 where
-  pub text : HasTokenValues (octets_of ts) ts
+  pub text : HasMailTokens (octets_of ts) ts
   pub is_mailbox : IsMailbox ts m
   pub say : CommentsSay (comments_of ts) values
 
@@ -264,7 +264,7 @@ named_is : (ts before inner : List TokenValue) (m n : MailboxValue) → IsMailbo
 named_is ts before inner m n is angled named = IsMailbox-once ts m n is (inr (record { before = before; inner = inner; angled = angled; named = named }))
 
 -- the pieces of a mailbox whose address can be served
-pub plain_again : (ts : List TokenValue) (m : MailboxValue) (values : List CommentValue) (pieces : List (List ℕ)) → IsMailboxIn ts m values → is_plain m ≡ true → MailboxPieces ts pieces → IsMailboxAgain m values pieces
+pub plain_again : (ts : List TokenValue) (m : MailboxValue) (values : List CommentValue) (pieces : List (List ℕ)) → IsMailboxIn ts m values → has_served_address m ≡ true → MailboxPieces ts pieces → IsMailboxAgain m values pieces
 plain_again ts m values pieces is plain (Bare n served comments bare e are whole) =
     rw (whole, bare_is ts m n is.is_mailbox bare) (bare_again ts n served values comments is.text bare e is.say are)
 plain_again ts m values pieces is plain (Angled n served before inner comments angled named none e are whole) =
@@ -273,7 +273,7 @@ plain_again ts m values pieces is plain (Named n served before inner core trail 
     rw (whole, named_is ts before inner m n is.is_mailbox angled named) (named_again ts before inner core trail n served values first comments is.text angled named phrase core_is given e is.say are)
 plain_again ts m values pieces is plain (Emptied n words comments other none writes are whole) =
     let same : m ≡ n = IsMailbox-once ts m n is.is_mailbox other in
-    cc (sym plain ∙ ap is_plain same ∙ ap is_some none)
+    cc (sym plain ∙ ap has_served_address same ∙ ap is_some none)
 
 emptied_mailbox : (ts : List TokenValue) (m : MailboxValue) (values : List CommentValue) (words comments : List (List ℕ)) → IsMailboxIn ts m values → served_address m.address ≡ None → WriteAll (mailbox_units m) words
     → CommentsPieces (comments_of ts) comments → IsElementAgain (One m) values (words ++ no_members ∷ comments)
@@ -289,19 +289,19 @@ emptied_mailbox ts m values words comments is none writes are =
       are_made = again.are_made;
     }
 
-served_plain : (m : MailboxValue) (served : Address) → served_address m.address ≡ Some served → is_plain m ≡ true
+served_plain : (m : MailboxValue) (served : Address) → served_address m.address ≡ Some served → has_served_address m ≡ true
 served_plain m served e = ap is_some e
 
 -- the pieces of a mailbox
 pub MailboxPieces-read : (ts : List TokenValue) (m : MailboxValue) (values : List CommentValue) (pieces : List (List ℕ)) → IsMailboxIn ts m values → MailboxPieces ts pieces → IsElementAgain (One m) values pieces
 MailboxPieces-read ts m values pieces is (Bare n served comments bare e are whole) =
-    let plain : is_plain m ≡ true = ap is_plain (bare_is ts m n is.is_mailbox bare) ∙ served_plain n served e in
+    let plain : has_served_address m ≡ true = ap has_served_address (bare_is ts m n is.is_mailbox bare) ∙ served_plain n served e in
     mailbox_element m values pieces (plain_again ts m values pieces is plain (Bare n served comments bare e are whole))
 MailboxPieces-read ts m values pieces is (Angled n served before inner comments angled named none e are whole) =
-    let plain : is_plain m ≡ true = ap is_plain (named_is ts before inner m n is.is_mailbox angled named) ∙ served_plain n served e in
+    let plain : has_served_address m ≡ true = ap has_served_address (named_is ts before inner m n is.is_mailbox angled named) ∙ served_plain n served e in
     mailbox_element m values pieces (plain_again ts m values pieces is plain (Angled n served before inner comments angled named none e are whole))
 MailboxPieces-read ts m values pieces is (Named n served before inner core trail first comments angled named phrase core_is given e are whole) =
-    let plain : is_plain m ≡ true = ap is_plain (named_is ts before inner m n is.is_mailbox angled named) ∙ served_plain n served e in
+    let plain : has_served_address m ≡ true = ap has_served_address (named_is ts before inner m n is.is_mailbox angled named) ∙ served_plain n served e in
     mailbox_element m values pieces (plain_again ts m values pieces is plain (Named n served before inner core trail first comments angled named phrase core_is given e are whole))
 MailboxPieces-read ts m values pieces is (Emptied n words comments other none writes are whole) =
     let same : m ≡ n = IsMailbox-once ts m n is.is_mailbox other in

@@ -10,7 +10,7 @@ use Rattle.field_tokens.proofs.Parts.{AreTokens-begin, AreTokens-end, comments_o
 use Rattle.field_tokens.proofs.TokenLines.{joined_line}
 use Rattle.field_tokens.proofs.PieceLemmas.{pieces_lines}
 use Rattle.address_grammar.specs.declared.Address.{Address}
-use Rattle.address_grammar.specs.private.Lexemes.{HasTokenValues, are_blank}
+use Rattle.address_grammar.specs.private.Lexemes.{HasMailTokens, are_blank}
 use Rattle.address_grammar.specs.Addresses.{address_text}
 use Rattle.address_grammar.specs.Paths.{IsPath, in_angles}
 use Rattle.address_lists.specs.ListPieces.{served_address}
@@ -23,7 +23,7 @@ use Rattle.address_lists.proofs.MadeTokens.{AreMade, text_line_comments, comment
 use Rattle.address_lists.proofs.MailboxesAgain.{bracketed, made_angles, brackets_no_comments}
 
 -- the tokens of the address as it is served
-path_writes : (text : List ℕ) (ts : List TokenValue) (a served : Address) → HasTokenValues text ts → IsPath ts (Some a) → served_address a ≡ Some served → WritesAddress served
+path_writes : (text : List ℕ) (ts : List TokenValue) (a served : Address) → HasMailTokens text ts → IsPath ts (Some a) → served_address a ≡ Some served → WritesAddress served
 path_writes text ts a served has is e =
     let angled = is.angled in
     let sound : AllByRecursion IsSound (is.before ++ angled.open_mark ∷ (is.inner ++ angled.close_mark ∷ angled.after)) = rw (angled.whole) at (tokens_sound ts text has.are_tokens has.is_line) in
@@ -69,7 +69,7 @@ again a served ts values pieces e is say made = record {
   some = made.some;
 }
 
-tokens_again : (text : List ℕ) (ts : List TokenValue) (a served : Address) (values : List CommentValue) (comments : List (List ℕ)) → HasTokenValues text ts → IsPath ts (Some a) → served_address a ≡ Some served
+tokens_again : (text : List ℕ) (ts : List TokenValue) (a served : Address) (values : List CommentValue) (comments : List (List ℕ)) → HasMailTokens text ts → IsPath ts (Some a) → served_address a ≡ Some served
     → CommentsSay (comments_of ts) values → CommentsPieces (comments_of ts) comments → IsPathAgain a values (in_angles (address_text served) ∷ comments)
 tokens_again text ts a served values comments has is e say are =
     let w = path_writes text ts a served has is e in

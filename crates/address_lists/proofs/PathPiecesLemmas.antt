@@ -9,7 +9,7 @@ use Rattle.field_tokens.specs.Comments.{CommentValue, CommentsPieces, AddsPieces
 use Rattle.field_tokens.proofs.CommentValues.{CommentsSay-once, CommentsSay-some, CommentsPieces-once, CommentsPieces-some}
 use Rattle.field_tokens.proofs.DecideTokens.{decide_tokens}
 use Rattle.address_grammar.specs.declared.Address.{Address}
-use Rattle.address_grammar.specs.private.Lexemes.{HasTokenValues, are_blank}
+use Rattle.address_grammar.specs.private.Lexemes.{HasMailTokens, are_blank}
 use Rattle.address_grammar.specs.Addresses.{address_text}
 use Rattle.address_grammar.specs.Paths.{IsFirstAngled, IsPathOf, IsPath, HasPath, ReadsPaths, IsReading, in_angles}
 use Rattle.address_grammar.specs.AddressLists.{MailboxValue}
@@ -31,7 +31,7 @@ SaysPath-once text a b cs ds p q =
     let same = HasTokenValues-once text p.tokens q.tokens p.has q.has in
     record { answer = IsPath-once p.tokens a b p.is_path (rw (same) q.is_path); comments = CommentsSay-once (comments_of p.tokens) cs ds p.comments_say (rw (same) q.comments_say) }
 
-pub path_says : (text : List ℕ) (ts : List TokenValue) (answer : Option Address) → HasTokenValues text ts → IsPath ts answer → (comments : List CommentValue) × SaysPath text answer comments
+pub path_says : (text : List ℕ) (ts : List TokenValue) (answer : Option Address) → HasMailTokens text ts → IsPath ts answer → (comments : List CommentValue) × SaysPath text answer comments
 path_says text ts answer has is =
     let comments = CommentsSay-some (comments_of ts) (text_comments text ts has) in
     (comments.0, record { tokens = ts; has = has; is_path = is; comments_say = comments.1 })
@@ -157,7 +157,7 @@ null_not_served text path served serves =
     let both : None ≡ Some serves.address = HasPath-once text None (Some serves.address) path serves.has_path in
     cc both
 
-pub PathPieces-made : (text : List ℕ) (ts : List TokenValue) (served : Address) (old mid new : List (List ℕ)) → ServesPath text served → HasTokenValues text ts → old ≡ []
+pub PathPieces-made : (text : List ℕ) (ts : List TokenValue) (served : Address) (old mid new : List (List ℕ)) → ServesPath text served → HasMailTokens text ts → old ≡ []
     → mid ≡ old ++ in_angles (address_text served) ∷ [] → AddsPieces (CommentsPieces (comments_of ts)) mid new → PathPieces text new
 PathPieces-made text ts served old mid new serves has none e adds = record {
   tokens = ts;

@@ -12,7 +12,7 @@ use Rattle.field_tokens.specs.Squeezed.{comments_of}
 use Rattle.field_tokens.specs.Comments.{CommentValue, AreWritableComments}
 use Rattle.field_tokens.proofs.CommentValues.{CommentsSay-once}
 use Rattle.field_tokens.proofs.Parts.{comments_of-append}
-use Rattle.address_grammar.specs.private.Lexemes.{HasTokenValues}
+use Rattle.address_grammar.specs.private.Lexemes.{HasMailTokens}
 use Rattle.address_grammar.specs.Phrases.{IsPhrase, phrase_items}
 use Rattle.address_lists.specs.PhraseLists.{IsOnePhrase, SaysPhrases, GivesOnePhrase, with_commas, PhrasesPieces}
 use Rattle.address_lists.specs.private.PhraseListSteps.{AddsPhrase, GivesPhrases}
@@ -142,7 +142,7 @@ phrases_stuck_last ts rest pieces w last none = parts_stuck_last IsOnePhrase say
 
 -- ---- whole texts
 
-pub phrases_of : (text : List ℕ) (ts : List TokenValue) (phrases : List (List UnitValue)) (comments : List CommentValue) → HasTokenValues text ts → SaysPhrases text phrases comments → AreDivided IsOnePhrase ts phrases
+pub phrases_of : (text : List ℕ) (ts : List TokenValue) (phrases : List (List UnitValue)) (comments : List CommentValue) → HasMailTokens text ts → SaysPhrases text phrases comments → AreDivided IsOnePhrase ts phrases
 phrases_of text ts phrases comments has says = rw (HasTokenValues-once text ts says.tokens has says.has) says.divided
 
 pub record SamePhrases (us vs : List (List UnitValue)) (cs ds : List CommentValue) : Type 0 where

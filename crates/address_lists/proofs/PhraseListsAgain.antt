@@ -12,12 +12,12 @@ use Rattle.field_tokens.specs.declared.Style.TheVariants.{Mail}
 use Rattle.field_tokens.specs.declared.TokenKind.{TokenKind}
 use Rattle.field_tokens.specs.declared.TokenKind.TheVariants.{Atom, Quoted, Literal, Special, Gap, Comment}
 use Rattle.field_tokens.specs.Tokens.{TokenValue, AreTokens}
-use Rattle.field_tokens.specs.Squeezed.{octets_of, is_comment, comments_of, space, apart, IsPart}
+use Rattle.field_tokens.specs.Squeezed.{octets_of, is_comment, comments_of, space, apart, IsPart, is_special_kind}
 use Rattle.field_tokens.specs.Comments.{CommentValue, CommentsSay, IsLinePiece}
 use Rattle.field_tokens.proofs.Parts.{tokens_some, AreTokens-begin, AreTokens-end, apart_begins, apart_some, apart_ends, AreTokens-apart, octets_of-tokens, comments_of-append}
 use Rattle.field_tokens.proofs.TokenLines.{joined_line}
 use Rattle.field_tokens.proofs.PieceLemmas.{join_same, pieces_lines}
-use Rattle.address_grammar.specs.private.Lexemes.{HasTokenValues, is_special_kind, is_mark}
+use Rattle.address_grammar.specs.private.Lexemes.{HasMailTokens, is_special_of}
 use Rattle.address_grammar.specs.Phrases.{IsPhrase, phrase_items}
 use Rattle.address_lists.specs.PhrasePieces.{PlacePieces}
 use Rattle.address_lists.specs.private.PhraseReadBack.{IsPhraseAgain}
@@ -107,7 +107,7 @@ special_no_comment Gap h = refl
 special_no_comment Comment h = sym h
 
 -- a comma between tokens is no comment
-comma_comments : (a b : List TokenValue) (t : TokenValue) → is_mark 44 t ≡ true → comments_of (a ++ t ∷ b) ≡ comments_of a ++ comments_of b
+comma_comments : (a b : List TokenValue) (t : TokenValue) → is_special_of 44 t ≡ true → comments_of (a ++ t ∷ b) ≡ comments_of a ++ comments_of b
 comma_comments a b t is = comments_of-append a (t ∷ b) ∙ rw (special_no_comment t.kind (and_parts (is_special_kind t.kind) (bytes_eq t.octets (44 ∷ [])) is).0) refl
 
 -- ---- parts
@@ -196,20 +196,20 @@ more_parts us phrases front behind first others one more =
     mapped (p ∷ parts) some = omega arith
 
 parts_again : (parts : List (List TokenValue)) (phrases : List (List UnitValue)) (places : List (List (List ℕ))) (ts : List TokenValue) (values : List CommentValue) → Divided 44 parts ts → EachPlace parts phrases places
-    → HasTokenValues (octets_of ts) ts → CommentsSay (comments_of ts) values → PhraseParts phrases values (with_commas places)
+    → HasMailTokens (octets_of ts) ts → CommentsSay (comments_of ts) values → PhraseParts phrases values (with_commas places)
 parts_again [] phrases places ts values d each has say = absurd d
 parts_again (part ∷ parts) [] places ts values d each has say = absurd each
 parts_again (part ∷ parts) (us ∷ phrases) [] ts values d each has say = absurd each
 parts_again (part ∷ []) (us ∷ []) (ps ∷ []) ts values d each has say =
-    last_parts us values ps (PlacePieces-read part us values ps (subst (λ r. HasTokenValues (octets_of r) r) d has) each.0 each.1 (subst (λ r. CommentsSay (comments_of r) values) d say) each.2)
+    last_parts us values ps (PlacePieces-read part us values ps (subst (λ r. HasMailTokens (octets_of r) r) d has) each.0 each.1 (subst (λ r. CommentsSay (comments_of r) values) d say) each.2)
 parts_again (part ∷ []) (us ∷ []) (ps ∷ qs ∷ places) ts values d each has say = absurd each.3
 parts_again (part ∷ []) (us ∷ vs ∷ phrases) (ps ∷ places) ts values d each has say = absurd each.3
 parts_again (part ∷ next ∷ parts) (us ∷ []) (ps ∷ places) ts values d each has say = absurd each.3
 parts_again (part ∷ next ∷ parts) (us ∷ vs ∷ phrases) (ps ∷ []) ts values d each has say = absurd each.3
 parts_again (part ∷ next ∷ parts) (us ∷ vs ∷ phrases) (ps ∷ qs ∷ places) ts values d each has say =
-    let front : HasTokenValues (octets_of part) part = HasTokenValues-part (octets_of ts) [] part (d.0 ∷ d.1) (subst (HasTokenValues (octets_of ts)) d.2 has) in
+    let front : HasMailTokens (octets_of part) part = HasTokenValues-part (octets_of ts) [] part (d.0 ∷ d.1) (subst (HasMailTokens (octets_of ts)) d.2 has) in
     let whole : ts ≡ (part ++ d.0 ∷ []) ++ (d.1 ++ []) = d.2 ∙ sym (append_assoc part (d.0 ∷ []) d.1) ∙ ap (λ r. (part ++ d.0 ∷ []) ++ r) (sym (append-nil d.1)) in
-    let behind : HasTokenValues (octets_of d.1) d.1 = HasTokenValues-part (octets_of ts) (part ++ d.0 ∷ []) d.1 [] (subst (HasTokenValues (octets_of ts)) whole has) in
+    let behind : HasMailTokens (octets_of d.1) d.1 = HasTokenValues-part (octets_of ts) (part ++ d.0 ∷ []) d.1 [] (subst (HasMailTokens (octets_of ts)) whole has) in
     let comments : comments_of ts ≡ comments_of part ++ comments_of d.1 = ap comments_of d.2 ∙ comma_comments part d.1 d.0 d.3 in
     let both = say_both (comments_of part) (comments_of d.1) values (subst (λ cs. CommentsSay cs values) comments say) in
     let one = PlacePieces-read part us both.first ps front each.0 each.1 both.first_say each.2 in
@@ -241,6 +241,6 @@ PhrasesPieces-read text pieces phrases comments is says =
     let each = places_say is.divided.parts is.places is.divided.say in
     let divided : AreDivided IsOnePhrase is.tokens each.0 = record { parts = is.divided.parts; divided = is.divided.divided; say = each_says is.divided.parts each.0 is.places each.1 } in
     let same : each.0 ≡ phrases = divided_once IsOnePhrase says_phrase_walked says_phrase_once is.tokens each.0 phrases divided (phrases_of text is.tokens phrases comments is.has says) in
-    let has : HasTokenValues (octets_of is.tokens) is.tokens = subst (λ r. HasTokenValues r is.tokens) (sym (octets_of-tokens Mail is.tokens text is.has.are_tokens)) is.has in
+    let has : HasMailTokens (octets_of is.tokens) is.tokens = subst (λ r. HasMailTokens r is.tokens) (sym (octets_of-tokens Mail is.tokens text is.has.are_tokens)) is.has in
     let say : CommentsSay (comments_of is.tokens) comments = rw (HasTokenValues-once text is.tokens says.tokens is.has says.has) says.comments_say in
     rw (is.pieces_are, ← same) (parts_read each.0 comments (with_commas is.places) (parts_again is.divided.parts each.0 is.places is.tokens comments is.divided.divided each.1 has say))

@@ -33,7 +33,7 @@ use Rattle.field_tokens.proofs.TokenLines.{comments_are_plain}
 use Rattle.field_tokens.proofs.LinePieces.{CommentsPieces-line}
 use Rattle.field_tokens.proofs.WrittenComments.{CommentsPieces-written}
 use Rattle.field_tokens.proofs.PieceLemmas.{join_same, comments_groups, no_pieces, no_comments, spaced, spaced_comments}
-use Rattle.address_grammar.specs.private.Lexemes.{HasTokenValues, is_blank_token, are_blank}
+use Rattle.address_grammar.specs.private.Lexemes.{HasMailTokens, is_blank_token, are_blank}
 use Rattle.address_grammar.specs.Phrases.{may_stand_in_phrase, IsPhrase, phrase_items}
 use Rattle.address_lists.specs.PhrasePieces.{UnitsPieces, PhrasePieces, HasCore, PlacePieces}
 use Rattle.address_lists.specs.private.PhraseReadBack.{IsPhraseAgain}
@@ -150,17 +150,17 @@ word_no_gap Quoted octets h = refl
 word_no_gap Literal octets h = refl
 word_no_gap Special octets h = refl
 
-core_part : (tokens core trail : List TokenValue) → HasTokenValues (octets_of core) core → HasCore tokens core trail → IsPart Mail core
+core_part : (tokens core trail : List TokenValue) → HasMailTokens (octets_of core) core → HasCore tokens core trail → IsPart Mail core
 core_part tokens core trail has is = record {
   are_tokens = has.are_tokens;
   begins = is.begins;
   ends = (is.ends.0, is.ends.1, is.ends.2, word_no_gap is.ends.1.kind is.ends.1.octets is.ends.3);
 }
 
-core_some : (tokens core trail : List TokenValue) → HasTokenValues (octets_of core) core → HasCore tokens core trail → 0 < length (octets_of core)
+core_some : (tokens core trail : List TokenValue) → HasMailTokens (octets_of core) core → HasCore tokens core trail → 0 < length (octets_of core)
 core_some tokens core trail has is = tokens_some Mail is.begins.0 is.begins.1 (octets_of core) (subst (λ ts. AreTokens Mail ts (octets_of core)) is.begins.2 has.are_tokens)
 
-core_head : (tokens core trail : List TokenValue) (us : List UnitValue) (values : List CommentValue) → HasTokenValues (octets_of core) core → HasCore tokens core trail → IsPhrase core → list_all is_ascii (octets_of core) ≡ true
+core_head : (tokens core trail : List TokenValue) (us : List UnitValue) (values : List CommentValue) → HasMailTokens (octets_of core) core → HasCore tokens core trail → IsPhrase core → list_all is_ascii (octets_of core) ≡ true
     → HasPhraseUnits (phrase_items core) us → CommentsSay (comments_of core) values → IsHead us values (octets_of core ∷ [])
 core_head tokens core trail us values has is p ascii units say = record {
   first = core;
@@ -313,8 +313,8 @@ lines_rest (c ∷ a) b all = lines_rest a b all.1
 
 -- the parts of what is known, over the core and what stands behind it
 record IsWrittenPhrase (tokens core trail : List TokenValue) (us : List UnitValue) (values : List CommentValue) : Type 0 where
-  in_text : HasTokenValues (octets_of tokens) tokens
-  core_text : HasTokenValues (octets_of core) core
+  in_text : HasMailTokens (octets_of tokens) tokens
+  core_text : HasMailTokens (octets_of core) core
   has_core : HasCore tokens core trail
   phrase : IsPhrase core
   core_has : HasPhraseUnits (phrase_items core) us
@@ -343,13 +343,13 @@ again_as false tokens core trail us values first more w other phrase comments =
     rw (phrase.6, append_assoc phrase.1 phrase.2 more) (again us [] values phrase.1 pieces all head (CommentsPieces-written all values pieces w.writable w.say are) are (CommentsPieces-line all pieces w.writable w.in_line are))
 
 -- The pieces of a phrase that stands in a text are a phrase again, with the same units and comments.
-pub PlacePieces-read : (tokens : List TokenValue) (us : List UnitValue) (values : List CommentValue) (pieces : List (List ℕ)) → HasTokenValues (octets_of tokens) tokens → IsPhrase tokens
+pub PlacePieces-read : (tokens : List TokenValue) (us : List UnitValue) (values : List CommentValue) (pieces : List (List ℕ)) → HasMailTokens (octets_of tokens) tokens → IsPhrase tokens
     → HasPhraseUnits (phrase_items tokens) us → CommentsSay (comments_of tokens) values → PlacePieces tokens pieces → IsPhraseAgain us values pieces
 PlacePieces-read tokens us values pieces text p has say is =
     let comments = core_comments tokens is.core is.trail is.has_core in
     let w : IsWrittenPhrase tokens is.core is.trail us values = record {
       in_text = text;
-      core_text = HasTokenValues-part (octets_of tokens) is.has_core.lead is.core is.trail (subst (HasTokenValues (octets_of tokens)) is.has_core.whole text);
+      core_text = HasTokenValues-part (octets_of tokens) is.has_core.lead is.core is.trail (subst (HasMailTokens (octets_of tokens)) is.has_core.whole text);
       has_core = is.has_core;
       phrase = phrase_core tokens is.core is.trail p is.has_core;
       core_has = core_units tokens is.core is.trail us is.has_core has;

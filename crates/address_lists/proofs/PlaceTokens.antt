@@ -6,7 +6,7 @@ use Rattle.field_tokens.specs.Tokens.{TokenValue, AreTokens, IsToken}
 use Rattle.field_tokens.specs.Squeezed.{octets_of}
 use Rattle.field_tokens.proofs.Parts.{IsToken-alike, stops_front, octets_of-tokens, octets_of-append}
 use Rattle.field_tokens.proofs.TokenLines.{AreLineTokens, tokens_lines, run_line}
-use Rattle.address_grammar.specs.private.Lexemes.{HasTokenValues}
+use Rattle.address_grammar.specs.private.Lexemes.{HasMailTokens}
 
 pub tokens_front : (style : Style) (a b : List TokenValue) (text : List ℕ) → AreTokens style (a ++ b) text → AreTokens style a (octets_of a)
 tokens_front style [] b text are = refl
@@ -27,7 +27,7 @@ pub lines_rest : (a b : List TokenValue) → AreLineTokens (a ++ b) → AreLineT
 lines_rest [] b all = all
 lines_rest (t ∷ a) b all = lines_rest a b all.1
 
-pub HasTokenValues-part : (text : List ℕ) (before tokens after : List TokenValue) → HasTokenValues text (before ++ (tokens ++ after)) → HasTokenValues (octets_of tokens) tokens
+pub HasTokenValues-part : (text : List ℕ) (before tokens after : List TokenValue) → HasMailTokens text (before ++ (tokens ++ after)) → HasMailTokens (octets_of tokens) tokens
 HasTokenValues-part text before tokens after has =
     let rest = tokens_rest Mail before (tokens ++ after) text has.are_tokens in
     let lines = tokens_lines Mail (before ++ (tokens ++ after)) text has.are_tokens has.is_line in

@@ -17,9 +17,9 @@ use Rattle.field_tokens.specs.Comments.{CommentValue, CommentsSay, CommentsPiece
 use Rattle.field_tokens.proofs.Parts.{AreTokens-begin, AreTokens-end, octets_of-tokens, comments_of-append}
 use Rattle.field_tokens.proofs.TokenLines.{joined_line}
 use Rattle.field_tokens.proofs.PieceLemmas.{pieces_lines}
-use Rattle.address_grammar.specs.private.Lexemes.{HasTokenValues, is_blank_token, is_mark, are_blank}
+use Rattle.address_grammar.specs.private.Lexemes.{HasMailTokens, is_blank_token, is_special_of, are_blank}
 use Rattle.address_grammar.specs.AddressLists.{Divided, MailboxValue, SayParts, AreDivided, ElementValue, One, Group, IsGroup, IsElement, SaysPlace}
-use Rattle.address_lists.specs.ListPieces.{GroupPieces, Kept, Emptied as EmptiedGroup, ElementPieces, PlaceOfListPieces, with_comma, followed_by, PlacesPieces, SaysAddresses, AddressesPieces}
+use Rattle.address_lists.specs.ListPieces.{GroupPieces, Kept, Emptied as EmptiedGroup, ElementPieces, PlaceOfListPieces, with_comma, comma_followed, PlacesPieces, SaysAddresses, AddressesPieces}
 use Rattle.address_lists.specs.ListReadBack.{StandsForElement, AreAddressesAgain}
 use Rattle.address_grammar.proofs.ListLemmas.{place_walked, IsElement-once, element_not_blank, place_once}
 use Rattle.address_grammar.proofs.DividedLemmas.{divided_once}
@@ -125,7 +125,7 @@ none_said ts (e ∷ f ∷ es) blank says = absurd says
 blank_pieces : (ts : List TokenValue) (first : List (List ℕ)) → are_blank ts ≡ true → PlaceOfListPieces (are_blank ts) ts first → CommentsPieces (comments_of ts) first
 blank_pieces ts first blank given = subst (λ b. PlaceOfListPieces b ts first) blank given
 
-blank_followed : (ts : List TokenValue) (places : List (List TokenValue)) (first : List (List ℕ)) → are_blank ts ≡ true → followed_by ts places first ≡ first
+blank_followed : (ts : List TokenValue) (places : List (List TokenValue)) (first : List (List ℕ)) → are_blank ts ≡ true → comma_followed ts places first ≡ first
 blank_followed ts places first blank = rw (blank) refl
 
 -- what blank places give
@@ -157,13 +157,13 @@ blank_places (p ∷ q ∷ places) ts es pieces d say none given =
 
 -- ---- all places
 
-place_element : (ts : List TokenValue) (e : ElementValue) (values : List CommentValue) (first : List (List ℕ)) → HasTokenValues (octets_of ts) ts → are_blank ts ≡ false → IsElement ts e → CommentsSay (comments_of ts) values
+place_element : (ts : List TokenValue) (e : ElementValue) (values : List CommentValue) (first : List (List ℕ)) → HasMailTokens (octets_of ts) ts → are_blank ts ≡ false → IsElement ts e → CommentsSay (comments_of ts) values
     → PlaceOfListPieces (are_blank ts) ts first → IsElementAgain e values first
 place_element ts e values first has filled is say given =
     ElementPieces-read (list_all is_ascii (octets_of ts)) ts e values first refl (record { text = has; is_element = is; say = say }) (subst (λ b. PlaceOfListPieces b ts first) filled given)
 
 -- a place that isn't blank, and only comments behind it
-filled_last : (ts : List TokenValue) (es : List ElementValue) (front behind : List CommentValue) (first comments cs : List (List ℕ)) → HasTokenValues (octets_of ts) ts → are_blank ts ≡ false → SaysPlace ts es
+filled_last : (ts : List TokenValue) (es : List ElementValue) (front behind : List CommentValue) (first comments cs : List (List ℕ)) → HasMailTokens (octets_of ts) ts → are_blank ts ≡ false → SaysPlace ts es
     → CommentsSay (comments_of ts) front → PlaceOfListPieces (are_blank ts) ts first → AreCommentsOfLine cs → CommentsSay cs behind → CommentsPieces cs comments → ArePlacesAgain es (front ++ behind) (first ++ comments)
 filled_last ts [] front behind first comments cs has filled says say given all rest are = absurd (both_ways (are_blank ts) filled says)
 filled_last ts (e ∷ []) front behind first comments cs has filled says say given all rest are =
@@ -171,24 +171,24 @@ filled_last ts (e ∷ []) front behind first comments cs has filled says say giv
 filled_last ts (e ∷ f ∷ es) front behind first comments cs has filled says say given all rest are = absurd says
 
 -- and other places behind it
-filled_next : (ts : List TokenValue) (es fs : List ElementValue) (front behind : List CommentValue) (first others : List (List ℕ)) → HasTokenValues (octets_of ts) ts → are_blank ts ≡ false → SaysPlace ts es
+filled_next : (ts : List TokenValue) (es fs : List ElementValue) (front behind : List CommentValue) (first others : List (List ℕ)) → HasMailTokens (octets_of ts) ts → are_blank ts ≡ false → SaysPlace ts es
     → CommentsSay (comments_of ts) front → PlaceOfListPieces (are_blank ts) ts first → ArePlacesAgain fs behind others → ArePlacesAgain (es ++ fs) (front ++ behind) (with_comma first ++ others)
 filled_next ts [] fs front behind first others has filled says say given more = absurd (both_ways (are_blank ts) filled says)
 filled_next ts (e ∷ []) fs front behind first others has filled says say given more = next_place e fs front behind first others (place_element ts e front first has filled says say given) more
 filled_next ts (e ∷ d ∷ es) fs front behind first others has filled says say given more = absurd says
 
 -- the last place is followed by none
-last_followed : (ts : List TokenValue) (first : List (List ℕ)) → followed_by ts [] first ≡ first
+last_followed : (ts : List TokenValue) (first : List (List ℕ)) → comma_followed ts [] first ≡ first
 last_followed ts first = by (is_there ts)
   where
     by : (b : Bool) → (if b && false then with_comma first else first) ≡ first
     by true = refl
     by false = refl
 
-only_followed : (ts : List TokenValue) (places : List (List TokenValue)) (first : List (List ℕ)) → are_blank ts ≡ false → list_any is_there places ≡ false → followed_by ts places first ≡ first
+only_followed : (ts : List TokenValue) (places : List (List TokenValue)) (first : List (List ℕ)) → are_blank ts ≡ false → list_any is_there places ≡ false → comma_followed ts places first ≡ first
 only_followed ts places first filled none = rw (filled, none) refl
 
-more_followed : (ts : List TokenValue) (places : List (List TokenValue)) (first : List (List ℕ)) → are_blank ts ≡ false → list_any is_there places ≡ true → followed_by ts places first ≡ with_comma first
+more_followed : (ts : List TokenValue) (places : List (List TokenValue)) (first : List (List ℕ)) → are_blank ts ≡ false → list_any is_there places ≡ true → comma_followed ts places first ≡ with_comma first
 more_followed ts places first filled some = rw (filled, some) refl
 
 or_false : (b : Bool) → (b || false) ≡ true → b ≡ true
@@ -196,14 +196,14 @@ or_false true h = refl
 or_false false h = cc h
 
 -- places of which some isn't blank
-pub PlacesPieces-read : (places : List (List TokenValue)) (ts : List TokenValue) (es : List ElementValue) (values : List CommentValue) (pieces : List (List ℕ)) → HasTokenValues (octets_of ts) ts → Divided 44 places ts
+pub PlacesPieces-read : (places : List (List TokenValue)) (ts : List TokenValue) (es : List ElementValue) (values : List CommentValue) (pieces : List (List ℕ)) → HasMailTokens (octets_of ts) ts → Divided 44 places ts
     → SayParts SaysPlace places es → CommentsSay (comments_of ts) values → list_any is_there places ≡ true → PlacesPieces places pieces → ArePlacesAgain es values pieces
 PlacesPieces-read [] ts es values pieces has d say comments some given = absurd d
 PlacesPieces-read (p ∷ []) ts es values pieces has d say comments some given =
     let filled : are_blank p ≡ false = not-true (are_blank p) (or_false (is_there p) some) in
     let whole : pieces ≡ given.0 ++ [] = given.4 ∙ ap (λ r. r ++ given.1) (last_followed p given.0) ∙ ap (λ r. given.0 ++ r) given.3 in
     let all : es ≡ say.0 = say.2 ∙ ap (λ r. say.0 ++ r) say.4 ∙ append-nil say.0 in
-    let one = filled_last p say.0 values [] given.0 [] [] (subst (λ r. HasTokenValues (octets_of r) r) d has) filled say.3 (subst (λ r. CommentsSay (comments_of r) values) d comments) given.2 tt refl refl in
+    let one = filled_last p say.0 values [] given.0 [] [] (subst (λ r. HasMailTokens (octets_of r) r) d has) filled say.3 (subst (λ r. CommentsSay (comments_of r) values) d comments) given.2 tt refl refl in
     subst (λ r. ArePlacesAgain r values pieces) (sym all) (subst (ArePlacesAgain say.0 values) (sym whole) (subst (λ r. ArePlacesAgain say.0 r (given.0 ++ [])) (append-nil values) one))
 PlacesPieces-read (p ∷ q ∷ places) ts es values pieces has d say comments some given =
     let cut = cut_text 44 ts p d.1 d.0 has d.2 d.3 in
@@ -232,7 +232,7 @@ PlacesPieces-read (p ∷ q ∷ places) ts es values pieces has d say comments so
 
 -- a gap or a comma
 abbrev gap_or_comma : TokenValue → Bool
-gap_or_comma t = is_gap t.kind || is_mark 44 t
+gap_or_comma t = is_gap t.kind || is_special_of 44 t
 
 no_comment_gap : (kind : TokenKind) (octets : List ℕ) (b : Bool) (cs : List (List ℕ)) → is_blank_token (record { kind = kind; octets = octets }) ≡ true → comments_of (record { kind = kind; octets = octets } ∷ []) ++ cs ≡ [] → (is_gap kind || b) ≡ true
 no_comment_gap Gap octets b cs h e = refl
@@ -255,7 +255,7 @@ blank_gaps [] blank none = refl
 blank_gaps (t ∷ ts) blank none =
     let parts = and_parts (is_blank_token t) (are_blank ts) blank in
     let both : comments_of (t ∷ []) ++ comments_of ts ≡ [] = sym (comments_of-append (t ∷ []) ts) ∙ none in
-    and_from (gap_or_comma t) (list_all gap_or_comma ts) (no_comment_gap t.kind t.octets (is_mark 44 t) (comments_of ts) parts.0 both) (blank_gaps ts parts.1 (nothing_behind (comments_of (t ∷ [])) (comments_of ts) both))
+    and_from (gap_or_comma t) (list_all gap_or_comma ts) (no_comment_gap t.kind t.octets (is_special_of 44 t) (comments_of ts) parts.0 both) (blank_gaps ts parts.1 (nothing_behind (comments_of (t ∷ [])) (comments_of ts) both))
 
 or_right : (a b : Bool) → b ≡ true → (a || b) ≡ true
 or_right true b h = refl
@@ -269,7 +269,7 @@ places_gaps (p ∷ q ∷ places) ts d none nothing =
     let both : comments_of p ++ comments_of d.1 ≡ [] = sym (mark_comments 44 p d.1 d.0 d.3) ∙ sym (ap comments_of d.2) ∙ nothing in
     rw (d.2) (list_all-append gap_or_comma p (d.0 ∷ d.1)
     ∙ and_from (list_all gap_or_comma p) (list_all gap_or_comma (d.0 ∷ d.1)) (blank_gaps p (not-false (are_blank p) parts.0) (nothing_before (comments_of p) (comments_of d.1) both))
-    (and_from (gap_or_comma d.0) (list_all gap_or_comma d.1) (or_right (is_gap d.0.kind) (is_mark 44 d.0) d.3) (places_gaps (q ∷ places) d.1 d.4 parts.1 (nothing_behind (comments_of p) (comments_of d.1) both))))
+    (and_from (gap_or_comma d.0) (list_all gap_or_comma d.1) (or_right (is_gap d.0.kind) (is_special_of 44 d.0) d.3) (places_gaps (q ∷ places) d.1 d.4 parts.1 (nothing_behind (comments_of p) (comments_of d.1) both))))
 
 pub white_ascii : (x : ℕ) → is_white x ≡ true → is_ascii x ≡ true
 white_ascii x h = grind (arith, nat_tests)
@@ -282,14 +282,14 @@ gap_ascii Quoted octets rest h is = cc h
 gap_ascii Literal octets rest h is = cc h
 gap_ascii Special octets rest h is = cc h
 
-comma_ascii : (t : TokenValue) → is_mark 44 t ≡ true → list_all is_ascii t.octets ≡ true
+comma_ascii : (t : TokenValue) → is_special_of 44 t ≡ true → list_all is_ascii t.octets ≡ true
 comma_ascii t h = rw (mark_is 44 t h) refl
 
 gaps_ascii : (ts : List TokenValue) (text : List ℕ) → AreTokens Mail ts text → list_all gap_or_comma ts ≡ true → list_all is_ascii text ≡ true
 gaps_ascii [] text are h = rw (are) refl
 gaps_ascii (t ∷ ts) text are h =
     let parts = and_parts (gap_or_comma t) (list_all gap_or_comma ts) h in
-    let front : list_all is_ascii t.octets ≡ true = elim (or_cases (is_gap t.kind) (is_mark 44 t) parts.0) [
+    let front : list_all is_ascii t.octets ≡ true = elim (or_cases (is_gap t.kind) (is_special_of 44 t) parts.0) [
       | inl gap ↦ gap_ascii t.kind t.octets are.0 gap are.2
       | inr is ↦ comma_ascii t is
     ] in
@@ -304,7 +304,7 @@ comments_there places ts text are d none high = by (comments_of ts) refl
     by (c ∷ cs) e = omega arith
 
 -- the pieces of comments alone
-pub blank_again : (places : List (List TokenValue)) (ts : List TokenValue) (text : List ℕ) (es : List ElementValue) (values : List CommentValue) (pieces : List (List ℕ)) → HasTokenValues text ts → Divided 44 places ts
+pub blank_again : (places : List (List TokenValue)) (ts : List TokenValue) (text : List ℕ) (es : List ElementValue) (values : List CommentValue) (pieces : List (List ℕ)) → HasMailTokens text ts → Divided 44 places ts
     → SayParts SaysPlace places es → CommentsSay (comments_of ts) values → list_any is_there places ≡ false → list_all is_ascii text ≡ false → PlacesPieces places pieces → ArePlacesAgain es values pieces
 blank_again places ts text es values pieces has d say comments none high given =
     let blank = blank_places places ts es pieces d say none given in
@@ -338,9 +338,9 @@ places_read es values pieces is = record {
 }
 
 any_places : (b : Bool) (places : List (List TokenValue)) (ts : List TokenValue) (text : List ℕ) (es : List ElementValue) (values : List CommentValue) (pieces : List (List ℕ)) → list_any is_there places ≡ b
-    → HasTokenValues text ts → Divided 44 places ts → SayParts SaysPlace places es → CommentsSay (comments_of ts) values → list_all is_ascii text ≡ false → PlacesPieces places pieces → ArePlacesAgain es values pieces
+    → HasMailTokens text ts → Divided 44 places ts → SayParts SaysPlace places es → CommentsSay (comments_of ts) values → list_all is_ascii text ≡ false → PlacesPieces places pieces → ArePlacesAgain es values pieces
 any_places true places ts text es values pieces some has d say comments high given =
-    let own : HasTokenValues (octets_of ts) ts = subst (λ r. HasTokenValues r ts) (sym (octets_of-tokens Mail ts text has.are_tokens)) has in
+    let own : HasMailTokens (octets_of ts) ts = subst (λ r. HasMailTokens r ts) (sym (octets_of-tokens Mail ts text has.are_tokens)) has in
     PlacesPieces-read places ts es values pieces own d say comments some given
 any_places false places ts text es values pieces none has d say comments high given = blank_again places ts text es values pieces has d say comments none high given
 

@@ -12,14 +12,15 @@ use Rattle.mail_wire.proofs.AllLemmas.{pass-weaker}
 use Rattle.field_tokens.specs.declared.Style.TheVariants.{Mail}
 use Rattle.field_tokens.specs.TokenOctets.{is_atom_octet, is_line_octet}
 use Rattle.field_tokens.specs.Tokens.{TokenValue}
-use Rattle.ace_domains.specs.Domains.{is_atom_octet as is_name_atom_octet, IsAtom, is_name_octet, normal_form, SameDomain}
+use Rattle.ace_domains.specs.Domains.{is_atext as is_name_atom_octet, IsAtom, is_host_octet, normal_form, SameDomain}
 use Rattle.ace_domains.proofs.FormLemmas.{form_own, form_name, form_domain}
 use Rattle.address_grammar.specs.declared.Address.{Address}
-use Rattle.address_grammar.specs.private.Lexemes.{is_blank_token, words_of, is_part, contents, are_dotted}
+use Rattle.address_grammar.specs.private.Lexemes.{is_blank_token, is_part, contents, are_dotted}
 use Rattle.address_grammar.specs.Addresses.{is_domain, IsAddress, is_some_atom, is_dot_atom, quoted_octet, local_text, address_text}
 use Rattle.address_lists.specs.ListPieces.{served_domain, with_domain, served_address}
 use Rattle.address_grammar.proofs.SoundLemmas.{IsSound, sound_front, sound_rest, contents_line, contents-words}
 use Rattle.address_grammar.proofs.WritingLemmas.{Writes, dotted_writes, domain_writes, words_again, dotted_tokens, dotted_shapes, dotted_again, dotted_words, dotted_contents, local_written, mark}
+use Rattle.field_tokens.specs.Squeezed.{words_of}
 
 -- a served domain is the same domain
 pub served_same : (domain served : List ℕ) → served_domain domain ≡ Some served → SameDomain served domain
@@ -68,10 +69,10 @@ record WritesDomain (domain : List ℕ) : Type 0 where
 name_atom : (x : ℕ) → is_name_atom_octet x ≡ true → is_atom_octet Mail x ≡ true
 name_atom x h = grind (arith, nat_tests)
 
-name_ascii : (x : ℕ) → is_name_octet x ≡ true → is_ascii x ≡ true
+name_ascii : (x : ℕ) → is_host_octet x ≡ true → is_ascii x ≡ true
 name_ascii x h = grind (arith, nat_tests)
 
-name_line : (x : ℕ) → is_name_octet x ≡ true → is_line_octet x ≡ true
+name_line : (x : ℕ) → is_host_octet x ≡ true → is_line_octet x ≡ true
 name_line x h = grind (arith, nat_tests)
 
 atom_some : (a : List ℕ) → IsAtom a → is_some_atom a ≡ true
@@ -94,8 +95,8 @@ form_written domain form e =
       is_domain = dotted_domain (dotted_tokens is.atoms) (rw (dotted_words is.atoms) dotted);
       says = says;
       words = dotted_words is.atoms;
-      ascii = pass-weaker is_name_octet is_ascii name_ascii form name.octets;
-      line = pass-weaker is_name_octet is_line_octet name_line form name.octets;
+      ascii = pass-weaker is_host_octet is_ascii name_ascii form name.octets;
+      line = pass-weaker is_host_octet is_line_octet name_line form name.octets;
     }
 
 own_written : (ts : List TokenValue) (domain : List ℕ) → AllByRecursion IsSound ts → is_domain ts ≡ true → domain ≡ contents ts → list_all is_ascii domain ≡ true → WritesDomain domain

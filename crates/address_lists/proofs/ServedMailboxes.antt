@@ -13,7 +13,7 @@ use Rattle.field_tokens.specs.Squeezed.{is_comment, octets_of, comments_of}
 use Rattle.field_tokens.specs.Comments.{CommentsPieces, AddsPieces}
 use Rattle.field_tokens.proofs.Parts.{comments_of-append}
 use Rattle.address_grammar.specs.declared.Address.{Address}
-use Rattle.address_grammar.specs.private.Lexemes.{is_mark, lacks, SplitsAt}
+use Rattle.address_grammar.specs.private.Lexemes.{is_special_of, lacks_special, SplitsAt}
 use Rattle.address_grammar.specs.Addresses.{address_text}
 use Rattle.address_grammar.specs.Paths.{in_angles}
 use Rattle.address_lists.specs.PhrasePieces.{HasCore, PhrasePieces}
@@ -40,7 +40,7 @@ pub is_named : (ts : List TokenValue) (m : MailboxValue) → m.angle ≡ true �
 is_named ts m h (inl is) = absurd (both_ways m.angle is.angle h)
 is_named ts m h (inr is) = is
 
-pub not_open : (ts : List TokenValue) (m : MailboxValue) → IsNamed ts m → lacks 60 ts ≡ true → ⊥
+pub not_open : (ts : List TokenValue) (m : MailboxValue) → IsNamed ts m → lacks_special 60 ts ≡ true → ⊥
 not_open ts m is l = not_lacking 60 is.before _ is.angled.open_mark is.angled.opens (rw (is.angled.whole) at l)
 
 -- ---- pieces
@@ -82,7 +82,7 @@ named_made before behind core trail address old a b c new has p e q r = record {
       ∙ append_assoc old p.pieces (in_angles address ∷ (q.pieces ++ r.pieces));
 }
 
-mark_kind : (k : TokenKind) (octets : List ℕ) (n : ℕ) → is_mark n (record { kind = k; octets = octets }) ≡ true → is_comment k ≡ false
+mark_kind : (k : TokenKind) (octets : List ℕ) (n : ℕ) → is_special_of n (record { kind = k; octets = octets }) ≡ true → is_comment k ≡ false
 mark_kind Special octets n h = refl
 mark_kind Atom octets n h = refl
 mark_kind Quoted octets n h = refl
@@ -90,7 +90,7 @@ mark_kind Literal octets n h = refl
 mark_kind Gap octets n h = refl
 mark_kind Comment octets n h = sym h
 
-mark_no_comment : (n : ℕ) (t : TokenValue) (ts : List TokenValue) → is_mark n t ≡ true → comments_of (t ∷ ts) ≡ comments_of ts
+mark_no_comment : (n : ℕ) (t : TokenValue) (ts : List TokenValue) → is_special_of n t ≡ true → comments_of (t ∷ ts) ≡ comments_of ts
 mark_no_comment n t ts h = comments_of-append (t ∷ []) ts ∙ ap (λ r. r ++ comments_of ts) (no_comment t (mark_kind t.kind t.octets n h))
 
 pub named_phrase : (ts before behind : List TokenValue) (m : MailboxValue) → SplitsAt 60 ts before behind → IsNamed ts m → m.phrase ≡ true → IsPhrase before

@@ -6,7 +6,7 @@ use Rattle.std.proofs.lemmas.Str.{IsUtf8-from_ascii}
 use Rattle.encoded_words.specs.declared.units.Merging.{Merging}
 use Rattle.encoded_words.specs.Words.{UnitValue, Text, Opaque, IsEncodedWord}
 use Rattle.encoded_words.specs.Units.{merged}
-use Rattle.encoded_words.specs.private.Merging.{IsMerging, TakesWord, units_then, onto}
+use Rattle.encoded_words.specs.private.Merging.{IsMerging, TakesWord, all_units_then, onto}
 use Rattle.encoded_words.specs.Written.{AreWritable}
 use Rattle.encoded_words.proofs.BWords.{ascii_literal}
 use Rattle.encoded_words.proofs.Once.{says_once}
@@ -28,13 +28,13 @@ all_onto-append [] b us = refl
 all_onto-append (u ∷ a) b us = ap (onto u) (all_onto-append a b us)
 
 pub takes_append : (old mid new : Merging) (a b : List UnitValue) → TakesUnits old mid a → TakesUnits mid new b → TakesUnits old new (a ++ b)
-takes_append old mid new a b s t = record { units = λ us. t.units us ∙ s.units (all_onto b us) ∙ ap (units_then old) (sym (all_onto-append a b us)) }
+takes_append old mid new a b s t = record { units = λ us. t.units us ∙ s.units (all_onto b us) ∙ ap (all_units_then old) (sym (all_onto-append a b us)) }
 
 all_onto-merged : (us : List UnitValue) → all_onto us [] ≡ merged us
 all_onto-merged [] = refl
 all_onto-merged (u ∷ us) = ap (onto u) (all_onto-merged us) ∙ sym (merged-onto u us)
 
-pub all_taken : (fresh new : Merging) (added : List UnitValue) → IsMerging fresh [] [] → TakesUnits fresh new added → units_then new [] ≡ merged added
+pub all_taken : (fresh new : Merging) (added : List UnitValue) → IsMerging fresh [] [] → TakesUnits fresh new added → all_units_then new [] ≡ merged added
 all_taken fresh new added is t = t.units [] ∙ rw (is.done_is, is.text_is) (all_onto-merged added)
 
 -- members behind a first one

@@ -14,7 +14,7 @@ use Rattle.field_tokens.specs.Squeezed.{comments_of}
 use Rattle.field_tokens.specs.Comments.{AreWritableComments}
 use Rattle.field_tokens.proofs.Parts.{comments_of-append}
 use Rattle.address_grammar.specs.declared.Address.{Address}
-use Rattle.address_grammar.specs.private.Lexemes.{HasTokenValues, content, contents}
+use Rattle.address_grammar.specs.private.Lexemes.{HasMailTokens, content, contents}
 use Rattle.address_grammar.specs.Addresses.{IsAddress, is_dot_atom, quoted_octet, local_text, address_text}
 use Rattle.address_grammar.specs.Phrases.{phrase_items, SaysPhrase}
 use Rattle.address_grammar.specs.AddressLists.{Divided, MailboxValue, IsRoutedOrNot, IsMailbox, SayParts, IsOneMailbox, AreMembers, IsGroup}
@@ -28,7 +28,7 @@ sound_says : (ts : List TokenValue) → AllByRecursion IsSound ts → AllByRecur
 sound_says [] s = tt
 sound_says (t ∷ ts) s = (s.0.utf8, sound_says ts s.1)
 
-pub text_can : (text : List ℕ) (ts : List TokenValue) → HasTokenValues text ts → CanBeWritten ts
+pub text_can : (text : List ℕ) (ts : List TokenValue) → HasMailTokens text ts → CanBeWritten ts
 text_can text ts has = record { items = text_items text ts has; comments = text_comments text ts has; says = sound_says ts (tokens_sound ts text has.are_tokens has.is_line) }
 
 pub front_can : (a b : List TokenValue) → CanBeWritten (a ++ b) → CanBeWritten a

@@ -10,7 +10,7 @@ use Rattle.field_tokens.specs.Tokens.{TokenValue}
 use Rattle.field_tokens.specs.Squeezed.{is_gap, octets_of, comments_of}
 use Rattle.field_tokens.specs.Comments.{CommentValue, CommentsSay, CommentsPieces}
 use Rattle.address_grammar.specs.declared.Address.{Address}
-use Rattle.address_grammar.specs.private.Lexemes.{HasTokenValues, are_blank}
+use Rattle.address_grammar.specs.private.Lexemes.{HasMailTokens, are_blank}
 use Rattle.address_grammar.specs.Addresses.{address_text}
 use Rattle.address_grammar.specs.Paths.{IsAngled, in_angles}
 use Rattle.address_lists.specs.PhrasePieces.{HasCore, PhrasePieces, PlacePieces}
@@ -30,8 +30,8 @@ with_domain local (Some domain) = Some (record { local = local; domain = domain 
 abbrev pub served_address : Address → Option Address
 served_address a = if list_all is_ascii a.local then with_domain a.local (served_domain a.domain) else None
 
-abbrev pub is_plain : MailboxValue → Bool
-is_plain m = is_some (served_address m.address)
+abbrev pub has_served_address : MailboxValue → Bool
+has_served_address m = is_some (served_address m.address)
 
 -- ---- mailboxes and groups
 
@@ -105,11 +105,11 @@ InnerPieces inner pieces = ((are_blank inner ≡ true) × CommentsPieces (commen
 -- the pieces of a group with an octet above 127
 pub data GroupPieces (tokens : List TokenValue) (pieces : List (List ℕ)) : Type 0 where
   -- its name and the comments beside it, its members, and then the comments behind it
-  Kept : (name : List UnitValue) (members : List MailboxValue) (first inner comments : List (List ℕ)) → (g : IsGroup tokens name members) → list_all is_plain members ≡ true
+  Kept : (name : List UnitValue) (members : List MailboxValue) (first inner comments : List (List ℕ)) → (g : IsGroup tokens name members) → list_all has_served_address members ≡ true
       → PlacePieces g.before first → InnerPieces g.group.inner inner → CommentsPieces (comments_of g.group.after) comments
       → pieces ≡ first ++ (58 ∷ []) ∷ (inner ++ (59 ∷ []) ∷ comments) → GroupPieces tokens pieces
   -- a group without members where an address of it can't be served, and then all comments
-  Emptied : (name : List UnitValue) (members : List MailboxValue) (words comments : List (List ℕ)) → IsGroup tokens name members → list_all is_plain members ≡ false
+  Emptied : (name : List UnitValue) (members : List MailboxValue) (words comments : List (List ℕ)) → IsGroup tokens name members → list_all has_served_address members ≡ false
       → WriteAll (group_units name members) words → CommentsPieces (comments_of tokens) comments → pieces ≡ words ++ no_members ∷ comments → GroupPieces tokens pieces
 
 -- ---- lists
@@ -125,24 +125,24 @@ PlaceOfListPieces true tokens pieces = CommentsPieces (comments_of tokens) piece
 PlaceOfListPieces false tokens pieces = ElementPieces (list_all is_ascii (octets_of tokens)) tokens pieces
 
 -- a comma is put behind an element that another follows
-abbrev pub followed_by : List TokenValue → List (List TokenValue) → List (List ℕ) → List (List ℕ)
-followed_by place places pieces = if not (are_blank place) && list_any (λ p. not (are_blank p)) places then with_comma pieces else pieces
+abbrev pub comma_followed : List TokenValue → List (List TokenValue) → List (List ℕ) → List (List ℕ)
+comma_followed place places pieces = if not (are_blank place) && list_any (λ p. not (are_blank p)) places then with_comma pieces else pieces
 
 abbrev pub PlacesPieces : List (List TokenValue) → List (List ℕ) → Type 0
 PlacesPieces [] pieces = pieces ≡ []
-PlacesPieces (place ∷ places) pieces = (first more : List (List ℕ)) × PlaceOfListPieces (are_blank place) place first × PlacesPieces places more × (pieces ≡ followed_by place places first ++ more)
+PlacesPieces (place ∷ places) pieces = (first more : List (List ℕ)) × PlaceOfListPieces (are_blank place) place first × PlacesPieces places more × (pieces ≡ comma_followed place places first ++ more)
 
 -- the text is a list of these elements, and these are its comments
 pub record SaysAddresses (text : List ℕ) (elements : List ElementValue) (comments : List CommentValue) : Type 0 where
   pub tokens : List TokenValue
-  pub has : HasTokenValues text tokens
+  pub has : HasMailTokens text tokens
   pub are_elements : AreDivided SaysPlace tokens elements
   pub comments_say : CommentsSay (comments_of tokens) comments
 
 -- the text is a list of addresses, with these pieces
 pub record AddressesPieces (text : List ℕ) (pieces : List (List ℕ)) : Type 0 where
   pub tokens : List TokenValue
-  pub has : HasTokenValues text tokens
+  pub has : HasMailTokens text tokens
   pub elements : List ElementValue
   pub are_elements : AreDivided SaysPlace tokens elements
   pub pieces_are : PlacesPieces are_elements.parts pieces

@@ -6,7 +6,7 @@ use Rattle.mail_wire.specs.Spans.{Stops, StopsBehind}
 use Rattle.encoded_words.specs.Words.{UnitValue}
 use Rattle.field_tokens.specs.Comments.{CommentValue, IsLinePiece}
 use Rattle.address_grammar.specs.AddressLists.{MailboxValue, ElementValue, One, Group}
-use Rattle.address_lists.specs.ListPieces.{served_address, is_plain, mailbox_units, group_units, SaysAddresses}
+use Rattle.address_lists.specs.ListPieces.{served_address, has_served_address, mailbox_units, group_units, SaysAddresses}
 
 -- the same mailbox, with its address as it is served
 pub record IsServedMailbox (m made : MailboxValue) : Type 0 where
@@ -22,7 +22,7 @@ StandsForMailboxIf true m (Group name members) = ⊥
 StandsForMailboxIf false m made = made ≡ Group (mailbox_units m) []
 
 abbrev pub StandsForMailbox : MailboxValue → ElementValue → Type 0
-StandsForMailbox m made = StandsForMailboxIf (is_plain m) m made
+StandsForMailbox m made = StandsForMailboxIf (has_served_address m) m made
 
 -- the same group with such members where all their addresses can be served, and else one without members
 abbrev pub StandsForGroupIf : Bool → List UnitValue → List MailboxValue → ElementValue → Type 0
@@ -32,7 +32,7 @@ StandsForGroupIf false name members made = made ≡ Group (group_units name memb
 
 abbrev pub StandsForElement : ElementValue → ElementValue → Type 0
 StandsForElement (One m) made = StandsForMailbox m made
-StandsForElement (Group name members) made = StandsForGroupIf (list_all is_plain members) name members made
+StandsForElement (Group name members) made = StandsForGroupIf (list_all has_served_address members) name members made
 
 -- The pieces, with a space between any two, are a list of what stands for these elements, with these comments.
 pub record AreAddressesAgain (elements : List ElementValue) (comments : List CommentValue) (pieces : List (List ℕ)) : Type 0 where

@@ -7,7 +7,7 @@ use Rattle.field_tokens.specs.Tokens.{TokenValue}
 use Rattle.field_tokens.specs.Squeezed.{comments_of}
 use Rattle.field_tokens.specs.Comments.{CommentValue, CommentsSay, CommentsPieces, IsLinePiece}
 use Rattle.address_grammar.specs.declared.Address.{Address}
-use Rattle.address_grammar.specs.private.Lexemes.{HasTokenValues}
+use Rattle.address_grammar.specs.private.Lexemes.{HasMailTokens}
 use Rattle.address_grammar.specs.Addresses.{address_text}
 use Rattle.address_grammar.specs.Paths.{IsPath, HasPath, in_angles}
 use Rattle.address_lists.specs.ListPieces.{served_address}
@@ -15,14 +15,14 @@ use Rattle.address_lists.specs.ListPieces.{served_address}
 -- the text is a path of this address, or the null path, and these are its comments
 pub record SaysPath (text : List ℕ) (answer : Option Address) (comments : List CommentValue) : Type 0 where
   pub tokens : List TokenValue
-  pub has : HasTokenValues text tokens
+  pub has : HasMailTokens text tokens
   pub is_path : IsPath tokens answer
   pub comments_say : CommentsSay (comments_of tokens) comments
 
 -- the address as it is served, in angle brackets, and then the comments
 pub record PathPieces (text : List ℕ) (pieces : List (List ℕ)) : Type 0 where
   pub tokens : List TokenValue
-  pub has : HasTokenValues text tokens
+  pub has : HasMailTokens text tokens
   pub address : Address
   pub served : Address
   pub is_path : IsPath tokens (Some address)
@@ -49,4 +49,4 @@ pub record ServesPath (text : List ℕ) (served : Address) : Type 0 where
 
 -- the text has tokens
 abbrev pub HasSomeTokens : List ℕ → Type 0
-HasSomeTokens text = (tokens : List TokenValue) × HasTokenValues text tokens
+HasSomeTokens text = (tokens : List TokenValue) × HasMailTokens text tokens

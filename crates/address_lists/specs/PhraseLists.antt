@@ -5,7 +5,7 @@ use Rattle.encoded_words.specs.PhraseUnits.{HasPhraseUnits}
 use Rattle.field_tokens.specs.Tokens.{TokenValue}
 use Rattle.field_tokens.specs.Squeezed.{comments_of}
 use Rattle.field_tokens.specs.Comments.{CommentValue, CommentsSay}
-use Rattle.address_grammar.specs.private.Lexemes.{HasTokenValues}
+use Rattle.address_grammar.specs.private.Lexemes.{HasMailTokens}
 use Rattle.address_grammar.specs.AddressLists.{AreDivided}
 use Rattle.address_grammar.specs.Phrases.{IsPhrase, phrase_items}
 use Rattle.address_lists.specs.PhrasePieces.{PlacePieces}
@@ -19,7 +19,7 @@ IsOnePhrase tokens (units ∷ next ∷ more) = ⊥
 -- the text is phrases with these units, and these are its comments
 pub record SaysPhrases (text : List ℕ) (phrases : List (List UnitValue)) (comments : List CommentValue) : Type 0 where
   pub tokens : List TokenValue
-  pub has : HasTokenValues text tokens
+  pub has : HasMailTokens text tokens
   pub divided : AreDivided IsOnePhrase tokens phrases
   pub comments_say : CommentsSay (comments_of tokens) comments
 
@@ -38,7 +38,7 @@ with_commas (pieces ∷ next ∷ more) = pieces ++ (44 ∷ []) ∷ with_commas (
 -- the text is phrases, with these pieces
 pub record PhrasesPieces (text : List ℕ) (pieces : List (List ℕ)) : Type 0 where
   pub tokens : List TokenValue
-  pub has : HasTokenValues text tokens
+  pub has : HasMailTokens text tokens
   pub places : List (List (List ℕ))
   pub divided : AreDivided GivesOnePhrase tokens places
   pub pieces_are : pieces ≡ with_commas places

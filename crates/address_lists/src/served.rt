@@ -1,7 +1,7 @@
 //! Addresses as they are served.
 ghost use Rattle.std.specs.Prelude.{◌≡◌, IfOk, OnOk, IsUtf8};
 ghost use Rattle.std.specs.List.{list_all};
-ghost use Rattle.address_lists.specs.ListPieces.{served_domain as served_domain_of, served_address, is_plain};
+ghost use Rattle.address_lists.specs.ListPieces.{served_domain as served_domain_of, served_address, has_served_address};
 ghost use Rattle.address_lists.specs.private.ListWriting.{AreWritableMailboxes};
 ghost use Rattle.address_grammar.specs.private.ListViews.{mailbox_values};
 
@@ -41,7 +41,7 @@ pub fn served(alloc: Global, address: &Address) -> Result<Option<Address>, Memor
 /// Whether each of the addresses can be served.
 pub fn are_plain(alloc: Global, members: &[Mailbox]) -> Result<bool, Memory>
     requires { AreWritableMailboxes (mailbox_values members.now) }
-    ensures { IfOk result (λ are. are ≡ list_all is_plain (mailbox_values members.now)) }
+    ensures { IfOk result (λ are. are ≡ list_all has_served_address (mailbox_values members.now)) }
 {
     for member in members {
         if served(alloc, &member.address)?.is_none() {

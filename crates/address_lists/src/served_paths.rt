@@ -1,6 +1,6 @@
 //! The rewriting of paths.
 ghost use Rattle.std.specs.Prelude.{ℕ, List, IfOk, IfSome, IfNone};
-ghost use Rattle.address_grammar.specs.private.Lexemes.{HasTokenValues};
+ghost use Rattle.address_grammar.specs.private.Lexemes.{HasMailTokens};
 ghost use Rattle.address_lists.specs.PathPieces.{PathPieces, ServesPath, HasSomeTokens};
 ghost use Rattle.address_grammar.specs.private.Views.{values_of};
 ghost use Rattle.address_grammar.specs.declared.Address.{Address};
@@ -28,7 +28,7 @@ fn served_path(alloc: Global, text: &[u8]) -> Result<Option<Address>, Memory>
 // The tokens of a text that is known to have some, by their octets.
 fn known_lexemes<'a>(alloc: Global, text: &'a [u8]) -> Result<Vec<Lexeme<'a>>, Memory>
     requires { HasSomeTokens text.now }
-    ensures { IfOk result (λ lexemes. HasTokenValues text.now (values_of lexemes.items)) }
+    ensures { IfOk result (λ lexemes. HasMailTokens text.now (values_of lexemes.items)) }
 {
     match read_lexemes(alloc, text) {
         Ok(lexemes) => Ok(lexemes),

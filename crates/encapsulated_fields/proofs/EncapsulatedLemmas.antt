@@ -6,14 +6,14 @@ use Rattle.std.proofs.lemmas.List.{append_assoc, append-nil}
 use Rattle.std.specs.List.{AllByRecursion, list_all, flat_map, concat, join_with_byte}
 use Rattle.std.specs.Str.{IsUtf8}
 use Rattle.std.specs.Char.{to_ascii_uppercase}
-use Rattle.mail_wire.specs.Octets.{is_ascii, is_black, is_white, is_line_end}
+use Rattle.mail_wire.specs.Octets.{is_ascii, is_black, is_white, is_line_end, is_field_name_octet}
 use Rattle.mail_wire.specs.Lines.{crlf}
 use Rattle.mail_wire.specs.Folds.{unfolded}
 use Rattle.mail_wire.specs.Spans.{Stops, StopsBehind, IsTrimmed}
 use Rattle.mail_wire.proofs.Unfolded.{unfolded-fold, unfolded-other, unfolded-nil}
 use Rattle.mail_wire.proofs.AllLemmas.{pass-weaker, pass-append}
 use Rattle.mail_wire.proofs.OctetLemmas.{no_fold}
-use Rattle.encoded_words.specs.Words.{UnitValue, Text, IsEncodedWord, is_name_octet as is_charset_octet, is_text_octet}
+use Rattle.encoded_words.specs.Words.{UnitValue, Text, IsEncodedWord, is_token_octet as is_charset_octet, is_text_octet}
 use Rattle.encoded_words.specs.Units.{HasUnits, merged}
 use Rattle.encoded_words.specs.Pieces.{b_word, AreBWords, AreChunks, IsChunk}
 use Rattle.encoded_words.specs.Folding.{Piece, made_body, word_pieces, AddsWordLines}
@@ -22,7 +22,7 @@ use Rattle.encoded_words.proofs.BWords.{b_word-says, chunk_utf8}
 use Rattle.encoded_words.proofs.Chunks.{AreBWords-once}
 use Rattle.encoded_words.proofs.EncodedOctets.{encoded_all, encoded_ascii, encoded_black, encoded_some}
 use Rattle.encoded_words.proofs.WrittenUnits.{HasUnits-written}
-use Rattle.encapsulated_fields.specs.Encapsulated.{is_name_octet, IsFieldName, downgraded_name, field_of, Encapsulates, FieldSays}
+use Rattle.encapsulated_fields.specs.Encapsulated.{IsFieldName, downgraded_name, field_of, Encapsulates, FieldSays}
 
 -- an octet that is neither CR nor LF
 abbrev in_line : ℕ → Bool
@@ -179,7 +179,7 @@ FieldSays-encapsulated name value field u some is =
     }
 
 -- The field is ASCII.
-ascii_name : (x : ℕ) → is_name_octet x ≡ true → is_ascii x ≡ true
+ascii_name : (x : ℕ) → is_field_name_octet x ≡ true → is_ascii x ≡ true
 ascii_name x h = grind (arith, nat_tests)
 
 ascii_lines : (words : List (List ℕ)) → AllByRecursion IsWord words → list_all is_ascii (flat_map line_of (map behind_space words)) ≡ true
@@ -190,7 +190,7 @@ pub ascii-encapsulated : (name value field : List ℕ) → IsFieldName name → 
 ascii-encapsulated name value field is_name u is =
     let body : List ℕ = made_body (word_pieces 32 is.words) in
     let lines : list_all is_ascii body ≡ true = rw (body_is is.words) (ascii_lines is.words (b_words_are_words value is.words u is.are_words)) in
-    let head : list_all is_ascii (downgraded_name name) ≡ true = pass-append is_ascii (codes "Downgraded-") name refl (pass-weaker is_name_octet is_ascii ascii_name name is_name.1) in
+    let head : list_all is_ascii (downgraded_name name) ≡ true = pass-append is_ascii (codes "Downgraded-") name refl (pass-weaker is_field_name_octet is_ascii ascii_name name is_name.1) in
     rw (is.spelled) (pass-append is_ascii (downgraded_name name) (58 ∷ (body ++ crlf)) head (pass-append is_ascii body crlf lines refl))
 
 -- One field keeps a value under a name.

@@ -13,7 +13,7 @@ use Rattle.std.specs.Str.{IsUtf8, IsCharBoundary, encode_utf8_all}
 use lib.Utf8.{low_scalar}
 use Rattle.mail_wire.specs.Spans.{IsSpan}
 use Rattle.mail_wire.proofs.SpanLemmas.{Opposite, span_once}
-use Rattle.encapsulated_fields.specs.Xtext.{is_hex_digit, hex_value, AreDigits, XtextItem, Plain, Escape, IsXtextItem, item_spelling, item_character, ReadsAs, BeginsWith, BeginsEscape}
+use Rattle.encapsulated_fields.specs.Xtext.{is_hex_digit, hex_value, AreDigits, XtextItem, Plain, Escape, IsXtextItem, item_spelling, item_character, ReadsAs, BeginsCharacter, BeginsEscape}
 
 -- the address so far is that of the text before rest
 pub record ReadsTo (text address rest : List ℕ) : Type 0 where
@@ -29,7 +29,7 @@ items_append (x ∷ xs) ys a b = (a.0, items_append xs ys a.1 b)
 pub ReadsTo-none : (text : List ℕ) → ReadsTo text [] text
 ReadsTo-none text = record { items = []; are_items = tt; spelled = refl; address_is = refl }
 
-pub ReadsTo-push : (text address rest after new : List ℕ) (character : ℕ) → ReadsTo text address rest → BeginsWith rest character after
+pub ReadsTo-push : (text address rest after new : List ℕ) (character : ℕ) → ReadsTo text address rest → BeginsCharacter rest character after
     → new ≡ address ++ encode_utf8 character → ReadsTo text new after
 ReadsTo-push text address rest after new character reads begins pushed =
     let one : List XtextItem = begins.item ∷ [] in
@@ -92,14 +92,14 @@ front_items (x ∷ xs) (y ∷ ys) rest a b e =
     (r.0, r.1, cc, r.3)
 
 -- where nothing begins what is left, the whole is in neither form
-pub not-ReadsAs : (text address rest : List ℕ) → ReadsTo text address rest → 0 < length rest → ((character : ℕ) (after : List ℕ) → BeginsWith rest character after → ⊥)
+pub not-ReadsAs : (text address rest : List ℕ) → ReadsTo text address rest → 0 < length rest → ((character : ℕ) (after : List ℕ) → BeginsCharacter rest character after → ⊥)
     → (other : List ℕ) → ReadsAs text other → ⊥
 not-ReadsAs text address rest reads some none other is =
     let front = front_items reads.items is.items rest reads.are_items is.are_items (sym is.spelled ∙ reads.spelled) in
     stuck front.0 rest front.1 front.3 some none
   where
     stuck : (more : List XtextItem) (rest : List ℕ) → AllByRecursion IsXtextItem more → rest ≡ flat_map item_spelling more → 0 < length rest
-        → ((character : ℕ) (after : List ℕ) → BeginsWith rest character after → ⊥) → ⊥
+        → ((character : ℕ) (after : List ℕ) → BeginsCharacter rest character after → ⊥) → ⊥
     stuck [] rest a e some none = omega (arith, ap length e)
     stuck (i ∷ more) rest a e some none = none (item_character i) (flat_map item_spelling more) (record { item = i; is_item = a.0; spelled = e; character_is = refl })
 
@@ -195,18 +195,18 @@ BeginsEscape-made text after digits closing rest character e span brace are = re
 }
 
 -- The first character decides what a text begins with.
-pub not-BeginsWith-nil : (text : List ℕ) → length text ≡ 0 → (character : ℕ) (rest : List ℕ) → BeginsWith text character rest → ⊥
+pub not-BeginsWith-nil : (text : List ℕ) → length text ≡ 0 → (character : ℕ) (rest : List ℕ) → BeginsCharacter text character rest → ⊥
 not-BeginsWith-nil [] h character rest is = no_items is.item rest (sym is.spelled)
 not-BeginsWith-nil (b ∷ bs) h character rest is = omega arith
 
-pub BeginsWith-plain : (text rest : List ℕ) (c : ℕ) → IsScalar c × (text ≡ encode_utf8 c ++ rest) → c ≢ 92 → BeginsWith text c rest
+pub BeginsWith-plain : (text rest : List ℕ) (c : ℕ) → IsScalar c × (text ≡ encode_utf8 c ++ rest) → c ≢ 92 → BeginsCharacter text c rest
 BeginsWith-plain text rest c is other = record { item = Plain c; is_item = (is.0, other); spelled = is.1; character_is = refl }
 
 backslash_first : (text after : List ℕ) (first : ℕ) → text ≡ encode_utf8 first ++ after → first ≡ 92 → text ≡ 92 ∷ after
 backslash_first text after first e is = e ∙ ap (λ c. encode_utf8 c ++ after) is ∙ ap (λ t. t ++ after) (encode_ascii 92 (omega arith))
 
 pub not-BeginsWith-escape : (text after bytes : List ℕ) (first : ℕ) → text ≡ encode_utf8 first ++ after → first ≡ 92 → bytes ≡ after
-    → ((character : ℕ) (rest : List ℕ) → BeginsEscape bytes character rest → ⊥) → (character : ℕ) (rest : List ℕ) → BeginsWith text character rest → ⊥
+    → ((character : ℕ) (rest : List ℕ) → BeginsEscape bytes character rest → ⊥) → (character : ℕ) (rest : List ℕ) → BeginsCharacter text character rest → ⊥
 not-BeginsWith-escape text after bytes first e is same none character rest begins =
     by begins.item begins.is_item (sym (backslash_first text after first e is) ∙ begins.spelled)
   where
@@ -246,7 +246,7 @@ escape_cut after bytes rest character u same begins =
     subst (IsCharBoundary after) (sym (escape_end after rest character is)) (IsCharBoundary-after_ascii after (2 + length is.digits) u (omega arith) (omega arith))
 
 pub BeginsWith-escape : (text after bytes rest tail : List ℕ) (first character : ℕ) → text ≡ encode_utf8 first ++ after → first ≡ 92 → bytes ≡ after
-    → BeginsEscape bytes character rest → tail ≡ drop (ends_at after rest) after → BeginsWith text character tail
+    → BeginsEscape bytes character rest → tail ≡ drop (ends_at after rest) after → BeginsCharacter text character tail
 BeginsWith-escape text after bytes rest tail first character e is_first same begins cut =
     let is : BeginsEscape after character rest = subst (λ t. BeginsEscape t character rest) same begins in
     let front : List ℕ = codes "x{" ++ (is.digits ++ 125 ∷ []) in
@@ -261,7 +261,7 @@ BeginsWith-escape text after bytes rest tail first character e is_first same beg
       character_is = is.character_is;
     }
 
-pub BeginsWith-shortens : (text rest : List ℕ) (character : ℕ) → BeginsWith text character rest → length rest < length text
+pub BeginsWith-shortens : (text rest : List ℕ) (character : ℕ) → BeginsCharacter text character rest → length rest < length text
 BeginsWith-shortens text rest character is = by is.item is.spelled
   where
     by : (item : XtextItem) → text ≡ item_spelling item ++ rest → length rest < length text

@@ -1,7 +1,7 @@
 -- Fields that keep the value of another field under a `Downgraded-` name (RFC 6857, 3.1).
-use Rattle.std.specs.Prelude.{◌≡◌, ℕ, ◌<◌, nat_le, nat_eq, Bool, true, ◌&&◌, not, List, ◌∷◌, ◌++◌, length, codes}
+use Rattle.std.specs.Prelude.{◌≡◌, ℕ, ◌<◌, true, List, ◌∷◌, ◌++◌, length, codes}
 use Rattle.std.specs.List.{list_all}
-use Rattle.mail_wire.specs.Octets.{is_white}
+use Rattle.mail_wire.specs.Octets.{is_white, is_field_name_octet}
 use Rattle.mail_wire.specs.Lines.{crlf}
 use Rattle.mail_wire.specs.Folds.{unfolded}
 use Rattle.mail_wire.specs.Spans.{IsTrimmed}
@@ -10,12 +10,8 @@ use Rattle.encoded_words.specs.Units.{HasUnits}
 use Rattle.encoded_words.specs.Pieces.{AreBWords}
 use Rattle.encoded_words.specs.Folding.{made_body, word_pieces}
 
--- an octet of a field's name: 33 to 126, and no colon (RFC 5322, 3.6.8)
-abbrev pub is_name_octet : ℕ → Bool
-is_name_octet x = nat_le 33 x && nat_le x 126 && not (nat_eq x 58)
-
 abbrev pub IsFieldName : List ℕ → Type 0
-IsFieldName name = (0 < length name) × (list_all is_name_octet name ≡ true)
+IsFieldName name = (0 < length name) × (list_all is_field_name_octet name ≡ true)
 
 abbrev pub downgraded_name : List ℕ → List ℕ
 downgraded_name name = codes "Downgraded-" ++ name

@@ -48,7 +48,7 @@ pub record ReadsAs (text address : List ℕ) : Type 0 where
   pub address_is : address ≡ encode_utf8_all (map item_character items)
 
 -- a text begins with the spelling of this character, and rest follows
-pub record BeginsWith (text : List ℕ) (character : ℕ) (rest : List ℕ) : Type 0 where
+pub record BeginsCharacter (text : List ℕ) (character : ℕ) (rest : List ℕ) : Type 0 where
   pub item : XtextItem
   pub is_item : IsXtextItem item
   pub spelled : text ≡ item_spelling item ++ rest

@@ -4,7 +4,7 @@ ghost use Rattle.std.specs.List.{list_all};
 ghost use Rattle.std.specs.Str.{IsUtf8};
 ghost use Rattle.std.specs.Char.{encode_utf8, digit_value, IsScalar};
 ghost use Rattle.mail_wire.specs.Spans.{IsSpan};
-ghost use Rattle.encapsulated_fields.specs.Xtext.{is_hex_digit, hex_value, ReadsAs, BeginsWith, BeginsEscape, AreDigits};
+ghost use Rattle.encapsulated_fields.specs.Xtext.{is_hex_digit, hex_value, ReadsAs, BeginsCharacter, BeginsEscape, AreDigits};
 
 use crate::address_forms::push_char;
 use mail_wire::{Memory, Octets};
@@ -118,8 +118,8 @@ fn split_char(text: &str) -> Option<(char, &str)>
 
 // The character that a text begins with, and what follows it.
 fn first_item(text: &str) -> Option<(char, &str)>
-    ensures found { IfSome result (λ x. BeginsWith text.now x.0 x.1.now) }
-    ensures none { IfNone result ((character : ℕ) (rest : List ℕ) → ¬ BeginsWith text.now character rest) }
+    ensures found { IfSome result (λ x. BeginsCharacter text.now x.0 x.1.now) }
+    ensures none { IfNone result ((character : ℕ) (rest : List ℕ) → ¬ BeginsCharacter text.now character rest) }
     ensures utf8 { IfSome result (λ x. IsUtf8 x.1.now) }
 {
     let Some((first, after)) = split_char(text) else {

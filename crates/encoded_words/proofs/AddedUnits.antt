@@ -5,7 +5,7 @@ use Rattle.encoded_words.specs.declared.Unit.{Unit as CodeUnit}
 use Rattle.encoded_words.specs.private.Values.{value_of}
 use Rattle.encoded_words.specs.Words.{UnitValue, Text, Opaque}
 use Rattle.encoded_words.specs.Pieces.{AddsBWords}
-use Rattle.encoded_words.specs.Written.{Writes, WriteAll, IsWritable, AreWritable, AddsUnits}
+use Rattle.encoded_words.specs.Written.{WritesUnit, WriteAll, IsWritable, AreWritable, AddsUnits}
 use Rattle.encoded_words.proofs.Chunks.{AreBWords-once}
 use Rattle.encoded_words.proofs.AllChunks.{AreBWords-some}
 
@@ -14,7 +14,7 @@ write_append [] vs a b p q = rw (p) q
 write_append (u ∷ us) vs a b p q =
     (p.0, p.1 ++ b, ap (λ r. r ++ b) p.2 ∙ append_assoc p.0 p.1 b, p.3, write_append us vs p.1 b p.4 q)
 
-one_unit : (u : UnitValue) (pieces : List (List ℕ)) → Writes u pieces → WriteAll (u ∷ []) pieces
+one_unit : (u : UnitValue) (pieces : List (List ℕ)) → WritesUnit u pieces → WriteAll (u ∷ []) pieces
 one_unit u pieces w = (pieces, [], sym (append-nil pieces), w, refl)
 
 pub adds_text : (octets : List ℕ) (old new : List (List ℕ)) → AddsBWords octets old new [] → AddsUnits (Text octets ∷ []) old new
@@ -48,7 +48,7 @@ pub writes_all : (units : List CodeUnit) (i : ℕ) (old new : List (List ℕ)) �
 writes_all units i old new h w = rw (take_all i units h) at w.adds
 
 -- There is one list of pieces of units.
-Writes-once : (u : UnitValue) (ps qs : List (List ℕ)) → Writes u ps → Writes u qs → ps ≡ qs
+Writes-once : (u : UnitValue) (ps qs : List (List ℕ)) → WritesUnit u ps → WritesUnit u qs → ps ≡ qs
 Writes-once (Text octets) ps qs p q = AreBWords-once octets ps qs p q
 Writes-once (Opaque charset octets source) ps qs p q = p ∙ sym q
 
@@ -60,7 +60,7 @@ WriteAll-once (u ∷ us) ps qs p q =
     p.2 ∙ rw (first, more) refl ∙ sym q.2
 
 -- Units that can be written have pieces.
-Writes-some : (u : UnitValue) → IsWritable u → (pieces : List (List ℕ)) × Writes u pieces
+Writes-some : (u : UnitValue) → IsWritable u → (pieces : List (List ℕ)) × WritesUnit u pieces
 Writes-some (Text octets) can = AreBWords-some octets can
 Writes-some (Opaque charset octets source) can = (source ∷ [], refl)
 

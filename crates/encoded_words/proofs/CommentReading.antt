@@ -10,8 +10,8 @@ use Rattle.mail_wire.specs.Spans.{Stops, IsSpan}
 use Rattle.encoded_words.specs.Words.{UnitValue, Text, SaysWhere}
 use Rattle.encoded_words.specs.Units.{raw_units, merged, with_text, word_unit, begins_encoded, run_text}
 use Rattle.encoded_words.specs.CommentUnits.{TextItem, Plain, Pair, AreTextItems, item_spelling, item_octet, has_backslash, is_white_item, CommentWord, IsCommentWord, word_items, ItemsDivide, AreCommentWords, comment_place, comment_places, HasCommentUnits}
-use Rattle.encoded_words.specs.private.Merging.{IsMerging, TakesWord, done_values, units_then, onto}
-use Rattle.encoded_words.specs.private.CommentReading.{BeginsWith, BeginsItem, BeginsBlack, SplitsWord, GivesOctets, TakesCommentWord}
+use Rattle.encoded_words.specs.private.Merging.{IsMerging, TakesWord, done_values, all_units_then, onto}
+use Rattle.encoded_words.specs.private.CommentReading.{BeginsItems, BeginsOctetItem, BeginsBlack, SplitsWord, GivesOctets, TakesCommentWord}
 use Rattle.encoded_words.specs.Written.{has_no_backslash}
 use Rattle.encoded_words.proofs.CommentLemmas.{items_once}
 use Rattle.encoded_words.proofs.PlainItems.{plain_octets, plain_spelling, plain_items, plain_before, plain_no_backslash, plain_white, white_no_backslash}
@@ -21,7 +21,7 @@ abbrev spelling : List TextItem → List ℕ
 spelling items = flat_map item_spelling items
 
 -- One item comes first.
-BeginsWith-plain : (text : List ℕ) (x : ℕ) (rest : List ℕ) → text ≡ x ∷ rest → (x ≡ 92 → length rest ≡ 0) → BeginsWith text (Plain x ∷ []) rest
+BeginsWith-plain : (text : List ℕ) (x : ℕ) (rest : List ℕ) → text ≡ x ∷ rest → (x ≡ 92 → length rest ≡ 0) → BeginsItems text (Plain x ∷ []) rest
 BeginsWith-plain text x rest e lone = record {
   whole = e;
   onward = λ more are is. ((λ b. no_more more (sym is ∙ nil_from_length rest (lone b))), are);
@@ -32,14 +32,14 @@ BeginsWith-plain text x rest e lone = record {
     no_more (Plain y ∷ more) e = cc e
     no_more (Pair y ∷ more) e = cc e
 
-pub BeginsItem-plain : (text : List ℕ) (x : ℕ) (rest : List ℕ) → text ≡ x ∷ rest → (x ≡ 92 → length rest ≡ 0) → BeginsItem text x rest
+pub BeginsItem-plain : (text : List ℕ) (x : ℕ) (rest : List ℕ) → text ≡ x ∷ rest → (x ≡ 92 → length rest ≡ 0) → BeginsOctetItem text x rest
 BeginsItem-plain text x rest e lone = record { item = Plain x; begins = BeginsWith-plain text x rest e lone; octet_is = refl }
 
-pub BeginsItem-pair : (text : List ℕ) (x : ℕ) (rest : List ℕ) → text ≡ 92 ∷ x ∷ rest → BeginsItem text x rest
+pub BeginsItem-pair : (text : List ℕ) (x : ℕ) (rest : List ℕ) → text ≡ 92 ∷ x ∷ rest → BeginsOctetItem text x rest
 BeginsItem-pair text x rest e = record { item = Pair x; begins = record { whole = e; onward = λ more are is. are }; octet_is = refl }
 
 -- an item begins with white where it is white
-pub BeginsBlack-item : (text : List ℕ) (octet : ℕ) (rest : List ℕ) (first : ℕ) (after : List ℕ) → text ≡ first ∷ after → is_white first ≡ false → BeginsItem text octet rest → BeginsBlack text rest
+pub BeginsBlack-item : (text : List ℕ) (octet : ℕ) (rest : List ℕ) (first : ℕ) (after : List ℕ) → text ≡ first ∷ after → is_white first ≡ false → BeginsOctetItem text octet rest → BeginsBlack text rest
 BeginsBlack-item text octet rest first after e black is = record { item = is.item; begins = is.begins; black = by is.item (sym e ∙ is.begins.whole) }
   where
     by : (i : TextItem) → first ∷ after ≡ spelling (i ∷ []) ++ rest → not (is_white_item i) ≡ true
@@ -50,17 +50,17 @@ item_shorter : (i : TextItem) (rest : List ℕ) → length rest < length (spelli
 item_shorter (Plain x) rest = omega arith
 item_shorter (Pair x) rest = omega arith
 
-pub BeginsItem-shorter : (text : List ℕ) (octet : ℕ) (rest : List ℕ) → BeginsItem text octet rest → length rest < length text
+pub BeginsItem-shorter : (text : List ℕ) (octet : ℕ) (rest : List ℕ) → BeginsOctetItem text octet rest → length rest < length text
 BeginsItem-shorter text octet rest is = rw is.begins.whole (item_shorter is.item rest)
 
 pub BeginsBlack-shorter : (text rest : List ℕ) → BeginsBlack text rest → length rest < length text
 BeginsBlack-shorter text rest is = rw is.begins.whole (item_shorter is.item rest)
 
 -- Items are taken one after another.
-BeginsWith-none : (text : List ℕ) → BeginsWith text [] text
+BeginsWith-none : (text : List ℕ) → BeginsItems text [] text
 BeginsWith-none text = record { whole = refl; onward = λ more are is. are }
 
-BeginsWith-more : (text rest after : List ℕ) (items : List TextItem) (i : TextItem) → BeginsWith text items rest → BeginsWith rest (i ∷ []) after → BeginsWith text (items ++ i ∷ []) after
+BeginsWith-more : (text rest after : List ℕ) (items : List TextItem) (i : TextItem) → BeginsItems text items rest → BeginsItems rest (i ∷ []) after → BeginsItems text (items ++ i ∷ []) after
 BeginsWith-more text rest after items i front next = record {
   whole = front.whole ∙ rw (flat_map-append item_spelling items (i ∷ []), append_assoc) (ap (λ r. spelling items ++ r) next.whole);
   onward = λ more are is.
@@ -75,7 +75,7 @@ BeginsWith-more text rest after items i front next = record {
 -- the items so far are none of them white
 pub record ReadsBlack (text rest : List ℕ) : Type 0 where
   pub items : List TextItem
-  pub begins : BeginsWith text items rest
+  pub begins : BeginsItems text items rest
   pub black : list_all (λ i. not (is_white_item i)) items ≡ true
 
 pub ReadsBlack-start : (text : List ℕ) → ReadsBlack text text
@@ -101,13 +101,13 @@ SplitsWord-end text rest word after reads stops front back =
 -- the items so far give these octets
 pub record ReadsItems (text octets rest : List ℕ) : Type 0 where
   pub items : List TextItem
-  pub begins : BeginsWith text items rest
+  pub begins : BeginsItems text items rest
   pub octets_are : octets ≡ map item_octet items
 
 pub ReadsItems-start : (text : List ℕ) → ReadsItems text [] text
 ReadsItems-start text = record { items = []; begins = BeginsWith-none text; octets_are = refl }
 
-pub ReadsItems-step : (text octets rest after new : List ℕ) (octet : ℕ) → ReadsItems text octets rest → BeginsItem rest octet after → new ≡ octets ++ octet ∷ [] → ReadsItems text new after
+pub ReadsItems-step : (text octets rest after new : List ℕ) (octet : ℕ) → ReadsItems text octets rest → BeginsOctetItem rest octet after → new ≡ octets ++ octet ∷ [] → ReadsItems text new after
 ReadsItems-step text octets rest after new octet reads next pushed = record {
   items = reads.items ++ next.item ∷ [];
   begins = BeginsWith-more text rest after reads.items next.item reads.begins next.begins;
@@ -170,7 +170,7 @@ behind run was (w ∷ ws) = with_text (cond (was && is_some w.says) [] run) (mer
 pub record ReadsComment (text : List ℕ) (m : Merging) (run : List ℕ) (was : Bool) (rest : List ℕ) : Type 0 where
   pub stops : Stops is_white rest
   pub units : (ws : List CommentWord) → AreCommentWords ws → AreTextItems (flat_map word_items ws) → rest ≡ spelling (flat_map word_items ws)
-      → HasCommentUnits text (units_then m (behind run was ws))
+      → HasCommentUnits text (all_units_then m (behind run was ws))
 
 behind_first : (ws : List CommentWord) → behind [] false ws ≡ merged (raw_units (comment_places ws))
 behind_first [] = refl

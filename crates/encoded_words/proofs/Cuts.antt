@@ -10,8 +10,8 @@ use Rattle.std.proofs.lemmas.List.Sums.{fails_before_first}
 use Rattle.std.specs.Prelude.{IfSome}
 use Rattle.std.specs.List.{list_all, position_or_len}
 use Rattle.mail_wire.proofs.AllLemmas.{pass-append}
-use Rattle.encoded_words.specs.Words.{WordParts, HasParts, word_of, IsName, language_suffix, is_name_octet}
-use Rattle.encoded_words.specs.private.Parts.{lacks, wrapped, IsNamed}
+use Rattle.encoded_words.specs.Words.{WordParts, HasWordParts, word_of, IsName, language_suffix, is_token_octet}
+use Rattle.encoded_words.specs.private.Parts.{lacks, wrapped, IsCharsetName}
 
 -- no such octet at any place
 pub lacks_from_places : (c : ℕ) (xs : List ℕ) → ((k : ℕ) → k < length xs → eqb (get_or xs k 0) c ≡ false) → lacks c xs ≡ true
@@ -62,20 +62,20 @@ suffix_once a b (Some l) None la lb e = absurd (not_lacking 42 a l (rw (e, appen
 suffix_once a b (Some l) (Some m) la lb e = let r = cut_once 42 a b l m la lb e in (r.0, ap (λ x. Some x) r.1)
 
 -- octets of a name are neither stars nor question marks
-name_octet : (b : ℕ) → is_name_octet b ≡ true → (eqb b 42 ≡ false) × (eqb b 63 ≡ false)
+name_octet : (b : ℕ) → is_token_octet b ≡ true → (eqb b 42 ≡ false) × (eqb b 63 ≡ false)
 name_octet b h = (grind (arith, nat_tests), grind (arith, nat_tests))
 
-pub name_lacks : (xs : List ℕ) → list_all is_name_octet xs ≡ true → (lacks 42 xs ≡ true) × (lacks 63 xs ≡ true)
+pub name_lacks : (xs : List ℕ) → list_all is_token_octet xs ≡ true → (lacks 42 xs ≡ true) × (lacks 63 xs ≡ true)
 name_lacks [] h = (refl, refl)
 name_lacks (x ∷ xs) h =
-    let parts = and_parts (is_name_octet x) (list_all is_name_octet xs) h in
+    let parts = and_parts (is_token_octet x) (list_all is_token_octet xs) h in
     let one = name_octet x parts.0 in
     let rest = name_lacks xs parts.1 in
     (and_from (not (eqb x 42)) (lacks 42 xs) (ap not one.0) rest.0, and_from (not (eqb x 63)) (lacks 63 xs) (ap not one.1) rest.1)
 
 -- where a name is cut at its first star, it is a charset and language in that way alone
 pub IsNamed-once : (name charset cs : List ℕ) (language ls : Option (List ℕ)) → name ≡ charset ++ language_suffix language → lacks 42 charset ≡ true
-    → IsNamed name cs ls → (cs ≡ charset) × (ls ≡ language)
+    → IsCharsetName name cs ls → (cs ≡ charset) × (ls ≡ language)
 IsNamed-once name charset cs language ls spelled first is =
     suffix_once cs charset ls language (name_lacks cs is.charset_is.1).0 first (sym is.spelled ∙ spelled)
 
@@ -92,10 +92,10 @@ word_of-wrapped p =
     rw (append_assoc (name_of p) coded end, append_assoc p.charset (language_suffix p.language) (coded ++ end)) refl
 
 -- a word with these parts is this between its marks
-pub wrapped_word : (word : List ℕ) (p : WordParts) → HasParts word p → word ≡ wrapped (inner_of p)
+pub wrapped_word : (word : List ℕ) (p : WordParts) → HasWordParts word p → word ≡ wrapped (inner_of p)
 wrapped_word word p has = has.spelled ∙ word_of-wrapped p
 
-pub inner_is : (word inner : List ℕ) (p : WordParts) → word ≡ wrapped inner → HasParts word p → inner ≡ inner_of p
+pub inner_is : (word inner : List ℕ) (p : WordParts) → word ≡ wrapped inner → HasWordParts word p → inner ≡ inner_of p
 inner_is word inner p whole has =
     let same : wrapped inner ≡ wrapped (inner_of p) = sym whole ∙ wrapped_word word p has in
     append_cancel_right inner (inner_of p) (63 ∷ 61 ∷ []) (cc same)
@@ -107,16 +107,16 @@ language_lacks (Some l) h = (name_lacks l h.1).1
 lacks_append : (c : ℕ) (xs ys : List ℕ) → lacks c xs ≡ true → lacks c ys ≡ true → lacks c (xs ++ ys) ≡ true
 lacks_append c xs ys a b = pass-append (λ x. not (eqb x c)) xs ys a b
 
-pub name_of-lacks : (word : List ℕ) (p : WordParts) → HasParts word p → lacks 63 (name_of p) ≡ true
+pub name_of-lacks : (word : List ℕ) (p : WordParts) → HasWordParts word p → lacks 63 (name_of p) ≡ true
 name_of-lacks word p has = lacks_append 63 p.charset (language_suffix p.language) (name_lacks p.charset has.charset.1).1 (language_lacks p.language has.language)
 
 -- and how it is cut at its first question mark
 pub name_is : (word inner name coded : List ℕ) (p : WordParts) → word ≡ wrapped inner → inner ≡ name ++ 63 ∷ coded → lacks 63 name ≡ true
-    → HasParts word p → (name ≡ name_of p) × (coded ≡ p.letter ∷ 63 ∷ p.text)
+    → HasWordParts word p → (name ≡ name_of p) × (coded ≡ p.letter ∷ 63 ∷ p.text)
 name_is word inner name coded p whole cut first has =
     cut_once 63 name (name_of p) coded (p.letter ∷ 63 ∷ p.text) first (name_of-lacks word p has) (sym cut ∙ inner_is word inner p whole has)
 
-pub named_from : (word : List ℕ) (p : WordParts) → HasParts word p → IsNamed (name_of p) p.charset p.language
+pub named_from : (word : List ℕ) (p : WordParts) → HasWordParts word p → IsCharsetName (name_of p) p.charset p.language
 named_from word p has = record { spelled = refl; charset_is = has.charset; language_is = has.language }
 
 abbrev parts : List ℕ → Option (List ℕ) → ℕ → List ℕ → WordParts
@@ -129,7 +129,7 @@ same_parts : (p q : WordParts) → p.charset ≡ q.charset → p.language ≡ q.
 same_parts p q a b d e = made p.charset q.charset p.language q.language p.letter q.letter p.text q.text a b d e
 
 -- A word has one list of parts.
-pub HasParts-once : (word : List ℕ) (p q : WordParts) → HasParts word p → HasParts word q → p ≡ q
+pub HasParts-once : (word : List ℕ) (p q : WordParts) → HasWordParts word p → HasWordParts word q → p ≡ q
 HasParts-once word p q hp hq =
     let cut = name_is word (inner_of q) (name_of q) (q.letter ∷ 63 ∷ q.text) p (wrapped_word word q hq) refl (name_of-lacks word q hq) hp in
     let names = suffix_once q.charset p.charset q.language p.language (name_lacks q.charset hq.charset.1).0 (name_lacks p.charset hp.charset.1).0 cut.0 in

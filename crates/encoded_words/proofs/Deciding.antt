@@ -8,8 +8,8 @@ use Rattle.base64.specs.Engines.{standard}
 use Rattle.base64.specs.GeneralPurpose.{IsBytes, encode_of, decode_of}
 use Rattle.base64.proofs.EngineFacts.{decode_of-encode_of}
 use Rattle.mail_wire.proofs.SpanLemmas.{all_from_places}
-use Rattle.encoded_words.specs.Words.{WordParts, HasParts, IsName, IsWordText, IsBText, QItem, Space, Escape, Plain, IsQItem, q_spelling, q_octet, IsQText, IsTextOf, UnitValue, Says, SaysWhere, language_suffix, is_name_octet, is_text_octet, unit_of}
-use Rattle.encoded_words.specs.private.Parts.{lacks, wrapped, IsNamed}
+use Rattle.encoded_words.specs.Words.{WordParts, HasWordParts, IsName, IsWordText, IsBText, QItem, Space, Escape, Plain, IsQItem, q_spelling, q_octet, IsQText, IsTextOf, UnitValue, Says, SaysWhere, language_suffix, is_token_octet, is_text_octet, unit_of}
+use Rattle.encoded_words.specs.private.Parts.{lacks, wrapped, IsCharsetName}
 use Rattle.encoded_words.proofs.Cuts.{position_found, position_missing, not_lacking, name_of, inner_of, wrapped_word, word_of-wrapped, inner_is, name_is, named_from, IsNamed-once, HasParts-once}
 use Rattle.encoded_words.proofs.QText.{item_once, no_items}
 use Rattle.encoded_words.proofs.Octets.{is_byte, IsBytes-from_all}
@@ -73,7 +73,7 @@ decide_wrapped (x ∷ y ∷ xs) = elim (cases_eq x 61) [
 
 decide_name : (xs : List ℕ) → IsName xs ⊎ (IsName xs → ⊥)
 decide_name [] = inr (λ is. omega (arith, is.0))
-decide_name (x ∷ xs) = elim (cases_Bool (list_all is_name_octet (x ∷ xs))) [ inl t ↦ inl (omega arith, t) | inr f ↦ inr (λ is. true≢false (sym is.1 ∙ f)) ]
+decide_name (x ∷ xs) = elim (cases_Bool (list_all is_token_octet (x ∷ xs))) [ inl t ↦ inl (omega arith, t) | inr f ↦ inr (λ is. true≢false (sym is.1 ∙ f)) ]
 
 decide_language : (l : Option (List ℕ)) → IfSome l IsName ⊎ (IfSome l IsName → ⊥)
 decide_language None = inl tt
@@ -84,7 +84,7 @@ record Name : Type 0 where
   charset : List ℕ
   language : Option (List ℕ)
 
-named_at : (name charset : List ℕ) (language : Option (List ℕ)) → name ≡ charset ++ language_suffix language → lacks 42 charset ≡ true → Decided (λ (n : Name). IsNamed name n.charset n.language)
+named_at : (name charset : List ℕ) (language : Option (List ℕ)) → name ≡ charset ++ language_suffix language → lacks 42 charset ≡ true → Decided (λ (n : Name). IsCharsetName name n.charset n.language)
 named_at name charset language spelled first = elim (decide_name charset) [
   | inr fails ↦ inr (λ n is. fails (subst IsName (IsNamed-once name charset n.charset language n.language spelled first is).0 is.charset_is))
   | inl yes_charset ↦ elim (decide_language language) [
@@ -93,7 +93,7 @@ named_at name charset language spelled first = elim (decide_name charset) [
   ]
 ]
 
-decide_named : (name : List ℕ) → Decided (λ (n : Name). IsNamed name n.charset n.language)
+decide_named : (name : List ℕ) → Decided (λ (n : Name). IsCharsetName name n.charset n.language)
 decide_named name = elim (cut_at 42 name) [
   | inl cut ↦ named_at name cut.0 (Some cut.1) cut.2.whole cut.2.first
   | inr none ↦ named_at name name None (sym (append-nil name)) none
@@ -120,7 +120,7 @@ decide_coded (x ∷ y ∷ z ∷ xs) = elim (cases_eq y 63) [
   ]
 ]
 
-decide_inner : (word inner : List ℕ) → word ≡ wrapped inner → length word ≤ 75 → Decided (HasParts word)
+decide_inner : (word inner : List ℕ) → word ≡ wrapped inner → length word ≤ 75 → Decided (HasWordParts word)
 decide_inner word inner whole short = elim (cut_at 63 inner) [
   | inr none ↦ inr (λ p has. not_lacking 63 (name_of p) (p.letter ∷ 63 ∷ p.text) (subst (λ xs. lacks 63 xs ≡ true) (inner_is word inner p whole has) none))
   | inl cut ↦ elim (decide_named cut.0) [
@@ -143,7 +143,7 @@ decide_inner word inner whole short = elim (cut_at 63 inner) [
   ]
 ]
 
-decide_parts : (word : List ℕ) → Decided (HasParts word)
+decide_parts : (word : List ℕ) → Decided (HasWordParts word)
 decide_parts word = elim (cases_lt 75 (length word)) [
   | inl long ↦ inr (λ p has. let short = has.short in omega (arith, long, short))
   | inr short ↦ elim (decide_wrapped word) [

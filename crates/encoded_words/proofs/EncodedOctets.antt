@@ -6,11 +6,11 @@ use Rattle.std.specs.List.{list_all}
 use Rattle.std.specs.Char.{to_ascii_uppercase}
 use Rattle.mail_wire.specs.Octets.{is_ascii, is_black}
 use Rattle.mail_wire.proofs.AllLemmas.{pass-weaker, pass-append}
-use Rattle.encoded_words.specs.Words.{UnitValue, IsEncodedWord, IsTextOf, language_suffix, is_name_octet, is_text_octet, IsName}
+use Rattle.encoded_words.specs.Words.{UnitValue, IsEncodedWord, IsTextOf, language_suffix, is_token_octet, is_text_octet, IsName}
 
 -- what holds of each octet that an encoded word may have
 pub record HoldsInWords (p : ℕ → Bool) : Type 0 where
-  pub name : (x : ℕ) → is_name_octet x ≡ true → p x ≡ true
+  pub name : (x : ℕ) → is_token_octet x ≡ true → p x ≡ true
   pub text : (x : ℕ) → is_text_octet x ≡ true → p x ≡ true
   pub letter : (x : ℕ) → (to_ascii_uppercase x ≡ 66) ⊎ (to_ascii_uppercase x ≡ 81) → p x ≡ true
   pub marks : list_all p (61 ∷ 63 ∷ 42 ∷ []) ≡ true
@@ -21,7 +21,7 @@ letter_holds p holds letter text octets (inr q) = holds.letter letter (inr q.0)
 
 language_holds : (p : ℕ → Bool) → HoldsInWords p → p 42 ≡ true → (language : Option (List ℕ)) → IfSome language IsName → list_all p (language_suffix language) ≡ true
 language_holds p holds star None is = refl
-language_holds p holds star (Some l) is = and_from (p 42) (list_all p l) star (pass-weaker is_name_octet p holds.name l is.1)
+language_holds p holds star (Some l) is = and_from (p 42) (list_all p l) star (pass-weaker is_token_octet p holds.name l is.1)
 
 pub encoded_all : (p : ℕ → Bool) → HoldsInWords p → (word : List ℕ) (u : UnitValue) → IsEncodedWord word u → list_all p word ≡ true
 encoded_all p holds word u is =
@@ -39,7 +39,7 @@ encoded_all p holds word u is =
     let rest : List ℕ = w.charset ++ (language_suffix w.language ++ 63 ∷ w.letter ∷ 63 ∷ (w.text ++ 63 ∷ 61 ∷ [])) in
     rw (has.spelled)
     (and_from (p 61) (list_all p (63 ∷ rest)) first.0 (and_from (p 63) (list_all p rest) second.0
-    (pass-append p w.charset (language_suffix w.language ++ 63 ∷ w.letter ∷ 63 ∷ (w.text ++ 63 ∷ 61 ∷ [])) (pass-weaker is_name_octet p holds.name w.charset has.charset.1)
+    (pass-append p w.charset (language_suffix w.language ++ 63 ∷ w.letter ∷ 63 ∷ (w.text ++ 63 ∷ 61 ∷ [])) (pass-weaker is_token_octet p holds.name w.charset has.charset.1)
     (pass-append p (language_suffix w.language) (63 ∷ w.letter ∷ 63 ∷ (w.text ++ 63 ∷ 61 ∷ [])) (language_holds p holds third.0 w.language has.language) coded))))
 
 pub ascii_letter : (x : ℕ) → (to_ascii_uppercase x ≡ 66) ⊎ (to_ascii_uppercase x ≡ 81) → is_ascii x ≡ true
@@ -50,13 +50,13 @@ pub black_letter : (x : ℕ) → (to_ascii_uppercase x ≡ 66) ⊎ (to_ascii_upp
 black_letter x (inl h) = grind (arith, nat_tests)
 black_letter x (inr h) = grind (arith, nat_tests)
 
-pub ascii_name : (x : ℕ) → is_name_octet x ≡ true → is_ascii x ≡ true
+pub ascii_name : (x : ℕ) → is_token_octet x ≡ true → is_ascii x ≡ true
 ascii_name x h = grind (arith, nat_tests)
 
 pub ascii_text : (x : ℕ) → is_text_octet x ≡ true → is_ascii x ≡ true
 ascii_text x h = grind (arith, nat_tests)
 
-pub black_name : (x : ℕ) → is_name_octet x ≡ true → is_black x ≡ true
+pub black_name : (x : ℕ) → is_token_octet x ≡ true → is_black x ≡ true
 black_name x h = grind (arith, nat_tests)
 
 pub black_text : (x : ℕ) → is_text_octet x ≡ true → is_black x ≡ true

@@ -8,7 +8,7 @@ use Rattle.encoded_words.specs.Words.{UnitValue, Text, Opaque, Says}
 use Rattle.encoded_words.specs.Units.{Place, IsPlace, ArePlaces, Divides, HasUnits, place_octets, raw_units, merged, with_text, word_unit, begins_encoded, run_text}
 use Rattle.mail_wire.specs.Octets.{is_white, is_black}
 use Rattle.mail_wire.specs.Spans.{Stops, IsSpan}
-use Rattle.encoded_words.specs.private.Merging.{IsMerging, Adds, TakesWord, done_values, units_then, onto}
+use Rattle.encoded_words.specs.private.Merging.{IsMerging, AddsUnit, TakesWord, done_values, all_units_then, onto}
 use Rattle.encoded_words.proofs.WithText.{with_text-append}
 
 with_text-opaque : (bs charset octets source : List ℕ) (us : List UnitValue) → with_text bs (Opaque charset octets source ∷ us) ≡ with_text bs [] ++ Opaque charset octets source ∷ us
@@ -20,10 +20,10 @@ merged-onto (Text octets) us = refl
 merged-onto (Opaque charset octets source) us = refl
 
 -- what a push of text means, whatever follows
-pub then_text : (old new : Merging) (text : List ℕ) (us : List UnitValue) → IsMerging new (done_values old) (old.text.items ++ text) → units_then new us ≡ units_then old (with_text text us)
+pub then_text : (old new : Merging) (text : List ℕ) (us : List UnitValue) → IsMerging new (done_values old) (old.text.items ++ text) → all_units_then new us ≡ all_units_then old (with_text text us)
 then_text old new text us is = rw (is.done_is, is.text_is, ← with_text-append old.text.items text us) refl
 
-then_unit : (old new : Merging) (u : UnitValue) (us : List UnitValue) → Adds old new u → units_then new us ≡ units_then old (onto u us)
+then_unit : (old new : Merging) (u : UnitValue) (us : List UnitValue) → AddsUnit old new u → all_units_then new us ≡ all_units_then old (onto u us)
 then_unit old new (Text octets) us is = then_text old new octets us is
 then_unit old new (Opaque charset octets source) us is =
     rw (is.done_is, is.text_is, with_text-opaque old.text.items charset octets source us)
@@ -38,7 +38,7 @@ and_false true = refl
 and_false false = refl
 
 pub TakesWord-encoded : (old mid new : Merging) (run kept word : List ℕ) (was : Bool) (u : UnitValue) → Says word (Some u) → kept ≡ cond was [] run
-    → IsMerging mid (done_values old) (old.text.items ++ kept) → Adds mid new u → TakesWord old new run was word true
+    → IsMerging mid (done_values old) (old.text.items ++ kept) → AddsUnit mid new u → TakesWord old new run was word true
 TakesWord-encoded old mid new run kept word was u says kept_is text_is adds = record {
   says = Some u;
   says_is = says;
@@ -59,7 +59,7 @@ TakesWord-plain old mid new run word was says run_is word_is = record {
 pub record Reads (text : List ℕ) (m : Merging) (run : List ℕ) (was : Bool) (rest : List ℕ) : Type 0 where
   pub stops : Stops is_white rest
   pub units : (ps : List Place) → ArePlaces ps → rest ≡ flat_map place_octets ps
-      → HasUnits text (units_then m (with_text (cond (was && begins_encoded ps) [] run) (merged (raw_units ps))))
+      → HasUnits text (all_units_then m (with_text (cond (was && begins_encoded ps) [] run) (merged (raw_units ps))))
 
 pub Reads-start : (text lead rest : List ℕ) (m : Merging) → IsSpan is_white text lead rest → IsMerging m [] [] → Reads text m lead false rest
 Reads-start text lead rest m span empty = record {

@@ -11,8 +11,8 @@ abbrev pub is_visible : ℕ → Bool
 is_visible b = nat_lt 32 b && nat_lt b 127
 
 -- an octet of a charset or of a language (RFC 2047, 2, token; RFC 2231, 5)
-abbrev pub is_name_octet : ℕ → Bool
-is_name_octet b = is_visible b && not (list_any (λ s. b == s) (codes "()<>@,;:\\\"/[]?.=*"))
+abbrev pub is_token_octet : ℕ → Bool
+is_token_octet b = is_visible b && not (list_any (λ s. b == s) (codes "()<>@,;:\\\"/[]?.=*"))
 
 -- an octet of a word's text: any visible one but the question mark (RFC 2047, 2, encoded-text)
 abbrev pub is_text_octet : ℕ → Bool
@@ -20,7 +20,7 @@ is_text_octet b = is_visible b && not (b == 63)
 
 -- a charset, or a language
 abbrev pub IsName : List ℕ → Type 0
-IsName xs = (0 < length xs) × (list_all is_name_octet xs ≡ true)
+IsName xs = (0 < length xs) × (list_all is_token_octet xs ≡ true)
 
 -- the text of an encoded word
 abbrev pub IsWordText : List ℕ → Type 0
@@ -84,7 +84,7 @@ abbrev pub word_of : WordParts → List ℕ
 word_of p = 61 ∷ 63 ∷ (p.charset ++ (language_suffix p.language ++ 63 ∷ p.letter ∷ 63 ∷ (p.text ++ 63 ∷ 61 ∷ [])))
 
 -- the word has these parts, and at most 75 octets (RFC 2047, 2)
-pub record HasParts (word : List ℕ) (p : WordParts) : Type 0 where
+pub record HasWordParts (word : List ℕ) (p : WordParts) : Type 0 where
   pub spelled : word ≡ word_of p
   pub charset : IsName p.charset
   pub language : IfSome p.language IsName
@@ -109,7 +109,7 @@ unit_of charset octets word = let name = str_to_ascii_lowercase charset in
 pub record IsEncodedWord (word : List ℕ) (unit : UnitValue) : Type 0 where
   pub parts : WordParts
   pub octets : List ℕ
-  pub has_parts : HasParts word parts
+  pub has_parts : HasWordParts word parts
   pub spells : IsTextOf parts.letter parts.text octets
   pub says : unit ≡ unit_of parts.charset octets word
 

@@ -6,14 +6,14 @@ use Rattle.encoded_words.specs.Units.{merged}
 use Rattle.encoded_words.specs.Pieces.{AreBWords}
 
 -- the pieces of one unit
-abbrev pub Writes : UnitValue → List (List ℕ) → Type 0
-Writes (Text octets) pieces = AreBWords octets pieces
-Writes (Opaque charset octets source) pieces = pieces ≡ source ∷ []
+abbrev pub WritesUnit : UnitValue → List (List ℕ) → Type 0
+WritesUnit (Text octets) pieces = AreBWords octets pieces
+WritesUnit (Opaque charset octets source) pieces = pieces ≡ source ∷ []
 
 -- the pieces of units, one after the other
 abbrev pub WriteAll : List UnitValue → List (List ℕ) → Type 0
 WriteAll [] pieces = pieces ≡ []
-WriteAll (u ∷ us) pieces = (first : List (List ℕ)) × (more : List (List ℕ)) × (pieces ≡ first ++ more) × Writes u first × WriteAll us more
+WriteAll (u ∷ us) pieces = (first : List (List ℕ)) × (more : List (List ℕ)) × (pieces ≡ first ++ more) × WritesUnit u first × WriteAll us more
 
 -- text touches no text, and none is empty
 abbrev pub AreUnits : List UnitValue → Type 0

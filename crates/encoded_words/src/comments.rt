@@ -4,7 +4,7 @@ ghost use Rattle.mail_wire.specs.Octets.{is_black};
 ghost use Rattle.mail_wire.specs.Spans.{Stops};
 ghost use Rattle.encoded_words.specs.private.Values.{value_of};
 ghost use Rattle.encoded_words.specs.CommentUnits.{HasCommentUnits};
-ghost use Rattle.encoded_words.specs.private.CommentReading.{BeginsItem, BeginsBlack, SplitsWord, GivesOctets, TakesCommentWord};
+ghost use Rattle.encoded_words.specs.private.CommentReading.{BeginsOctetItem, BeginsBlack, SplitsWord, GivesOctets, TakesCommentWord};
 ghost use Rattle.encoded_words.specs.Written.{has_no_backslash as has_no_backslash_of};
 
 use crate::Unit;
@@ -14,7 +14,7 @@ use std::alloc::Global;
 
 // The octet that the first octet or quoted pair gives, and what follows that.
 fn first_item(octets: &[u8]) -> Option<(u8, &[u8])>
-    ensures found { IfSome result (λ x. BeginsItem octets.now x.0 x.1.now) }
+    ensures found { IfSome result (λ x. BeginsOctetItem octets.now x.0 x.1.now) }
     ensures none { IfNone result (octets.now ≡ []) }
 {
     let [octet, after @ ..] = octets else {

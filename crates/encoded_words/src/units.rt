@@ -4,7 +4,7 @@ ghost use Rattle.encoded_words.specs.private.Values.{value_of};
 ghost use Rattle.encoded_words.specs.Units.{with_text, HasUnits};
 ghost use Rattle.mail_wire.specs.Octets.{is_white as is_white_of, is_black};
 ghost use Rattle.mail_wire.specs.Spans.{IsSpan};
-ghost use Rattle.encoded_words.specs.private.Merging.{IsMerging, done_values, Adds, TakesWord};
+ghost use Rattle.encoded_words.specs.private.Merging.{IsMerging, done_values, AddsUnit, TakesWord};
 
 use crate::Unit;
 use crate::word::read_word;
@@ -67,7 +67,7 @@ impl Merging {
 
     // Adds what an encoded word says.
     fn push_unit(&mut self, alloc: Global, unit: Unit) -> Result<(), Memory>
-        ensures { OnOk result (Adds self.old self.new (value_of unit)) }
+        ensures { OnOk result (AddsUnit self.old self.new (value_of unit)) }
     {
         match unit {
             Unit::Text(octets) => self.push_text(octets.as_slice()),

@@ -5,8 +5,8 @@ ghost use Rattle.std.specs.Option.{SomeIff, option_copied};
 ghost use Rattle.std.specs.Char.{digit_value};
 ghost use Rattle.std.specs.Str.{str_to_ascii_lowercase};
 ghost use Rattle.encoded_words.specs.private.Values.{value_of};
-ghost use Rattle.encoded_words.specs.Words.{WordParts, HasParts, IsName, IsWordText, IsBText, IsQText, IsTextOf, BeginsQ, UnitValue, gives_text, IsEncodedWord, unit_of as unit_value, language_suffix, is_name_octet as is_name_octet_of, is_text_octet};
-ghost use Rattle.encoded_words.specs.private.Parts.{lacks, wrapped, parts_value, IsNamed};
+ghost use Rattle.encoded_words.specs.Words.{WordParts, HasWordParts, IsName, IsWordText, IsBText, IsQText, IsTextOf, BeginsQ, UnitValue, gives_text, IsEncodedWord, unit_of as unit_value, language_suffix, is_token_octet as is_name_octet_of, is_text_octet};
+ghost use Rattle.encoded_words.specs.private.Parts.{lacks, wrapped, parts_value, IsCharsetName};
 
 use crate::Unit;
 use base64::DecodeAllocError;
@@ -110,8 +110,8 @@ fn cut_name(name: &[u8]) -> (&[u8], Option<&[u8]>)
 
 // A charset, and a language where there is one.
 fn named(name: &[u8]) -> Option<(&[u8], Option<&[u8]>)>
-    ensures found { IfSome result (λ x. IsNamed name.now x.0.now (option_copied x.1)) }
-    ensures none { IfNone result ((charset : List ℕ) (language : Option (List ℕ)) → ¬ IsNamed name.now charset language) }
+    ensures found { IfSome result (λ x. IsCharsetName name.now x.0.now (option_copied x.1)) }
+    ensures none { IfNone result ((charset : List ℕ) (language : Option (List ℕ)) → ¬ IsCharsetName name.now charset language) }
 {
     let (charset, language) = cut_name(name);
     if !is_name(charset) {
@@ -136,8 +136,8 @@ fn coded_parts(coded: &[u8]) -> Option<(u8, &[u8])>
 
 // The parts of an encoded word.
 fn parts_of(word: &[u8]) -> Option<Parts<'_>>
-    ensures found { IfSome result (λ p. HasParts word.now (parts_value p)) }
-    ensures none { IfNone result ((p : WordParts) → ¬ HasParts word.now p) }
+    ensures found { IfSome result (λ p. HasWordParts word.now (parts_value p)) }
+    ensures none { IfNone result ((p : WordParts) → ¬ HasWordParts word.now p) }
 {
     if word.len() > 75 {
         return None;

@@ -8,11 +8,11 @@ use Rattle.encoded_words.proofs.AllChunks.{AreBWords-some}
 use Rattle.utf8_fields.specs.Parts.{FieldParts, IsField, field_octets}
 use Rattle.field_downgrade.specs.declared.segments.Side.{Side}
 use Rattle.field_downgrade.specs.declared.segments.Side.TheVariants.{Edge, Encoded, Plain}
-use Rattle.field_downgrade.specs.Words.{Word, plain_text, last_run, is_high}
+use Rattle.field_downgrade.specs.Words.{Word, plain_text, last_run, is_high_word}
 use Rattle.field_downgrade.specs.Layout.{CutsLeft, CutsRight, IsCopied, begins_high, ends_high, first_side, last_side, copied_pieces, made_of}
 use Rattle.field_downgrade.specs.private.Steps.{NeedsRun, SplitsCopied, SplitsCore, BeginsCore, BeginsEncoded, CanWrite, WritesSegment, WritesWords, MakesUnstructured}
 use Rattle.field_downgrade.specs.Stands.{IsHighField}
-use Rattle.field_downgrade.specs.Message.{IsServed}
+use Rattle.field_downgrade.specs.Message.{IsServedField}
 use Rattle.field_downgrade.proofs.SegmentLemmas.{NotEncoded, EndsHigh}
 use Rattle.field_downgrade.proofs.Writing.{WritesOn, WritesOn-start, WritesOn-step, WritesOn-begins, WritesOn-end, WritesSegment-from, CanWrite-from, needs_left, needs_right, text_utf8, shorter}
 use Rattle.field_downgrade.proofs.Rewriting.{IsServed-words, IsServed-other}
@@ -23,11 +23,11 @@ use Rattle.field_downgrade.proofs.AllWords.{HasWords-some}
 -- The words before the first high one.
 split_copied : (ws : List Word) → (copied : List Word) × (rest : List Word) × SplitsCopied ws copied rest
 split_copied [] = ([], [], record { whole = refl; is_copied = refl; begins = tt })
-split_copied (w ∷ ws) = elim (cases_Bool (is_high w)) [
+split_copied (w ∷ ws) = elim (cases_Bool (is_high_word w)) [
   | inl high ↦ ([], w ∷ ws, record { whole = refl; is_copied = refl; begins = high })
   | inr low ↦
       let s = split_copied ws in
-      (w ∷ s.0, s.1, record { whole = ap (λ vs. w ∷ vs) s.2.whole; is_copied = and_from (not (is_high w)) (list_all (λ (v : Word). not (is_high v)) s.0) (ap not low) s.2.is_copied; begins = s.2.begins })
+      (w ∷ s.0, s.1, record { whole = ap (λ vs. w ∷ vs) s.2.whole; is_copied = and_from (not (is_high_word w)) (list_all (λ (v : Word). not (is_high_word v)) s.0) (ap not low) s.2.is_copied; begins = s.2.begins })
 ]
 
 -- The words up to the last high one before an encoded word.
@@ -42,7 +42,7 @@ record HasCore (ws : List Word) : Type 0 where
   stops : BeginsEncoded after
 
 core_more : (w : Word) (ws core low after : List Word) → w.is_encoded ≡ false → ws ≡ core ++ (low ++ after) → NotEncoded core → EndsHigh core → IsCopied low → BeginsEncoded after → HasCore (w ∷ ws)
-core_more w ws [] low after plain whole all ends is_low stops = elim (cases_Bool (is_high w)) [
+core_more w ws [] low after plain whole all ends is_low stops = elim (cases_Bool (is_high_word w)) [
   | inl high ↦ record { core = w ∷ []; low = low; after = after; whole = ap (λ vs. w ∷ vs) whole; plain = rw plain refl; ends = high; is_low = is_low; stops = stops }
   | inr w_low ↦ record {
     core = [];
@@ -51,7 +51,7 @@ core_more w ws [] low after plain whole all ends is_low stops = elim (cases_Bool
     whole = ap (λ vs. w ∷ vs) whole;
     plain = refl;
     ends = tt;
-    is_low = and_from (not (is_high w)) (list_all (λ (v : Word). not (is_high v)) low) (ap not w_low) is_low;
+    is_low = and_from (not (is_high_word w)) (list_all (λ (v : Word). not (is_high_word v)) low) (ap not w_low) is_low;
     stops = stops;
   }
 ]
@@ -81,9 +81,9 @@ core_ends w ws [] [] (x ∷ after) begins whole ends low stops =
     absurd (both_ways x.is_encoded (ap (λ (v : Word). v.is_encoded) (sym same) ∙ begins.1) stops)
 core_ends w ws [] (l ∷ low) after begins whole ends is_low stops =
     let same : w ≡ l = cc whole in
-    let l_low = (and_parts (not (is_high l)) (list_all (λ (v : Word). not (is_high v)) low) is_low).0 in
-    absurd (both_ways (is_high l) (not-true (is_high l) l_low) (ap is_high (sym same) ∙ begins.0))
-core_ends w ws (k ∷ core) low after begins whole ends is_low stops = let same : w ≡ k = cc whole in (ap is_high (sym same) ∙ begins.0, ends)
+    let l_low = (and_parts (not (is_high_word l)) (list_all (λ (v : Word). not (is_high_word v)) low) is_low).0 in
+    absurd (both_ways (is_high_word l) (not-true (is_high_word l) l_low) (ap is_high_word (sym same) ∙ begins.0))
+core_ends w ws (k ∷ core) low after begins whole ends is_low stops = let same : w ≡ k = cc whole in (ap is_high_word (sym same) ∙ begins.0, ends)
 
 split_core : (w : Word) (ws : List Word) → BeginsCore (w ∷ ws) → (core : List Word) × (rest : List Word) × SplitsCore (w ∷ ws) core rest
 split_core w ws begins =
@@ -139,7 +139,7 @@ unstructured_some octets f high =
     let lines = more_lines (length copied.1) words.0 [] first copied.0 copied.1 (omega arith) (WritesOn-start words.0 copied.0 copied.1 [] first words.1.are_words words.2 copied.2 refl) in
     (field_octets (made_of f lines.1.pieces), record { words = words.0; pieces = lines.1.pieces; has_words = words.1; are_utf8 = words.2; have_pieces = lines.1.have; made_is = refl })
 
-pub IsServed-some : (open_global : Bool) (octets : List ℕ) → IsField octets → (made : List ℕ) × IsServed open_global octets made
+pub IsServed-some : (open_global : Bool) (octets : List ℕ) → IsField octets → (made : List ℕ) × IsServedField open_global octets made
 IsServed-some open_global octets is_any = elim (cases_Bool (list_all is_ascii octets)) [
   | inl ascii ↦ IsServed-ascii open_global octets is_any ascii
   | inr other ↦

@@ -6,7 +6,7 @@ use Rattle.std.proofs.lemmas.List.{append_assoc, append-nil}
 use Rattle.std.specs.List.{list_all, flat_map, concat, AllByRecursion}
 use Rattle.std.specs.Str.{IsUtf8, IsAscii}
 use Rattle.std.proofs.lemmas.Str.{IsUtf8-append, IsUtf8-from_ascii}
-use Rattle.mail_wire.specs.Octets.{is_white, is_ascii}
+use Rattle.mail_wire.specs.Octets.{is_white, is_ascii, is_field_name_octet}
 use Rattle.mail_wire.specs.Lines.{crlf}
 use Rattle.mail_wire.specs.Folds.{unfolded, IsFolded}
 use Rattle.mail_wire.proofs.Folded.{without_ends, without_ends-append, unfolded-folded, IsFolded-nil, IsFolded-append, IsFolded-fold, IsFolded-plain}
@@ -19,12 +19,11 @@ use Rattle.utf8_fields.specs.Parts.{FieldParts, HasParts, HasValue, field_octets
 use Rattle.mail_wire.specs.Spans.{StopsBehind}
 use Rattle.mail_wire.proofs.AllLemmas.{pass-append}
 use Rattle.mail_wire.proofs.OctetLemmas.{white_no_end}
-use Rattle.utf8_fields.specs.Lines.{is_name_octet}
-use Rattle.field_downgrade.specs.Words.{AreUtf8, Word, AreWords, HasWords, run_of, last_run, plain_text, copied_octets, is_high, word_octets}
+use Rattle.field_downgrade.specs.Words.{AreUtf8, Word, AreWords, HasWords, run_of, last_run, plain_text, copied_octets, is_high_word, word_octets}
 use Rattle.encoded_words.specs.Words.{UnitValue}
 use Rattle.encoded_words.specs.Units.{HasUnits}
 use Rattle.utf8_fields.specs.Parts.{HasValue}
-use Rattle.field_downgrade.specs.Layout.{first_side, last_side, Segment, segment_words, IsSegment, AreSegments, IsCopied, copied_pieces, Gives, GiveAll, HavePieces, made_of}
+use Rattle.field_downgrade.specs.Layout.{first_side, last_side, Segment, segment_words, IsSegment, AreSegments, IsCopied, copied_pieces, GivesPieces, GiveAll, HavePieces, made_of}
 use Rattle.encoded_words.specs.Folding.{Piece, word_pieces, made_body}
 use Rattle.address_lists.proofs.PlacesAgain.{white_ascii}
 use Rattle.field_downgrade.specs.declared.segments.Side.{Side}
@@ -64,9 +63,9 @@ not_not false h = cc h
 
 copied_ascii : (ws : List Word) → AreWords ws → IsCopied ws → list_all is_ascii (copied_octets ws) ≡ true
 copied_ascii [] are low = refl
-copied_ascii (w ∷ []) are low = not_not (list_all is_ascii w.octets) (and_parts (not (is_high w)) true low).0
+copied_ascii (w ∷ []) are low = not_not (list_all is_ascii w.octets) (and_parts (not (is_high_word w)) true low).0
 copied_ascii (w ∷ v ∷ ws) are low =
-    let parts = and_parts (not (is_high w)) (list_all (λ (w : Word). not (is_high w)) (v ∷ ws)) low in
+    let parts = and_parts (not (is_high_word w)) (list_all (λ (w : Word). not (is_high_word w)) (v ∷ ws)) low in
     pass-append is_ascii w.octets (w.gap ++ copied_octets (v ∷ ws)) (not_not (list_all is_ascii w.octets) parts.0)
     (pass-append is_ascii w.gap (copied_octets (v ∷ ws)) (gap_ascii w.gap are.0.gap.octets) (copied_ascii (v ∷ ws) are.2 parts.1))
 
@@ -99,7 +98,7 @@ words_are white text b_words h u are =
 
 -- the text of the B words of a segment
 pub gives_utf8 : (side : Side) (run : List ℕ) (s : Segment) (pieces : List Piece) → AreWords (segment_words s) → AreUtf8 (segment_words s) → list_all is_white run ≡ true
-    → (g : Gives side run s pieces) → IsUtf8 (g.left ++ (plain_text s.core ++ g.right))
+    → (g : GivesPieces side run s pieces) → IsUtf8 (g.left ++ (plain_text s.core ++ g.right))
 gives_utf8 side run s pieces are u white g =
     let are_core = AreWords-front s.core s.copied are in
     let left = left_white side run g.left g.white white g.cuts_left in
@@ -108,7 +107,7 @@ gives_utf8 side run s pieces are u white g =
     (IsUtf8-append (plain_text s.core) g.right (plain_utf8 s.core are_core (AreUtf8-front s.core s.copied u)) (white_utf8 g.right right.0))
 
 gives_are : (side : Side) (run : List ℕ) (s : Segment) (pieces : List Piece) → IsSegment s → AreWords (segment_words s) → AreUtf8 (segment_words s) → list_all is_white run ≡ true
-    → Gives side run s pieces → ArePieces pieces
+    → GivesPieces side run s pieces → ArePieces pieces
 gives_are side run s pieces is are u white g =
     let are_core = AreWords-front s.core s.copied are in
     let left = left_white side run g.left g.white white g.cuts_left in
@@ -220,7 +219,7 @@ IsAscii-from : (xs : List ℕ) → list_all is_ascii xs ≡ true → IsAscii xs
 IsAscii-from xs h = ascii_literal xs h
 
 -- a field of these pieces is a field, with the last CRLF of the original
-pub HasParts-pieces : (octets : List ℕ) (f g : FieldParts) (pieces : List Piece) → HasParts octets f → ArePieces pieces → 0 < length g.name → list_all is_name_octet g.name ≡ true → g.white ≡ []
+pub HasParts-pieces : (octets : List ℕ) (f g : FieldParts) (pieces : List Piece) → HasParts octets f → ArePieces pieces → 0 < length g.name → list_all is_field_name_octet g.name ≡ true → g.white ≡ []
     → g.body ≡ made_body pieces → g.ending ≡ f.ending → HasParts (field_octets g) g
 HasParts-pieces octets f g pieces is are named name white body ending = record {
   spelled = refl;
@@ -238,17 +237,17 @@ pub HasParts-made : (octets : List ℕ) (f : FieldParts) (words : List Word) (pi
 HasParts-made octets f words pieces is has u have =
     HasParts-pieces octets f (made_of f pieces) pieces is (ArePieces-from words pieces has.are_words u have) is.named is.name refl refl refl
 
-pub name_ascii : (xs : List ℕ) → list_all is_name_octet xs ≡ true → list_all is_ascii xs ≡ true
+pub name_ascii : (xs : List ℕ) → list_all is_field_name_octet xs ≡ true → list_all is_ascii xs ≡ true
 name_ascii [] h = refl
 name_ascii (x ∷ xs) h =
-    let parts = and_parts (is_name_octet x) (list_all is_name_octet xs) h in
+    let parts = and_parts (is_field_name_octet x) (list_all is_field_name_octet xs) h in
     and_from (is_ascii x) (list_all is_ascii xs) (one x parts.0) (name_ascii xs parts.1)
   where
-    one : (x : ℕ) → is_name_octet x ≡ true → is_ascii x ≡ true
+    one : (x : ℕ) → is_field_name_octet x ≡ true → is_ascii x ≡ true
     one x h = grind (arith, nat_tests)
 
 -- all its octets are below 128
-pub pieces-ascii : (octets : List ℕ) (f g : FieldParts) (pieces : List Piece) → HasParts octets f → ArePieces pieces → list_all is_name_octet g.name ≡ true → g.white ≡ []
+pub pieces-ascii : (octets : List ℕ) (f g : FieldParts) (pieces : List Piece) → HasParts octets f → ArePieces pieces → list_all is_field_name_octet g.name ≡ true → g.white ≡ []
     → g.body ≡ made_body pieces → g.ending ≡ f.ending → list_all is_ascii (field_octets g) ≡ true
 pieces-ascii octets f g pieces is are name white body end =
     let ending : list_all is_ascii f.ending ≡ true = elim is.ending [ inl e ↦ rw e refl | inr e ↦ rw e refl ] in

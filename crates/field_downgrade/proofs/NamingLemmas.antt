@@ -18,7 +18,7 @@ use Rattle.field_downgrade.specs.declared.kind.Kind.TheVariants.{Unstructured, A
 use Rattle.field_downgrade.specs.Kinds.{kind_named}
 use Rattle.field_downgrade.specs.GlobalBodies.{ChangesGlobal}
 use Rattle.field_downgrade.specs.Stands.{IsAsciiField, NamesMessage, with_body, Changed, Renamed, IsSameMeaning, Parameters, SaysAs}
-use Rattle.field_downgrade.specs.Message.{IsServed}
+use Rattle.field_downgrade.specs.Message.{IsServedField}
 use Rattle.utf8_fields.proofs.TrimLemmas.{trimmed}
 use Rattle.field_downgrade.proofs.OneMeaning.{HasValue-once}
 use Rattle.field_downgrade.proofs.Rewriting.{IsServed-kept}
@@ -125,7 +125,7 @@ named_means octets made n =
     by : {kind : Kind} → kind ≡ Params Content → kind ≡ Unstructured → ⊥
     by e u = let no = sym e ∙ u in cc no
 
-pub IsServed-named : (octets made : List ℕ) → NamesMessage octets made → IsServed true octets made
+pub IsServed-named : (octets made : List ℕ) → NamesMessage octets made → IsServedField true octets made
 IsServed-named octets made n =
     let parts = named_parts octets made n in
     record {
@@ -165,7 +165,7 @@ named_differs octets made n e =
     changed_differs n.f.body n.changed is.body n.changes (same_body n.f n.changed (sym n.made_is ∙ e ∙ is.spelled))
 
 -- the served form of an ASCII field
-pub IsServed-ascii : (open_global : Bool) (octets : List ℕ) → IsField octets → list_all is_ascii octets ≡ true → (made : List ℕ) × IsServed open_global octets made
+pub IsServed-ascii : (open_global : Bool) (octets : List ℕ) → IsField octets → list_all is_ascii octets ≡ true → (made : List ℕ) × IsServedField open_global octets made
 IsServed-ascii false octets is_any ascii = (octets, IsServed-kept false octets is_any ascii (λ no. no))
 IsServed-ascii true octets is_any ascii = elim (decide_named octets is_any.parts (record { is_field = is_any.has_parts; ascii = ascii })) [
   | inl n ↦ (n.0, IsServed-named octets n.0 n.1)

@@ -5,7 +5,7 @@ use Rattle.std.proofs.lemmas.Bool.Decides.{nat_tests}
 use Rattle.std.proofs.lemmas.List.{append-nil}
 use Rattle.std.specs.List.{AllByRecursion, concat, flat_map, list_all}
 use Rattle.std.specs.Str.{IsUtf8}
-use Rattle.mail_wire.specs.Octets.{is_white}
+use Rattle.mail_wire.specs.Octets.{is_white, is_field_name_octet}
 use Rattle.mail_wire.specs.Lines.{crlf}
 use Rattle.mail_wire.specs.Message.{IsNul}
 use Rattle.mail_wire.proofs.AllLemmas.{pass-append, pass-weaker, pass-front, pass-back}
@@ -14,10 +14,9 @@ use Rattle.encoded_words.specs.Pieces.{AreBWords, AreChunks, b_word}
 use Rattle.encoded_words.proofs.BWords.{b_word-all}
 use Rattle.field_tokens.specs.Comments.{IsLinePiece}
 use Rattle.field_tokens.specs.TokenOctets.{is_line_octet}
-use Rattle.utf8_fields.specs.Lines.{is_name_octet}
 use Rattle.utf8_fields.specs.Parts.{FieldParts, HasParts, field_octets}
 use Rattle.field_downgrade.specs.Words.{AreUtf8, AreWords, HasWords, Word, copied_octets, last_run, word_octets}
-use Rattle.field_downgrade.specs.Layout.{GiveAll, Gives, HavePieces, Segment, copied_pieces, last_side, made_of, segment_words, spaced}
+use Rattle.field_downgrade.specs.Layout.{GiveAll, GivesPieces, HavePieces, Segment, copied_pieces, last_side, made_of, segment_words, spaced}
 use Rattle.field_downgrade.specs.declared.segments.Side.{Side}
 use Rattle.field_downgrade.proofs.Pieces.{AreUtf8-back, AreUtf8-front, AreWords-back, AreWords-front, chunks_first, last_white}
 use Rattle.field_downgrade.proofs.Made.{ArePieces, ArePieces-from, gives_utf8}
@@ -54,7 +53,7 @@ KeepsNoNul octets made = LacksNul octets → LacksNul made
 pub KeepsNoNul-from : (octets made : List ℕ) → (list_all not_nul octets ≡ true → list_all not_nul made ≡ true) → KeepsNoNul octets made
 KeepsNoNul-from octets made keeps lacks = all_lacks made (keeps (lacks_all octets lacks))
 
-name_not_nul : (x : ℕ) → is_name_octet x ≡ true → not_nul x ≡ true
+name_not_nul : (x : ℕ) → is_field_name_octet x ≡ true → not_nul x ≡ true
 name_not_nul x h = grind (arith, nat_tests)
 
 white_not_nul : (x : ℕ) → is_white x ≡ true → not_nul x ≡ true
@@ -120,7 +119,7 @@ copied_pieces_lack white [] h = tt
 copied_pieces_lack white (w ∷ ws) h = (copied_lack (w ∷ ws) h, tt)
 
 gives_lack : (side : Side) (run : List ℕ) (s : Segment) (pieces : List Piece) → AreWords (segment_words s) → AreUtf8 (segment_words s) → list_all is_white run ≡ true
-    → list_all word_lacks (segment_words s) ≡ true → Gives side run s pieces → LackNul pieces
+    → list_all word_lacks (segment_words s) ≡ true → GivesPieces side run s pieces → LackNul pieces
 gives_lack side run s pieces are u white h g =
     let text = gives_utf8 side run s pieces are u white g in
     rw (g.pieces_are) (LackNul-append (word_pieces g.white g.b_words) (copied_pieces g.next s.copied) (LackNul-words g.white _ g.b_words text g.are_b_words)
@@ -160,16 +159,16 @@ body_lacks (p ∷ ps) are lack =
     (and_from (not_nul p.white) (list_all not_nul p.octets) (white_not_nul p.white are.0.white) lack.0) (body_lacks ps are.1 lack.1)
 
 -- a field of such pieces
-pub field_lacks : (octets : List ℕ) (f g : FieldParts) (pieces : List Piece) → HasParts octets f → ArePieces pieces → LackNul pieces → list_all is_name_octet g.name ≡ true → g.white ≡ []
+pub field_lacks : (octets : List ℕ) (f g : FieldParts) (pieces : List Piece) → HasParts octets f → ArePieces pieces → LackNul pieces → list_all is_field_name_octet g.name ≡ true → g.white ≡ []
     → g.body ≡ made_body pieces → g.ending ≡ f.ending → list_all not_nul (field_octets g) ≡ true
 field_lacks octets f g pieces is are lack name white body end =
     let ending : list_all not_nul f.ending ≡ true = elim is.ending [ inl e ↦ rw e refl | inr e ↦ rw e refl ] in
     rw (white, body, end)
-    (pass-append not_nul g.name (58 ∷ (made_body pieces ++ f.ending)) (pass-weaker is_name_octet not_nul name_not_nul g.name name)
+    (pass-append not_nul g.name (58 ∷ (made_body pieces ++ f.ending)) (pass-weaker is_field_name_octet not_nul name_not_nul g.name name)
     (pass-append not_nul (made_body pieces) f.ending (body_lacks pieces are lack) ending))
 
 -- such a field gains no NUL, ...
-pub KeepsNoNul-pieces : (octets made : List ℕ) (f g : FieldParts) (pieces : List Piece) → HasParts octets f → ArePieces pieces → LackNul pieces → list_all is_name_octet g.name ≡ true → g.white ≡ []
+pub KeepsNoNul-pieces : (octets made : List ℕ) (f g : FieldParts) (pieces : List Piece) → HasParts octets f → ArePieces pieces → LackNul pieces → list_all is_field_name_octet g.name ≡ true → g.white ≡ []
     → g.body ≡ made_body pieces → g.ending ≡ f.ending → made ≡ field_octets g → KeepsNoNul octets made
 KeepsNoNul-pieces octets made f g pieces is are lack name white body end made_is =
     KeepsNoNul-from octets made (λ h. rw made_is (field_lacks octets f g pieces is are lack name white body end))

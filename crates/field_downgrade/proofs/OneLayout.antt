@@ -13,8 +13,8 @@ use Rattle.mail_wire.proofs.SpanLemmas.{span_once}
 use Rattle.field_downgrade.specs.declared.segments.Side.{Side}
 use Rattle.field_downgrade.specs.declared.segments.Side.TheVariants.{Edge, Encoded, Plain as PlainSide}
 use Rattle.utf8_fields.specs.Parts.{FieldParts, HasValue, field_octets}
-use Rattle.field_downgrade.specs.Words.{Word, AreWords, HasWords, Divides, TellsEncoded, run_of, last_run, plain_text, word_octets, is_word_octet, is_gap_octet, is_high}
-use Rattle.field_downgrade.specs.Layout.{CutsLeft, CutsRight, Segment, segment_words, Parts, AreSegments, IsCopied, begins_high, ends_high, first_side, last_side, Gives, GiveAll, HavePieces, HasUnstructuredLayout, made_of, spaced}
+use Rattle.field_downgrade.specs.Words.{Word, AreWords, HasWords, DividesWords, TellsEncoded, run_of, last_run, plain_text, word_octets, is_word_octet, is_gap_octet, is_high_word}
+use Rattle.field_downgrade.specs.Layout.{CutsLeft, CutsRight, Segment, segment_words, Parts, AreSegments, IsCopied, begins_high, ends_high, first_side, last_side, GivesPieces, GiveAll, HavePieces, HasUnstructuredLayout, made_of, spaced}
 use Rattle.encoded_words.specs.Folding.{Piece, word_pieces}
 use Rattle.encoded_words.proofs.AllUnits.{HasUnits-some}
 use Rattle.field_downgrade.specs.declared.kind.Kind.{Kind}
@@ -24,7 +24,7 @@ use Rattle.address_grammar.specs.declared.Address.{Address}
 use Rattle.field_tokens.specs.Comments.{CommentValue}
 use Rattle.utf8_fields.proofs.OneField.{HasParts-once}
 use Rattle.field_downgrade.specs.GlobalBodies.{ChangesGlobal}
-use Rattle.field_downgrade.specs.Stands.{BeginsHyphen, HasFieldLayout, Copied, Changed, Made, HasHighLayout, OfWords, OfPieces, Encapsulated, KeptMalformed, NamesMessage, IsChanged, Meaning, Units, PathTo, TypedAddress, SaysAs, PiecesAs, Means, IsMalformed, IsKeptAside, ByHyphen, ByIdentifiers, ByNullPath, ByPath, ByType, ByMalformed, downgraded_of, keeps_name}
+use Rattle.field_downgrade.specs.Stands.{BeginsHyphen, HasFieldLayout, Copied, Changed, Made, HasHighLayout, OfWords, OfPieces, Encapsulated, KeptMalformed, NamesMessage, IsChangedType, Meaning, Units, PathTo, TypedAddress, SaysAs, PiecesAs, Means, IsMalformed, IsKeptAside, ByHyphen, ByIdentifiers, ByNullPath, ByPath, ByType, ByMalformed, downgraded_of, keeps_name}
 use Rattle.field_downgrade.proofs.KindValues.{PiecesAs-once, PiecesAs-says, HasNoForm, Nothing, OfIds, OfNullPath, OfPath, OfType, no_form_no_pieces}
 use Rattle.field_downgrade.proofs.StructuredFields.{structured_no_hyphen, not_unstructured, pieces_no_hyphen, KeptKind, KeptType, KeptEncoding, kept_kind, kept_structured}
 use Rattle.field_downgrade.proofs.GlobalBodiesLemmas.{ChangesGlobal-once}
@@ -51,7 +51,7 @@ gap_first : (gap : List ℕ) (ws : List Word) → list_all is_gap_octet gap ≡ 
 gap_first [] ws h none = rw (none refl) tt
 gap_first (x ∷ gap) ws h none = not-true (is_word_octet x) (and_parts (is_gap_octet x) (list_all is_gap_octet gap) h).0
 
-gap_none : (w : Word) (ws : List Word) → Divides (run_of w) ws → w.gap ≡ [] → ws ≡ []
+gap_none : (w : Word) (ws : List Word) → DividesWords (run_of w) ws → w.gap ≡ [] → ws ≡ []
 gap_none w [] divides e = refl
 gap_none w (v ∷ ws) divides e = let none : run_of w ≡ [] = ap unfolded e ∙ unfolded-nil in absurd (omega (arith, ap length none))
 
@@ -87,17 +87,17 @@ copied_once [] [] us bs p q f g e = (refl, e)
 copied_once [] (y ∷ ys) [] bs p q f g e = cc e
 copied_once [] (y ∷ ys) (a ∷ us) bs p q f g e =
     let same : a ≡ y = cc e in
-    let low = (and_parts (not (is_high y)) (list_all (λ (w : Word). not (is_high w)) ys) q).0 in
-    absurd (both_ways (is_high y) (not-true (is_high y) low) (ap is_high (sym same) ∙ f))
+    let low = (and_parts (not (is_high_word y)) (list_all (λ (w : Word). not (is_high_word w)) ys) q).0 in
+    absurd (both_ways (is_high_word y) (not-true (is_high_word y) low) (ap is_high_word (sym same) ∙ f))
 copied_once (x ∷ xs) [] us [] p q f g e = cc e
 copied_once (x ∷ xs) [] us (b ∷ bs) p q f g e =
     let same : x ≡ b = cc e in
-    let low = (and_parts (not (is_high x)) (list_all (λ (w : Word). not (is_high w)) xs) p).0 in
-    absurd (both_ways (is_high x) (not-true (is_high x) low) (ap is_high same ∙ g))
+    let low = (and_parts (not (is_high_word x)) (list_all (λ (w : Word). not (is_high_word w)) xs) p).0 in
+    absurd (both_ways (is_high_word x) (not-true (is_high_word x) low) (ap is_high_word same ∙ g))
 copied_once (x ∷ xs) (y ∷ ys) us bs p q f g e =
     let same : x ≡ y = cc e in
     let rest : xs ++ us ≡ ys ++ bs = cc e in
-    let more = copied_once xs ys us bs (and_parts (not (is_high x)) (list_all (λ (w : Word). not (is_high w)) xs) p).1 (and_parts (not (is_high y)) (list_all (λ (w : Word). not (is_high w)) ys) q).1 f g rest in
+    let more = copied_once xs ys us bs (and_parts (not (is_high_word x)) (list_all (λ (w : Word). not (is_high_word w)) xs) p).1 (and_parts (not (is_high_word y)) (list_all (λ (w : Word). not (is_high_word w)) ys) q).1 f g rest in
     let tails : xs ≡ ys = more.0 in
     (cc, more.1)
 
@@ -112,18 +112,18 @@ segments_begin (s ∷ ss) segs = by s.core segs.0.begins
 -- no word is high up to the first encoded word
 Outside : List Word → Type 0
 Outside [] = Unit {0}
-Outside (w ∷ ws) = (w.is_encoded ≡ true) ⊎ ((is_high w ≡ false) × Outside ws)
+Outside (w ∷ ws) = (w.is_encoded ≡ true) ⊎ ((is_high_word w ≡ false) × Outside ws)
 
 outside_copied : (copied rest : List Word) → IsCopied copied → (list_any (λ (w : Word). w.is_encoded) copied ≡ true) ⊎ (rest ≡ []) → Outside (copied ++ rest)
 unfolding Outside
 outside_copied [] rest p (inl h) = cc h
 outside_copied [] rest p (inr e) = rw e tt
 outside_copied (k ∷ copied) rest p some =
-    let parts = and_parts (not (is_high k)) (list_all (λ (w : Word). not (is_high w)) copied) p in
-    by k.is_encoded refl (not-true (is_high k) parts.0) some (outside_copied copied rest parts.1)
+    let parts = and_parts (not (is_high_word k)) (list_all (λ (w : Word). not (is_high_word w)) copied) p in
+    by k.is_encoded refl (not-true (is_high_word k) parts.0) some (outside_copied copied rest parts.1)
   where
-    by : (b : Bool) → k.is_encoded ≡ b → is_high k ≡ false → (k.is_encoded || list_any (λ (w : Word). w.is_encoded) copied ≡ true) ⊎ (rest ≡ [])
-        → ((list_any (λ (w : Word). w.is_encoded) copied ≡ true) ⊎ (rest ≡ []) → Outside (copied ++ rest)) → (k.is_encoded ≡ true) ⊎ ((is_high k ≡ false) × Outside (copied ++ rest))
+    by : (b : Bool) → k.is_encoded ≡ b → is_high_word k ≡ false → (k.is_encoded || list_any (λ (w : Word). w.is_encoded) copied ≡ true) ⊎ (rest ≡ [])
+        → ((list_any (λ (w : Word). w.is_encoded) copied ≡ true) ⊎ (rest ≡ []) → Outside (copied ++ rest)) → (k.is_encoded ≡ true) ⊎ ((is_high_word k ≡ false) × Outside (copied ++ rest))
     by true e low some more = inl e
     by false e low (inl h) more = let later = rw e at h in inr (low, more (inl later))
     by false e low (inr h) more = inr (low, more (inr h))
@@ -140,7 +140,7 @@ no_more : (k : Word) (ks rest : List Word) → ends_high (k ∷ ks) ≡ true →
 unfolding Outside
 no_more k ks rest ends plain (inl encoded) =
     let parts = and_parts (not k.is_encoded) (list_all (λ (w : Word). not w.is_encoded) ks) plain in both_ways k.is_encoded (not-true k.is_encoded parts.0) encoded
-no_more k [] rest ends plain (inr low) = both_ways (is_high k) low.0 ends
+no_more k [] rest ends plain (inr low) = both_ways (is_high_word k) low.0 ends
 no_more k (j ∷ ks) rest ends plain (inr low) =
     no_more j ks rest ends (and_parts (not k.is_encoded) (list_all (λ (w : Word). not w.is_encoded) (j ∷ ks)) plain).1 low.1
 
@@ -210,7 +210,7 @@ right_once Edge run a b x y p q = (p.0 ∙ sym q.0, p.1 ∙ sym q.1)
 right_once Encoded run a b x y p q = (p.0 ∙ sym q.0, p.1 ∙ sym q.1)
 right_once PlainSide run a b x y p q = snoc_once a b x y (sym p ∙ q)
 
-gives_once : (side : Side) (run : List ℕ) (s : Segment) (ps qs : List Piece) → Gives side run s ps → Gives side run s qs → ps ≡ qs
+gives_once : (side : Side) (run : List ℕ) (s : Segment) (ps qs : List Piece) → GivesPieces side run s ps → GivesPieces side run s qs → ps ≡ qs
 gives_once side run s ps qs p q =
     let lefts = left_once side run p.left q.left p.white q.white p.cuts_left q.cuts_left in
     let rights = right_once (first_side s.copied) (last_run s.core) p.right q.right p.next q.next p.cuts_right q.cuts_right in
@@ -362,7 +362,7 @@ names_once octets a b p q =
     let changed : p.changed ≡ q.changed = ChangesGlobal-once q.f.body p.changed q.changed q.is_field.is_field.body changes q.changes in
     p.made_is ∙ rw (same, changed) refl ∙ sym q.made_is
 
-fixed_not_named : (open_global : Bool) (octets made : List ℕ) → ¬ (IsChanged open_global octets) → open_global ≡ true → NamesMessage octets made → ⊥
+fixed_not_named : (open_global : Bool) (octets made : List ℕ) → ¬ (IsChangedType open_global octets) → open_global ≡ true → NamesMessage octets made → ⊥
 fixed_not_named false octets made fixed open_is names = cc open_is
 fixed_not_named true octets made fixed open_is names = fixed (made, names)
 

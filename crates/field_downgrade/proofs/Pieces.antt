@@ -8,7 +8,7 @@ use Rattle.std.proofs.lemmas.Str.{IsUtf8-append, IsUtf8-from_ascii, IsUtf8-nil}
 use Rattle.std.proofs.lemmas.Bool.Decides.{nat_tests}
 use Rattle.mail_wire.specs.Octets.{is_white, is_black, is_line_end}
 use Rattle.mail_wire.proofs.Folded.{without_ends, without_ends-append, unfolded-folded}
-use Rattle.encoded_words.specs.Words.{Text, is_name_octet, is_text_octet}
+use Rattle.encoded_words.specs.Words.{Text, is_token_octet, is_text_octet}
 use Rattle.encoded_words.specs.Units.{Place, IsPlace, ArePlaces, Divides as PlaceDivides, place_octets}
 use Rattle.encoded_words.specs.Pieces.{b_word, IsChunk, AreChunks}
 use Rattle.encoded_words.proofs.BWords.{b_word-says, b_word-black, b_word_some, chunk_utf8}
@@ -17,7 +17,7 @@ use Rattle.encoded_words.proofs.EncodedOctets.{encoded_all}
 use Rattle.std.specs.Char.{to_ascii_uppercase}
 use Rattle.mail_wire.specs.Spans.{StopsBehind}
 use Rattle.mail_wire.proofs.OctetLemmas.{white_below}
-use Rattle.field_downgrade.specs.Words.{AreUtf8, Word, AreWords, Divides, run_of, last_run, plain_text, copied_octets, is_word_octet}
+use Rattle.field_downgrade.specs.Words.{AreUtf8, Word, AreWords, DividesWords, run_of, last_run, plain_text, copied_octets, is_word_octet}
 use Rattle.encoded_words.specs.Folding.{Piece, word_pieces}
 use Rattle.field_downgrade.proofs.Units.{b_places}
 use Rattle.field_downgrade.proofs.Places.{places, place_of, Joint, joint_white, run-white, ArePlaces-cons}
@@ -42,7 +42,7 @@ pub AreWords-front : (xs ys : List Word) → AreWords (xs ++ ys) → AreWords xs
 AreWords-front [] ys are = tt
 AreWords-front (x ∷ xs) ys are = (are.0, by xs are.1, AreWords-front xs ys are.2)
   where
-    by : (xs : List Word) → Divides (run_of x) (xs ++ ys) → Divides (run_of x) xs
+    by : (xs : List Word) → DividesWords (run_of x) (xs ++ ys) → DividesWords (run_of x) xs
     by [] h = tt
     by (v ∷ xs) h = h
 
@@ -84,7 +84,7 @@ copied_text (w ∷ v ∷ ws) are =
     ∙ rw (word_keeps w.octets are.0.octets, without_ends-append w.gap (copied_octets (v ∷ ws)), copied_text (v ∷ ws) are.2, unfolded-folded w.gap are.0.gap.folded) refl
 
 -- encoded words have neither CR nor LF
-name_no_end : (x : ℕ) → is_name_octet x ≡ true → not (is_line_end x) ≡ true
+name_no_end : (x : ℕ) → is_token_octet x ≡ true → not (is_line_end x) ≡ true
 name_no_end x h = grind (arith, nat_tests)
 
 text_no_end : (x : ℕ) → is_text_octet x ≡ true → not (is_line_end x) ≡ true

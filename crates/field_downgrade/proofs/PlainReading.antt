@@ -13,7 +13,7 @@ use Rattle.field_tokens.specs.declared.Token.{Token}
 use Rattle.field_tokens.specs.declared.TokenKind.{TokenKind}
 use Rattle.field_tokens.specs.declared.TokenKind.TheVariants.{Atom, Quoted, Literal, Special, Gap, Comment}
 use Rattle.field_tokens.specs.Tokens.{IsToken, TokenValue, AreTokens, tokens_from, HasTokens, HasTokenValues}
-use Rattle.field_tokens.specs.Squeezed.{is_blank, squeezed_text, squeezed_values, is_comment, comments_of, words_of}
+use Rattle.field_tokens.specs.Squeezed.{is_blank, squeezed_text, squeezed_values, is_comment, comments_of, words_of, is_atom_kind}
 use Rattle.field_tokens.specs.Comments.{IsComment, CommentValue, CommentPieces, CommentsPieces, AddsPieces}
 use Rattle.field_tokens.proofs.TokenLists.{token_at, AreTokens-once}
 use Rattle.field_tokens.proofs.Parts.{comments_of-append}
@@ -21,8 +21,7 @@ use Rattle.field_tokens.proofs.SqueezedValues.{squeezed_text-values}
 use Rattle.field_tokens.proofs.SqueezedLemmas.{no_token}
 use Rattle.field_tokens.proofs.TokenLines.{token_utf8}
 use Rattle.field_downgrade.specs.PlainTexts.{style_where, IsAtomWhere, SaysPlain, text_piece, PlainPieces}
-use Rattle.field_downgrade.specs.private.PlainSteps.{IsOneAtom, GiveComments}
-use Rattle.field_downgrade.specs.Received.{is_atom_kind}
+use Rattle.field_downgrade.specs.private.PlainSteps.{IsOneAtom, GiveTextComments}
 
 -- One atom with gaps and comments around it.
 
@@ -186,10 +185,10 @@ token_there style text old new tokens k rest l below = next_token style text old
 
 -- at the end all comments were put
 pub PutsComments-all : (style : Style) (text : List ℕ) (old new : List (List ℕ)) (left : List Token) (rest : List ℕ) → PutsComments style text old new left rest → left ≡ []
-    → AddsPieces (GiveComments style text) old new
+    → AddsPieces (GiveTextComments style text) old new
 PutsComments-all style text old new left rest l end = by l.values l.left_is l.onward
   where
-    by : (vs : List TokenValue) → left ≡ tokens_from l.place vs → AreTokens style (l.done ++ vs) text → AddsPieces (GiveComments style text) old new
+    by : (vs : List TokenValue) → left ≡ tokens_from l.place vs → AreTokens style (l.done ++ vs) text → AddsPieces (GiveTextComments style text) old new
     by [] e onward = record {
       pieces = l.adds.pieces;
       holds = λ values has.
@@ -213,7 +212,7 @@ atom_where true tokens vs placed one = atom_by_octets tokens vs placed (one refl
 atom_where false tokens vs placed one = tt
 
 pub plain_pieces_are : (is_encoding : Bool) (text said : List ℕ) (tokens : List Token) (pieces : List (List ℕ)) → HasTokens (style_where is_encoding) text tokens → said ≡ squeezed_text text tokens
-    → list_all is_ascii said ≡ true → (is_encoding ≡ true → IsOneAtom tokens) → AddsPieces (GiveComments (style_where is_encoding) text) (text_piece said) pieces → PlainPieces is_encoding text pieces
+    → list_all is_ascii said ≡ true → (is_encoding ≡ true → IsOneAtom tokens) → AddsPieces (GiveTextComments (style_where is_encoding) text) (text_piece said) pieces → PlainPieces is_encoding text pieces
 plain_pieces_are is_encoding text said tokens pieces has e ascii one adds =
     let style : Style = style_where is_encoding in
     let squeezed : said ≡ squeezed_values has.values = said_is style text said tokens has e in

@@ -12,7 +12,7 @@ use Rattle.encoded_words.specs.Units.{Place, ArePlaces, place_octets, with_text}
 use Rattle.encoded_words.specs.Pieces.{b_word, AreChunks, AreBWords}
 use Rattle.encoded_words.proofs.WithText.{with_text-append}
 use Rattle.field_downgrade.specs.Words.{AreUtf8, Word, AreWords, run_of, last_run, plain_text}
-use Rattle.field_downgrade.specs.Layout.{side_of, first_side, last_side, CutsLeft, CutsRight, Segment, segment_words, Parts, AreSegments, copied_pieces, Gives, GiveAll, HavePieces, begins_high}
+use Rattle.field_downgrade.specs.Layout.{side_of, first_side, last_side, CutsLeft, CutsRight, Segment, segment_words, Parts, AreSegments, copied_pieces, GivesPieces, GiveAll, HavePieces, begins_high}
 use Rattle.encoded_words.specs.Folding.{Piece, word_pieces}
 use Rattle.field_downgrade.specs.declared.segments.Side.{Side}
 use Rattle.field_downgrade.specs.declared.segments.Side.TheVariants.{Edge, Encoded, Plain}
@@ -289,7 +289,7 @@ segments_follow [] side run pieces segs are u ready give = rw give (follow_none 
 segments_follow (s ∷ ss) side run pieces segs are u ready give =
     let first : List Piece = give.0 in
     let more : List Piece = give.1 in
-    let g : Gives side run s first = give.3 in
+    let g : GivesPieces side run s first = give.3 in
     let ws : List Word = flat_map segment_words ss in
     let after = segments_follow ss (last_side s.copied) (last_run s.copied) more segs.2 (AreWords-back (segment_words s) ws are) (AreUtf8-back (segment_words s) ws u)
     (ready_next s.core s.copied ss segs.1 segs.2 are) give.4 in
@@ -342,7 +342,7 @@ read_back_by [] [] more segs are u give = record {
 read_back_by [] (s ∷ ss) more segs are u give =
     let first : List Piece = give.0 in
     let rest : List Piece = give.1 in
-    let g : Gives Edge [] s first = give.3 in
+    let g : GivesPieces Edge [] s first = give.3 in
     let ws : List Word = flat_map segment_words ss in
     let after = segments_follow ss (last_side s.copied) (last_run s.copied) rest segs.2 (AreWords-back (segment_words s) ws are) (AreUtf8-back (segment_words s) ws u)
     (ready_next s.core s.copied ss segs.1 segs.2 are) give.4 in

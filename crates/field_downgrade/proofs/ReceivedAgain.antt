@@ -16,9 +16,9 @@ use Rattle.address_lists.proofs.PhrasesAgain.{CommentsSay-append}
 use Rattle.field_tokens.specs.declared.Style.TheVariants.{Mail}
 use Rattle.field_tokens.specs.declared.TokenKind.TheVariants.{Atom}
 use Rattle.field_tokens.specs.TokenOctets.{is_line_octet}
-use Rattle.field_tokens.specs.Groups.{IsGroup}
+use Rattle.field_tokens.specs.Groups.{IsEnclosed}
 use Rattle.field_tokens.specs.Tokens.{comment_marks, TokenValue, AreTokens}
-use Rattle.field_tokens.specs.Squeezed.{is_blank, runs_of, octets_of, squeezed_values, comments_of, is_gap, space, apart, IsPart}
+use Rattle.field_tokens.specs.Squeezed.{is_blank, runs_of, octets_of, squeezed_values, comments_of, is_gap, space, apart, IsPart, is_atom_kind}
 use Rattle.field_tokens.specs.Comments.{CommentValue, CommentsSay, CommentsPieces, AreWritten, IsLinePiece}
 use Rattle.field_tokens.proofs.TokenLists.{token_octets_some}
 use Rattle.field_tokens.proofs.Parts.{part_of, AreTokens-begin, AreTokens-end, apart_begins, apart_ends, AreTokens-apart, comments_of-append, comments_of-apart, comment_parts, comments_are_parts, comment_parts-comments, comment_parts-octets}
@@ -27,7 +27,7 @@ use Rattle.field_tokens.proofs.LinePieces.{CommentsPieces-line}
 use Rattle.field_tokens.proofs.CommentValues.{CommentsSay-once, CommentsSay-some}
 use Rattle.field_tokens.proofs.WrittenComments.{CommentsPieces-written}
 use Rattle.field_tokens.proofs.PieceLemmas.{join_two, join_alike, no_pieces, no_comments, comments_groups, pieces_lines}
-use Rattle.field_downgrade.specs.Received.{is_clause_word, is_atom_kind, starts_clause, is_inner, ClauseTokens, IsClause, clause_tokens, ReceivedParts, semicolon, date_tokens, are_blank_tokens, date_text, IsReceived, Clause, clause_of, date_of, SaysReceived, served_text, clause_with, served_clauses, behind_space, served_piece, ClausePieces, ClausesPieces, DatePieces, PartsPieces, ReceivedPieces}
+use Rattle.field_downgrade.specs.Received.{is_clause_word, starts_clause, is_inner, ClauseTokens, IsClause, clause_tokens, ReceivedParts, semicolon, date_tokens, are_blank_tokens, date_text, IsReceived, Clause, clause_of, date_of, SaysReceived, served_text, clause_with, served_clauses, with_space_before, served_piece, ClausePieces, ClausesPieces, DatePieces, PartsPieces, ReceivedPieces}
 use Rattle.field_downgrade.proofs.ReceivedDivision.{parts_of, parts_are, blanks_inner, before_parts, parts_inner, parts_start}
 use Rattle.field_downgrade.proofs.ReceivedLemmas.{AreRead, read_front, read_rest, read_writable, ReadParts, read_parts, AreSame, IsReceived-once}
 use Rattle.field_downgrade.proofs.ReceivedRuns.{spaced, IsTokenRun, IsServed, runs_each, spaced_runs, spaced_inner, runs_no_comments, runs_parts, runs_some, served_lower, served_is}
@@ -58,12 +58,12 @@ alike_append (x ∷ a) (y ∷ b) (v ∷ c) (w ∷ d) one two = record {
   some = λ e. cc e;
 }
 
-space_some : (text : List ℕ) → 0 < length text → 32 ∷ text ≡ behind_space text
+space_some : (text : List ℕ) → 0 < length text → 32 ∷ text ≡ with_space_before text
 space_some [] some = absurd (omega (arith, some))
 space_some (x ∷ xs) some = refl
 
 -- a word and a text behind it are one piece
-alike_word : (word : List ℕ) (runs made pieces : List (List ℕ)) → (runs ≡ []) ⊎ (0 < length (join_with_byte 32 runs)) → Alike made pieces → Alike (word ∷ (runs ++ made)) ((word ++ behind_space (join_with_byte 32 runs)) ∷ pieces)
+alike_word : (word : List ℕ) (runs made pieces : List (List ℕ)) → (runs ≡ []) ⊎ (0 < length (join_with_byte 32 runs)) → Alike made pieces → Alike (word ∷ (runs ++ made)) ((word ++ with_space_before (join_with_byte 32 runs)) ∷ pieces)
 alike_word word [] made pieces some a = record { joined = alike_cons word made pieces a ∙ sym (ap (λ r. join_with_byte 32 (r ∷ pieces)) (append-nil word)); none = λ e. cc e; some = λ e. cc e }
 alike_word word (x ∷ xs) made pieces (inl none) a = cc none
 alike_word word (x ∷ xs) made pieces (inr some) a = record {
@@ -111,7 +111,7 @@ again_none = record {
 -- comments as they are written
 record MadeComments (comments pieces : List (List ℕ)) : Type 0 where
   made : List (List ℕ)
-  groups : AllByRecursion (IsGroup comment_marks) made
+  groups : AllByRecursion (IsEnclosed comment_marks) made
   alike : Alike made pieces
   values : List CommentValue
   comments_say : CommentsSay comments values
@@ -218,16 +218,16 @@ word_is t starts read =
       no_comment = rw (kind) refl;
     }
 
-space_ascii : (q : ℕ → Bool) → q 32 ≡ true → (text : List ℕ) → list_all q text ≡ true → list_all q (behind_space text) ≡ true
+space_ascii : (q : ℕ → Bool) → q 32 ≡ true → (text : List ℕ) → list_all q text ≡ true → list_all q (with_space_before text) ≡ true
 space_ascii q at [] h = refl
 space_ascii q at (x ∷ xs) h = and_from (q 32) (list_all q (x ∷ xs)) at h
 
 word_piece : (word text : List ℕ) → 0 < length word → list_all is_ascii word ≡ true → list_all is_line_octet word ≡ true → list_all is_ascii text ≡ true → list_all is_line_octet text ≡ true
-    → IsLinePiece (word ++ behind_space text)
+    → IsLinePiece (word ++ with_space_before text)
 word_piece word text some ascii line text_ascii text_line = record {
-  some = omega (arith, some, length-append word (behind_space text));
-  ascii = pass-append is_ascii word (behind_space text) ascii (space_ascii is_ascii refl text text_ascii);
-  line = pass-append is_line_octet word (behind_space text) line (space_ascii is_line_octet refl text text_line);
+  some = omega (arith, some, length-append word (with_space_before text));
+  ascii = pass-append is_ascii word (with_space_before text) ascii (space_ascii is_ascii refl text text_ascii);
+  line = pass-append is_line_octet word (with_space_before text) line (space_ascii is_line_octet refl text text_line);
 }
 
 -- the octets of a word, its text and what follows
@@ -251,7 +251,7 @@ word_divided t runs parts starts inner =
     ∙ ap (λ (r : ReceivedParts). record { front = space ∷ []; clauses = record { word = t; behind = r.front } ∷ r.clauses; date = r.date }) (ap parts_of (spaced-append runs parts) ∙ parts_inner (spaced runs) (spaced parts) inner)
 
 again_word : (clauses : List Clause) (date : Option (List ℕ)) (t : TokenValue) (text : List ℕ) (comments pieces : List (List ℕ)) → starts_clause t ≡ true → IsWord t → IsServed text → AreAgain clauses date comments pieces
-    → AreAgain (record { word = str_to_ascii_lowercase t.octets; text = text } ∷ clauses) date comments ((t.octets ++ behind_space text) ∷ pieces)
+    → AreAgain (record { word = str_to_ascii_lowercase t.octets; text = text } ∷ clauses) date comments ((t.octets ++ with_space_before text) ∷ pieces)
 again_word clauses date t text comments pieces starts w s a =
     let divided = word_divided t s.runs a.parts starts (spaced_inner s.runs s.inner) in
     let behind : squeezed_values (spaced s.runs ++ (parts_of (spaced a.parts)).front) ≡ text = text_behind s.runs (parts_of (spaced a.parts)).front s.each a.blank ∙ s.text_is in
@@ -276,7 +276,7 @@ semicolon_part : IsPart Mail (semicolon ∷ [])
 semicolon_part = part_of Mail (semicolon ∷ []) (omega arith) ([], refl, (59, refl, refl), refl) refl refl
 
 again_date : (ts : List TokenValue) (ps : List (List ℕ)) → AreRead Mail ts → list_all is_ascii (squeezed_values ts) ≡ true → MadeComments (comments_of ts) ps
-    → AreAgain [] (Some (squeezed_values ts)) (comments_of ts) ((59 ∷ behind_space (squeezed_values ts)) ∷ ps)
+    → AreAgain [] (Some (squeezed_values ts)) (comments_of ts) ((59 ∷ with_space_before (squeezed_values ts)) ∷ ps)
 again_date ts ps read ascii m =
     let runs : List (List TokenValue) = runs_of ts in
     let each : AllByRecursion IsTokenRun runs = runs_each ts read in
@@ -288,7 +288,7 @@ again_date ts ps read ascii m =
     record {
       parts = (semicolon ∷ []) ∷ (runs ++ behind);
       are_parts = (semicolon_part, all-append (IsPart Mail) runs behind (runs_parts runs each) (comments_are_parts Mail m.made m.groups));
-      alike = subst (λ r. Alike r ((59 ∷ behind_space (squeezed_values ts)) ∷ ps)) (sym octets) (alike_word (59 ∷ []) (map octets_of runs) m.made ps (runs_or_none runs each) m.alike);
+      alike = subst (λ r. Alike r ((59 ∷ with_space_before (squeezed_values ts)) ∷ ps)) (sym octets) (alike_word (59 ∷ []) (map octets_of runs) m.made ps (runs_or_none runs each) m.alike);
       blank = refl;
       clauses_are = refl;
       date_is = ap Some text;

@@ -8,8 +8,8 @@ use Rattle.std.specs.Str.{bytes_eq}
 use Rattle.field_tokens.specs.declared.TokenKind.{TokenKind}
 use Rattle.field_tokens.specs.declared.TokenKind.TheVariants.{Atom, Quoted, Literal, Special, Gap, Comment}
 use Rattle.field_tokens.specs.Tokens.{TokenValue}
-use Rattle.field_tokens.specs.Squeezed.{is_blank}
-use Rattle.field_downgrade.specs.Received.{is_clause_word, is_atom_kind, is_special_kind, starts_clause, is_semicolon, is_inner, ClauseTokens, IsClause, clause_tokens, ReceivedParts, semicolon, date_tokens, are_blank_tokens, AreReceivedParts}
+use Rattle.field_tokens.specs.Squeezed.{is_blank, is_atom_kind, is_special_kind}
+use Rattle.field_downgrade.specs.Received.{is_clause_word, starts_clause, is_semicolon, is_inner, ClauseTokens, IsClause, clause_tokens, ReceivedParts, semicolon, date_tokens, are_blank_tokens, AreReceivedParts}
 
 abbrev pub put_token : Bool → Bool → TokenValue → List TokenValue → ReceivedParts → ReceivedParts
 put_token true starts t ts parts = record { front = []; clauses = []; date = Some ts }

@@ -14,7 +14,7 @@ use Rattle.field_tokens.proofs.Parts.{octets_of-tokens}
 use Rattle.field_tokens.proofs.TokenLines.{tokens_lines, comments_are_writable, run_line}
 use Rattle.field_tokens.proofs.CommentValues.{CommentsSay-once, CommentsSay-some, CommentsPieces-once, CommentsPieces-some}
 use Rattle.field_tokens.proofs.DecideTokens.{decide_tokens}
-use Rattle.field_downgrade.specs.Received.{ClauseTokens, clause_tokens, ReceivedParts, date_tokens, are_blank_tokens, semicolon, AreReceivedParts, date_text, IsReceived, Clause, clause_of, date_of, SaysReceived, served_text, served_piece, behind_space, ClausePieces, ClausesPieces, DatePieces, PartsPieces, ReceivedPieces}
+use Rattle.field_downgrade.specs.Received.{ClauseTokens, clause_tokens, ReceivedParts, date_tokens, are_blank_tokens, semicolon, AreReceivedParts, date_text, IsReceived, Clause, clause_of, date_of, SaysReceived, served_text, served_piece, with_space_before, ClausePieces, ClausesPieces, DatePieces, PartsPieces, ReceivedPieces}
 use Rattle.field_downgrade.proofs.ReceivedDivision.{parts_of, parts_are, are_parts_of, AreReceivedParts-once}
 
 -- ---- tokens that stand beside each other
@@ -89,7 +89,7 @@ ClausesPieces-once (c ∷ cs) ps qs p q =
 
 DatePieces-once : (date : Option (List TokenValue)) (ps qs : List (List ℕ)) → DatePieces date ps → DatePieces date qs → ps ≡ qs
 DatePieces-once None ps qs p q = p ∙ sym q
-DatePieces-once (Some ts) ps qs p q = p.2 ∙ ap (λ r. (59 ∷ behind_space (squeezed_values ts)) ∷ r) (CommentsPieces-once (comments_of ts) p.0 q.0 p.1 q.1) ∙ sym q.2
+DatePieces-once (Some ts) ps qs p q = p.2 ∙ ap (λ r. (59 ∷ with_space_before (squeezed_values ts)) ∷ r) (CommentsPieces-once (comments_of ts) p.0 q.0 p.1 q.1) ∙ sym q.2
 
 PartsPieces-once : (parts : ReceivedParts) (ps qs : List (List ℕ)) → PartsPieces parts ps → PartsPieces parts qs → ps ≡ qs
 PartsPieces-once parts ps qs p q =
@@ -131,7 +131,7 @@ DatePieces-some : (date : Option (List TokenValue)) → AreRead Mail (date_token
 DatePieces-some None read = ([], refl)
 DatePieces-some (Some ts) read =
     let comments = CommentsPieces-some (comments_of ts) (read_writable ts (read_rest Mail (semicolon ∷ []) ts read)) in
-    ((59 ∷ behind_space (squeezed_values ts)) ∷ comments.0, (comments.0, comments.1, refl))
+    ((59 ∷ with_space_before (squeezed_values ts)) ∷ comments.0, (comments.0, comments.1, refl))
 
 pub received_pieces : (text : List ℕ) (tokens : List TokenValue) (parts : ReceivedParts) → IsReceived text tokens parts → (pieces : List (List ℕ)) × ReceivedPieces text pieces
 received_pieces text tokens parts is =

@@ -17,7 +17,7 @@ use Rattle.field_tokens.proofs.SqueezedValues.{values_at}
 use Rattle.field_tokens.proofs.SqueezedLemmas.{neighbour_stands}
 use Rattle.field_tokens.proofs.TokenLines.{tokens_lines}
 use Rattle.field_downgrade.specs.Received.{starts_clause, is_semicolon, is_inner, ClauseTokens, IsClause, clause_tokens, ClausePieces, ClausesPieces}
-use Rattle.field_downgrade.specs.private.ReceivedSteps.{token_value, token_values, BeginsSo, CutsTokens, clause_at, WritesClauses}
+use Rattle.field_downgrade.specs.private.ReceivedSteps.{token_value, token_values, EndsOrBeginsSo, CutsTokens, clause_at, WritesClauses}
 use Rattle.field_downgrade.proofs.ReceivedLemmas.{AreRead, read_whole, read_front, read_rest}
 use Rattle.field_downgrade.proofs.PlainReading.{is_comment-kind}
 
@@ -76,7 +76,7 @@ pub cuts_at : (p : TokenValue → Bool) (text : List ℕ) (tokens : List Token) 
     → CutsTokens p text tokens (take k tokens) (drop k tokens)
 cuts_at p text tokens k d l ends = record { whole = sym (take-append-drop k tokens); before = l.before; begins = by (drop k tokens) refl ends }
   where
-    by : (rest : List Token) → drop k tokens ≡ rest → (length tokens ≤ k) ⊎ (p (token_value text (get_or tokens k d)) ≡ true) → BeginsSo p (token_values text rest)
+    by : (rest : List Token) → drop k tokens ≡ rest → (length tokens ≤ k) ⊎ (p (token_value text (get_or tokens k d)) ≡ true) → EndsOrBeginsSo p (token_values text rest)
     by [] e ends = tt
     by (t ∷ rest) e (inl end) = let none = sym (drop_all k tokens end) ∙ e in cc none
     by (t ∷ rest) e (inr passes) =
@@ -142,11 +142,11 @@ pub record WalksClauses (text : List ℕ) (tokens rest : List Token) (old new : 
   pub done : List Token
   pub whole : tokens ≡ done ++ rest
   pub stand : StandTogether text rest
-  pub begins : BeginsSo starts_clause (token_values text rest)
+  pub begins : EndsOrBeginsSo starts_clause (token_values text rest)
   pub head : list_all (λ t. not (is_semicolon t)) (token_values text rest) ≡ true
   pub adds : AddsPieces (WritesClauses (token_values text done)) old new
 
-pub WalksClauses-none : (text : List ℕ) (tokens : List Token) (pieces : List (List ℕ)) → StandTogether text tokens → BeginsSo starts_clause (token_values text tokens)
+pub WalksClauses-none : (text : List ℕ) (tokens : List Token) (pieces : List (List ℕ)) → StandTogether text tokens → EndsOrBeginsSo starts_clause (token_values text tokens)
     → list_all (λ t. not (is_semicolon t)) (token_values text tokens) ≡ true → WalksClauses text tokens tokens pieces pieces
 WalksClauses-none text tokens pieces stand begins head = record {
   done = [];

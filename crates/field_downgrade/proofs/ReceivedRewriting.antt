@@ -15,7 +15,7 @@ use Rattle.field_tokens.proofs.TokenLists.{AreTokens-once}
 use Rattle.field_tokens.proofs.TokenLines.{squeezed_line}
 use Rattle.field_tokens.proofs.SqueezedValues.{values_at, squeezed_values-at}
 use Rattle.field_downgrade.specs.Received.{starts_clause, is_semicolon, is_inner, clause_tokens, ReceivedParts, date_tokens, are_blank_tokens, AreReceivedParts, date_text, served_text, served_piece, ClausePieces, DatePieces, ReceivedPieces}
-use Rattle.field_downgrade.specs.private.ReceivedSteps.{token_values, BeginsSo, CutsTokens, behind_first, clause_at, WritesClauses}
+use Rattle.field_downgrade.specs.private.ReceivedSteps.{token_values, EndsOrBeginsSo, CutsTokens, behind_first, clause_at, WritesClauses}
 use Rattle.field_downgrade.proofs.ReceivedDivision.{put_token, parts_of, is_semicolon-is, before_parts, parts_inner, parts_start, are_parts_of}
 use Rattle.field_downgrade.proofs.ReceivedReading.{values-append, stand_read, stand_front, stand_rest, inner_all, heads}
 
@@ -86,11 +86,11 @@ record HasNoFront (parts : ReceivedParts) (date : Option (List TokenValue)) : Ty
   front : parts.front ≡ []
   date_is : parts.date ≡ date
 
-date_alone : (ds : List TokenValue) → BeginsSo is_semicolon ds → HasNoFront (parts_of ds) (behind_first ds)
+date_alone : (ds : List TokenValue) → EndsOrBeginsSo is_semicolon ds → HasNoFront (parts_of ds) (behind_first ds)
 date_alone [] begins = record { front = refl; date_is = refl }
 date_alone (d ∷ ds) begins = rw (begins) (record { front = refl; date_is = refl })
 
-rest_parts : (ts ds : List TokenValue) → BeginsSo starts_clause ts → list_all (λ t. not (is_semicolon t)) ts ≡ true → BeginsSo is_semicolon ds → HasNoFront (parts_of (ts ++ ds)) (behind_first ds)
+rest_parts : (ts ds : List TokenValue) → EndsOrBeginsSo starts_clause ts → list_all (λ t. not (is_semicolon t)) ts ≡ true → EndsOrBeginsSo is_semicolon ds → HasNoFront (parts_of (ts ++ ds)) (behind_first ds)
 rest_parts [] ds starts lacks begins = date_alone ds begins
 rest_parts (t ∷ ts) ds starts lacks begins = record {
   front = ap (λ (r : ReceivedParts). r.front) (parts_start t (ts ++ ds) starts);
@@ -151,7 +151,7 @@ date_not_ascii text said found head front clauses date c said_is high pieces p =
 
 -- ---- the pieces
 
-date_tokens-first : (ds : List TokenValue) → BeginsSo is_semicolon ds → date_tokens (behind_first ds) ≡ ds
+date_tokens-first : (ds : List TokenValue) → EndsOrBeginsSo is_semicolon ds → date_tokens (behind_first ds) ≡ ds
 date_tokens-first [] begins = refl
 date_tokens-first (d ∷ ds) begins = ap (λ r. r ∷ ds) (sym (is_semicolon-is d begins))
 

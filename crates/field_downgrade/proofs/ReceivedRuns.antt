@@ -13,7 +13,7 @@ use Rattle.mail_wire.specs.Octets.{is_ascii, same_name}
 use Rattle.mail_wire.specs.Spans.{Stops}
 use Rattle.mail_wire.proofs.AllLemmas.{pass-append, pass-weaker}
 use Rattle.param_2231.proofs.WordsAgain.{lower-twice}
-use Rattle.ace_domains.specs.Domains.{normal_form, IsDomain, IsAtom, is_atom_octet as is_atext}
+use Rattle.ace_domains.specs.Domains.{normal_form, IsDomain, IsAtom, is_atext as is_atext}
 use Rattle.ace_domains.proofs.FormLemmas.{form_domain}
 use Rattle.field_tokens.specs.declared.Style.TheVariants.{Mail}
 use Rattle.field_tokens.specs.declared.TokenKind.TheVariants.{Atom, Special}

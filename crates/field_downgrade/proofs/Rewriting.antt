@@ -6,17 +6,17 @@ use Rattle.std.proofs.lemmas.Bool.{both_ways}
 use Rattle.std.specs.List.{list_all}
 use Rattle.std.specs.Str.{IsUtf8}
 use Rattle.mail_wire.specs.Folds.{IsFolded}
-use Rattle.mail_wire.specs.Octets.{is_ascii}
+use Rattle.mail_wire.specs.Octets.{is_ascii, is_field_name_octet}
 use Rattle.utf8_fields.specs.Parts.{FieldParts, HasParts, IsField, field_octets}
 use Rattle.field_downgrade.specs.Words.{Word, AreUtf8, HasWords}
 use Rattle.field_downgrade.specs.Layout.{made_of, spaced}
 use Rattle.encoded_words.specs.Folding.{Piece, made_body, word_pieces}
-use Rattle.field_downgrade.specs.private.Steps.{WritesWords, Adds, IsOther, KeepsWords, MakesUnstructured, MakesField, OfUnstructured, OfOther}
-use Rattle.field_downgrade.specs.Stands.{BeginsHyphen, IsHighField, IsChanged, HasHighLayout, OfWords, OfPieces, Encapsulated, KeptMalformed, Copied, Made, StandsSo, SameMeaning, UnderOtherName, StillMalformed, Stands, Same, Ascii, downgraded_of}
+use Rattle.field_downgrade.specs.private.Steps.{WritesWords, AddsOctets, IsOther, KeepsWords, MakesUnstructured, MakesField, OfUnstructured, OfOther}
+use Rattle.field_downgrade.specs.Stands.{BeginsHyphen, IsHighField, IsChangedType, HasHighLayout, OfWords, OfPieces, Encapsulated, KeptMalformed, Copied, Made, StandsSo, SameMeaning, UnderOtherName, StillMalformed, Stands, Same, Ascii, downgraded_of}
 use Rattle.std.specs.Prelude.{IfOk}
 use Rattle.field_downgrade.specs.declared.field.Rewrite.{Rewrite}
 use Rattle.field_downgrade.specs.private.Views.{made_from}
-use Rattle.field_downgrade.specs.Message.{IsServed}
+use Rattle.field_downgrade.specs.Message.{IsServedField}
 use Rattle.field_downgrade.proofs.Made.{ArePieces, IsSameMeaning-made, HasParts-made, HasParts-pieces, pieces-ascii, field_ascii, words_are}
 use Rattle.field_downgrade.proofs.NulLemmas.{LackNul, LackNul-spaced, LackNul-words, KeepsNoNul-made, KeepsNoNul-pieces}
 use Rattle.field_downgrade.proofs.KindValues.{PiecesAs-says, PiecesAs-read}
@@ -24,11 +24,10 @@ use Rattle.field_downgrade.proofs.AllStructured.{decide_words}
 use Rattle.field_downgrade.proofs.StructuredFields.{field_high, ArePieces-spaced, IsSameMeaning-pieces, KeepsValue-words, value_utf8, value_some, value_high, still_malformed, structured_no_hyphen, kept_structured, pieces_no_hyphen}
 use Rattle.field_downgrade.specs.declared.kind.Kind.TheVariants.{Unstructured}
 use Rattle.field_downgrade.specs.Kinds.{kind_named}
-use Rattle.utf8_fields.specs.Lines.{is_name_octet}
 use Rattle.encapsulated_fields.specs.Encapsulated.{IsFieldName}
 
 pub Adds-unstructured : (f : FieldParts) (words : List Word) (old start whole new : List ℕ) → HasWords f.body words → AreUtf8 words → start ≡ (old ++ f.name) ++ 58 ∷ [] → WritesWords words start whole
-    → new ≡ whole ++ f.ending → Adds (MakesUnstructured f) old new
+    → new ≡ whole ++ f.ending → AddsOctets (MakesUnstructured f) old new
 Adds-unstructured f words old start whole new has u start_is writes new_is = record {
   more = field_octets (made_of f writes.pieces);
   added = new_is ∙ rw (writes.added, start_is)
@@ -38,7 +37,7 @@ Adds-unstructured f words old start whole new has u start_is writes new_is = rec
 }
 
 -- an unstructured field
-pub IsServed-words : (open_global : Bool) (octets made : List ℕ) (f : FieldParts) → IsHighField octets f → KeepsWords f.name → MakesUnstructured f made → IsServed open_global octets made
+pub IsServed-words : (open_global : Bool) (octets made : List ℕ) (f : FieldParts) → IsHighField octets f → KeepsWords f.name → MakesUnstructured f made → IsServedField open_global octets made
 IsServed-words open_global octets made f high keeps m =
     let g : FieldParts = made_of f m.pieces in
     let made_field : HasParts made g = rw (m.made_is) (HasParts-made octets f m.words m.pieces high.is_field m.has_words m.are_utf8 m.have_pieces) in
@@ -68,14 +67,14 @@ record IsOtherMade (open_global : Bool) (octets made : List ℕ) (f g : FieldPar
   are : ArePieces pieces
   lack : LackNul pieces
   named : 0 < length g.name
-  name : list_all is_name_octet g.name ≡ true
+  name : list_all is_field_name_octet g.name ≡ true
   white : g.white ≡ []
   body : g.body ≡ made_body pieces
   ending : g.ending ≡ f.ending
   stands : StandsSo open_global f g
   no_hyphen : ¬ BeginsHyphen g.name
 
-IsServed-of : (open_global : Bool) (octets made : List ℕ) (f g : FieldParts) → IsOtherMade open_global octets made f g → IsServed open_global octets made
+IsServed-of : (open_global : Bool) (octets made : List ℕ) (f g : FieldParts) → IsOtherMade open_global octets made f g → IsServedField open_global octets made
 IsServed-of open_global octets made f g o =
     let made_field : HasParts made g = rw (o.made_is) (HasParts-pieces octets f g o.pieces o.high.is_field o.are o.named o.name o.white o.body o.ending) in
     let ascii : list_all is_ascii made ≡ true = rw (o.made_is) (pieces-ascii octets f g o.pieces o.high.is_field o.are o.name o.white o.body o.ending) in
@@ -98,7 +97,7 @@ words_not_other : (f : FieldParts) → kind_named f.name ≡ Unstructured → ¬
 words_not_other f kind none (inl other) = other kind
 words_not_other f kind none (inr begins) = none begins
 
-pub IsServed-other : (open_global : Bool) (octets made : List ℕ) (f g : FieldParts) → IsHighField octets f → IsOther f → HasHighLayout open_global f g → made ≡ field_octets g → IsServed open_global octets made
+pub IsServed-other : (open_global : Bool) (octets made : List ℕ) (f g : FieldParts) → IsHighField octets f → IsOther f → HasHighLayout open_global f g → made ≡ field_octets g → IsServedField open_global octets made
 IsServed-other o octets made f g high other (OfWords kind none layout) made_is = absurd (words_not_other f kind none other)
 IsServed-other o octets made f g high other (OfPieces value pieces has values g_is) made_is =
     let said = PiecesAs-says (kind_named f.name) o f.name value pieces values in
@@ -131,7 +130,7 @@ IsServed-other o octets made f g high other (Encapsulated value words aside has 
       are = words_are 32 value words refl u are;
       lack = LackNul-words 32 value words u are;
       named = omega (arith, length-append (codes "Downgraded-") f.name);
-      name = list_all-append is_name_octet (codes "Downgraded-") f.name ∙ high.is_field.name;
+      name = list_all-append is_field_name_octet (codes "Downgraded-") f.name ∙ high.is_field.name;
       white = refl;
       body = refl;
       ending = refl;
@@ -164,13 +163,13 @@ IsServed-other o octets made f g high other (KeptMalformed value words malformed
       no_hyphen = structured_no_hyphen f.name (kept_structured f.name keeps);
     })
 
-pub IsServed-from : (open_global : Bool) (octets made : List ℕ) (f : FieldParts) → IsHighField octets f → MakesField open_global f made → IsServed open_global octets made
+pub IsServed-from : (open_global : Bool) (octets made : List ℕ) (f : FieldParts) → IsHighField octets f → MakesField open_global f made → IsServedField open_global octets made
 IsServed-from o octets made f high (OfUnstructured keeps m) = IsServed-words o octets made f high keeps m
 IsServed-from o octets made f high (OfOther g other layout made_is) = IsServed-other o octets made f g high other layout made_is
 
 -- what is made of the parts that were cut off
 pub Adds-served : (open_global : Bool) (octets old new : List ℕ) (p : FieldParts) → ((f : FieldParts) → HasParts octets f → p ≡ f) → IsField octets → list_all is_ascii octets ≡ false
-    → Adds (MakesField open_global p) old new → Adds (IsServed open_global octets) old new
+    → AddsOctets (MakesField open_global p) old new → AddsOctets (IsServedField open_global octets) old new
 Adds-served o octets old new p once is_any not_ascii adds =
     let f = is_any.parts in
     let high : IsHighField octets f = record { is_field = is_any.has_parts; high = not_ascii } in
@@ -181,7 +180,7 @@ Adds-served o octets old new p once is_any not_ascii adds =
     }
 
 -- an unstructured field was made
-pub Adds-words : (open_global : Bool) (f : FieldParts) (old new : List ℕ) → KeepsWords f.name → Adds (MakesUnstructured f) old new → Adds (MakesField open_global f) old new
+pub Adds-words : (open_global : Bool) (f : FieldParts) (old new : List ℕ) → KeepsWords f.name → AddsOctets (MakesUnstructured f) old new → AddsOctets (MakesField open_global f) old new
 Adds-words o f old new keeps adds = record { more = adds.more; added = adds.added; holds = OfUnstructured keeps adds.holds }
 
 -- what the writer of structured fields requires of the parts that were cut off
@@ -206,7 +205,7 @@ CanRewrite-structured octets p once is_any not_ascii not_words =
       high = field_high octets f high;
     })
 
-pub not_kept : (open_global : Bool) (octets made : List ℕ) → list_all is_ascii octets ≡ false → IsServed open_global octets made → made ≡ octets → ⊥
+pub not_kept : (open_global : Bool) (octets made : List ℕ) → list_all is_ascii octets ≡ false → IsServedField open_global octets made → made ≡ octets → ⊥
 not_kept o octets made not_ascii is e =
     let ascii : list_all is_ascii octets ≡ true = subst (λ xs. list_all is_ascii xs ≡ true) e is.ascii in
     both_ways (list_all is_ascii octets) not_ascii ascii
@@ -219,7 +218,7 @@ cut_body octets p once is_any =
     (rw e is.body, rw e is.utf8)
 
 -- an ASCII field is kept, unless it is the type of an opened message/global
-pub IsServed-kept : (open_global : Bool) (octets : List ℕ) → IsField octets → list_all is_ascii octets ≡ true → ¬ (IsChanged open_global octets) → IsServed open_global octets octets
+pub IsServed-kept : (open_global : Bool) (octets : List ℕ) → IsField octets → list_all is_ascii octets ≡ true → ¬ (IsChangedType open_global octets) → IsServedField open_global octets octets
 IsServed-kept o octets is_any ascii fixed = record {
   layout = Copied ascii fixed refl;
   stands = Same ascii fixed refl;
@@ -235,14 +234,14 @@ IsServed-kept o octets is_any ascii fixed = record {
   };
 }
 
-pub Adds-kept : (octets old new : List ℕ) → IsField octets → list_all is_ascii octets ≡ true → new ≡ old ++ octets → Adds (IsServed false octets) old new
+pub Adds-kept : (octets old new : List ℕ) → IsField octets → list_all is_ascii octets ≡ true → new ≡ old ++ octets → AddsOctets (IsServedField false octets) old new
 Adds-kept octets old new is_any ascii new_is = record { more = octets; added = new_is; holds = IsServed-kept false octets is_any ascii (λ no. no) }
 
 -- what was put behind nothing is all
-pub Adds-first : (P : List ℕ → Type 0) (old new : List ℕ) → old ≡ [] → Adds P old new → P new
+pub Adds-first : (P : List ℕ → Type 0) (old new : List ℕ) → old ≡ [] → AddsOctets P old new → P new
 Adds-first P old new old_is adds = subst P (sym (adds.added ∙ ap (λ xs. xs ++ adds.more) old_is)) adds.holds
 
 -- what is served stands for the field
-pub served_stands : {E : Type 0} (open_global : Bool) (raw : List ℕ) (r : Result Rewrite E) → IfOk r (λ rewrite. IsServed open_global raw (made_from raw rewrite)) → IfOk r (λ rewrite. Stands raw (made_from raw rewrite) open_global)
+pub served_stands : {E : Type 0} (open_global : Bool) (raw : List ℕ) (r : Result Rewrite E) → IfOk r (λ rewrite. IsServedField open_global raw (made_from raw rewrite)) → IfOk r (λ rewrite. Stands raw (made_from raw rewrite) open_global)
 served_stands open_global raw (Ok rewrite) is = is.stands
 served_stands open_global raw (Err e) is = tt

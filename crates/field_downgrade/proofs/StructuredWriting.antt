@@ -12,7 +12,7 @@ use Rattle.param_grammar.specs.declared.ParamKind.TheVariants.{Content}
 use Rattle.field_downgrade.specs.Kinds.{kind_named}
 use Rattle.field_downgrade.specs.Layout.{made_of, spaced}
 use Rattle.field_downgrade.specs.Stands.{IsMalformed, SaysAs, PiecesAs, IsKeptAside, ByHyphen, ByIdentifiers, ByNullPath, ByPath, ByType, ByMalformed, OfPieces, Encapsulated, KeptMalformed, downgraded_of, keeps_name}
-use Rattle.field_downgrade.specs.private.Steps.{Adds, AddsWordField, HasNoPieces, IsOther, MakesField, OfOther}
+use Rattle.field_downgrade.specs.private.Steps.{AddsOctets, AddsWordField, HasNoPieces, IsOther, MakesField, OfOther}
 use Rattle.field_downgrade.proofs.KindValues.{SaysNothing, HasNoForm, Nothing, OfIds, OfNullPath, OfPath, OfType, no_pieces_why}
 use Rattle.field_downgrade.proofs.StructuredFields.{KeptKind, KeptType, KeptEncoding, kept_kind, kept_structured}
 use Rattle.field_downgrade.proofs.OneMeaning.{HasValue-once}
@@ -71,7 +71,7 @@ kept_why open_global f value has keeps none =
     kept_by f value has (kept_kind f.name keeps) (no_pieces_why (kind_named f.name) open_global f.name value (kept_structured f.name keeps) none)
 
 pub Adds-kept : (open_global : Bool) (f : FieldParts) (value old new : List ℕ) → HasNoPieces (kind_named f.name) open_global f.name value → keeps_name f.name ≡ true → HasValue f.body value → AddsWordField (made_of f) value old new
-    → Adds (MakesField open_global f) old new
+    → AddsOctets (MakesField open_global f) old new
 Adds-kept open_global f value old new none keeps has adds = record {
   more = field_octets (made_of f (word_pieces 32 adds.words));
   added = adds.added;
@@ -79,7 +79,7 @@ Adds-kept open_global f value old new none keeps has adds = record {
 }
 
 pub Adds-encapsulated : (open_global : Bool) (f : FieldParts) (value old new : List ℕ) → IsOther f → HasNoPieces (kind_named f.name) open_global f.name value → keeps_name f.name ≡ false → HasValue f.body value
-    → AddsWordField (downgraded_of f) value old new → Adds (MakesField open_global f) old new
+    → AddsWordField (downgraded_of f) value old new → AddsOctets (MakesField open_global f) old new
 Adds-encapsulated open_global f value old new other none keeps has adds = record {
   more = field_octets (downgraded_of f (word_pieces 32 adds.words));
   added = adds.added;
@@ -87,7 +87,7 @@ Adds-encapsulated open_global f value old new other none keeps has adds = record
 }
 
 pub Adds-pieces : (open_global : Bool) (f : FieldParts) (value old new : List ℕ) (pieces : List (List ℕ)) → IsOther f → HasValue f.body value → PiecesAs (kind_named f.name) open_global f.name value pieces
-    → new ≡ old ++ field_octets (made_of f (spaced pieces)) → Adds (MakesField open_global f) old new
+    → new ≡ old ++ field_octets (made_of f (spaced pieces)) → AddsOctets (MakesField open_global f) old new
 Adds-pieces open_global f value old new pieces other has values new_is = record {
   more = field_octets (made_of f (spaced pieces));
   added = new_is;

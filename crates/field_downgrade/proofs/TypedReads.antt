@@ -10,7 +10,7 @@ use lib.Utf8.{scalar}
 use Rattle.mail_wire.specs.Spans.{IsSpan}
 use Rattle.encoded_words.proofs.WritableUnits.{behind_ascii}
 use Rattle.utf8_fields.proofs.AllSpans.{span_of}
-use Rattle.encapsulated_fields.specs.Xtext.{is_hex_digit, hex_value, AreDigits, XtextItem, Plain, Escape, IsXtextItem, item_spelling, ReadsAs, BeginsWith, BeginsEscape}
+use Rattle.encapsulated_fields.specs.Xtext.{is_hex_digit, hex_value, AreDigits, XtextItem, Plain, Escape, IsXtextItem, item_spelling, ReadsAs, BeginsCharacter, BeginsEscape}
 use Rattle.encapsulated_fields.proofs.XtextLemmas.{ReadsTo, ReadsTo-none, ReadsTo-push, ReadsAs-read, not-ReadsAs, ReadsAs-utf8, BeginsWith-plain, BeginsWith-escape, BeginsWith-shortens, BeginsEscape-made, not-BeginsEscape-brace, not-BeginsEscape-digits, not-BeginsWith-escape, digit_small}
 
 -- the digits of an escape, or others
@@ -64,7 +64,7 @@ first_char text some u = by (chars text) (scalars-chars text u) (encodes-chars t
 
 -- a text of UTF-8 begins with an item, and what follows it is UTF-8, or it begins with none
 abbrev Begun : List ℕ → Type 0
-Begun text = ((character : ℕ) × (rest : List ℕ) × BeginsWith text character rest) ⊎ ((character : ℕ) (rest : List ℕ) → ¬ BeginsWith text character rest)
+Begun text = ((character : ℕ) × (rest : List ℕ) × BeginsCharacter text character rest) ⊎ ((character : ℕ) (rest : List ℕ) → ¬ BeginsCharacter text character rest)
 
 begin_escaped : (text after : List ℕ) (c : ℕ) → text ≡ encode_utf8 c ++ after → c ≡ 92 → Begun text
 begin_escaped text after c e is = elim (decide_escape after) [
@@ -89,7 +89,7 @@ decide_begins text some u =
     ]
 
 -- what is behind an item
-utf8_behind : (text rest : List ℕ) (character : ℕ) → IsUtf8 text → BeginsWith text character rest → IsUtf8 rest
+utf8_behind : (text rest : List ℕ) (character : ℕ) → IsUtf8 text → BeginsCharacter text character rest → IsUtf8 rest
 utf8_behind text rest character u begins = by begins.item begins.is_item begins.spelled
   where
     low : (ds : List ℕ) → list_all is_hex_digit ds ≡ true → IsUtf8 (ds ++ 125 ∷ rest) → IsUtf8 rest

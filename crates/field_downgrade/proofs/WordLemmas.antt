@@ -11,7 +11,7 @@ use Rattle.mail_wire.proofs.Folded.{BeginsText, IsFolded-cut, IsFolded-drop_plai
 use Rattle.mail_wire.specs.Spans.{Stops, IsSpan}
 use Rattle.mail_wire.proofs.SpanLemmas.{Opposite}
 use Rattle.encoded_words.proofs.WritableUnits.{BeginsAscii, before_ascii, all_ascii}
-use Rattle.field_downgrade.specs.Words.{Word, IsWord, IsGap, AreWords, AreUtf8, HasWords, Divides, TellsEncoded, run_of, word_octets, is_word_octet, is_gap_octet}
+use Rattle.field_downgrade.specs.Words.{Word, IsWord, IsGap, AreWords, AreUtf8, HasWords, DividesWords, TellsEncoded, run_of, word_octets, is_word_octet, is_gap_octet}
 
 not_not : (b : Bool) → b ≡ not (not b)
 not_not true = refl
@@ -106,7 +106,7 @@ word_some rest [] after some stops span =
 word_some rest (x ∷ word) after some stops span = omega arith
 
 divides : (after gap rest : List ℕ) (ws : List Word) → Stops is_word_octet after → IsSpan is_gap_octet after gap rest → IsGap gap → AreWords ws → rest ≡ flat_map word_octets ws
-    → (w : Word) → w.gap ≡ gap → Divides (run_of w) ws
+    → (w : Word) → w.gap ≡ gap → DividesWords (run_of w) ws
 divides after gap rest [] stops span is are e w gap_is = tt
 divides after [] rest (v ∷ ws) stops span is are e w gap_is =
     let same : after ≡ rest = span.whole in

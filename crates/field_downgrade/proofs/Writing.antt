@@ -9,7 +9,7 @@ use Rattle.mail_wire.specs.Octets.{is_ascii}
 use Rattle.encoded_words.specs.Pieces.{AreBWords}
 use Rattle.field_downgrade.specs.declared.segments.Side.{Side}
 use Rattle.field_downgrade.specs.declared.segments.Side.TheVariants.{Edge, Encoded, Plain}
-use Rattle.field_downgrade.specs.Words.{Word, AreWords, AreUtf8, TellsEncoded, is_high, last_run, plain_text}
+use Rattle.field_downgrade.specs.Words.{Word, AreWords, AreUtf8, TellsEncoded, is_high_word, last_run, plain_text}
 use Rattle.field_downgrade.specs.Layout.{Segment, segment_words, IsSegment, Parts, AreSegments, IsCopied, begins_high, side_of, first_side, last_side, CutsLeft, CutsRight, copied_pieces, GiveAll, HavePieces}
 use Rattle.encoded_words.specs.Folding.{AddsWordLines, Piece, word_pieces, made_body}
 use Rattle.encoded_words.proofs.EncodedOctets.{encoded_ascii}
@@ -110,13 +110,13 @@ parts_from [] after [] (y ∷ next) e is stops begins some =
     let first : BeginsEncoded (y ∷ next) = subst BeginsEncoded e stops in absurd (both_ways y.is_encoded begins.1 first)
 parts_from (l ∷ low) after [] (y ∷ next) e is stops begins some =
     let same : l ≡ y = cc e in
-    let l_low = (and_parts (not (is_high l)) (list_all (λ (w : Word). not (is_high w)) low) is).0 in
-    absurd (both_ways (is_high y) (ap is_high (sym same) ∙ not-true (is_high l) l_low) begins.0)
+    let l_low = (and_parts (not (is_high_word l)) (list_all (λ (w : Word). not (is_high_word w)) low) is).0 in
+    absurd (both_ways (is_high_word y) (ap is_high_word (sym same) ∙ not-true (is_high_word l) l_low) begins.0)
 parts_from [] after (k ∷ copied) (y ∷ next) e is stops begins some =
     let first : BeginsEncoded (k ∷ (copied ++ (y ∷ next))) = subst BeginsEncoded e stops in rw first refl
 parts_from (l ∷ low) after (k ∷ copied) (y ∷ next) e is stops begins some =
     let rest : low ++ after ≡ copied ++ (y ∷ next) = cc e in
-    let more = parts_from low after copied (y ∷ next) rest (and_parts (not (is_high l)) (list_all (λ (w : Word). not (is_high w)) low) is).1 stops begins some in
+    let more = parts_from low after copied (y ∷ next) rest (and_parts (not (is_high_word l)) (list_all (λ (w : Word). not (is_high_word w)) low) is).1 stops begins some in
     or_right k.is_encoded (list_any (λ (w : Word). w.is_encoded) copied) more
 
 Parts-from : (low after copied next : List Word) (ss : List Segment) → low ++ after ≡ copied ++ next → IsCopied low → BeginsEncoded after → BeginsCore next → next ≡ flat_map segment_words ss → AreSegments ss → Parts copied ss

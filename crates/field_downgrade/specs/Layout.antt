@@ -6,7 +6,7 @@ use Rattle.encoded_words.specs.Folding.{Piece, made_body, word_pieces}
 use Rattle.utf8_fields.specs.Parts.{FieldParts}
 use Rattle.field_downgrade.specs.declared.segments.Side.{Side}
 use Rattle.field_downgrade.specs.declared.segments.Side.TheVariants.{Edge, Encoded, Plain}
-use Rattle.field_downgrade.specs.Words.{Word, HasWords, copied_octets, plain_text, last_run, is_high}
+use Rattle.field_downgrade.specs.Words.{Word, HasWords, copied_octets, plain_text, last_run, is_high_word}
 
 -- pieces on lines of their own, each behind a space
 abbrev pub spaced : List (List ℕ) → List Piece
@@ -51,15 +51,15 @@ segment_words s = s.core ++ s.copied
 
 abbrev pub begins_high : List Word → Bool
 begins_high [] = false
-begins_high (w ∷ ws) = is_high w
+begins_high (w ∷ ws) = is_high_word w
 
 abbrev pub ends_high : List Word → Bool
 ends_high [] = false
-ends_high (w ∷ []) = is_high w
+ends_high (w ∷ []) = is_high_word w
 ends_high (w ∷ v ∷ ws) = ends_high (v ∷ ws)
 
 abbrev pub IsCopied : List Word → Type 0
-IsCopied ws = list_all (λ w. not (is_high w)) ws ≡ true
+IsCopied ws = list_all (λ w. not (is_high_word w)) ws ≡ true
 
 pub record IsSegment (s : Segment) : Type 0 where
   pub begins : begins_high s.core ≡ true
@@ -82,7 +82,7 @@ copied_pieces white [] = []
 copied_pieces white (w ∷ ws) = record { white = white; octets = copied_octets (w ∷ ws) } ∷ []
 
 -- What a segment gives, behind a word or an end of this side and this run.
-pub record Gives (side : Side) (run : List ℕ) (s : Segment) (pieces : List Piece) : Type 0 where
+pub record GivesPieces (side : Side) (run : List ℕ) (s : Segment) (pieces : List Piece) : Type 0 where
   pub left : List ℕ
   pub right : List ℕ
   pub white : ℕ
@@ -97,7 +97,7 @@ pub record Gives (side : Side) (run : List ℕ) (s : Segment) (pieces : List Pie
 abbrev pub GiveAll : Side → List ℕ → List Segment → List Piece → Type 0
 GiveAll side run [] pieces = pieces ≡ []
 GiveAll side run (s ∷ ss) pieces = (first : List Piece) × (more : List Piece) × (pieces ≡ first ++ more)
-    × Gives side run s first × GiveAll (last_side s.copied) (last_run s.copied) ss more
+    × GivesPieces side run s first × GiveAll (last_side s.copied) (last_run s.copied) ss more
 
 -- The words are those that are copied before the first core, and segments; these are their pieces.
 pub record HavePieces (words : List Word) (pieces : List Piece) : Type 0 where

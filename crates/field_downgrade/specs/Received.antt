@@ -1,13 +1,12 @@
 -- Received fields (RFC 5322, 3.6.7; RFC 5321, 4.4): clauses, and behind a semicolon a date.
-use Rattle.std.specs.Prelude.{◌≡◌, ℕ, Bool, true, false, not, ◌&&◌, ◌||◌, ◌==◌, cond, codes, List, [], ◌∷◌, ◌++◌, map, Option, Some, None}
+use Rattle.std.specs.Prelude.{◌≡◌, ℕ, Bool, true, not, ◌&&◌, ◌||◌, ◌==◌, cond, codes, List, [], ◌∷◌, ◌++◌, map, Option, Some, None}
 use Rattle.std.specs.List.{AllByRecursion, list_all, list_any, flat_map, slice_split}
 use Rattle.std.specs.Str.{bytes_eq, str_to_ascii_lowercase}
 use Rattle.mail_wire.specs.Octets.{is_ascii, same_name}
 use Rattle.field_tokens.specs.declared.Style.TheVariants.{Mail}
-use Rattle.field_tokens.specs.declared.TokenKind.{TokenKind}
-use Rattle.field_tokens.specs.declared.TokenKind.TheVariants.{Atom, Quoted, Literal, Special, Gap, Comment}
+use Rattle.field_tokens.specs.declared.TokenKind.TheVariants.{Special}
 use Rattle.field_tokens.specs.Tokens.{TokenValue, HasTokenValues}
-use Rattle.field_tokens.specs.Squeezed.{is_blank, squeezed_values, comments_of}
+use Rattle.field_tokens.specs.Squeezed.{is_blank, squeezed_values, comments_of, is_atom_kind, is_special_kind}
 use Rattle.field_tokens.specs.Comments.{CommentValue, CommentsSay, CommentsPieces}
 use Rattle.ace_domains.specs.Domains.{normal_form}
 
@@ -18,22 +17,6 @@ abbrev pub is_clause_word : List ℕ → Bool
 is_clause_word word =
     (same_name word (codes "from") || (same_name word (codes "by") || same_name word (codes "via")))
     || (same_name word (codes "with") || (same_name word (codes "id") || same_name word (codes "for")))
-
-abbrev pub is_atom_kind : TokenKind → Bool
-is_atom_kind Atom = true
-is_atom_kind Quoted = false
-is_atom_kind Literal = false
-is_atom_kind Special = false
-is_atom_kind Gap = false
-is_atom_kind Comment = false
-
-abbrev pub is_special_kind : TokenKind → Bool
-is_special_kind Special = true
-is_special_kind Atom = false
-is_special_kind Quoted = false
-is_special_kind Literal = false
-is_special_kind Gap = false
-is_special_kind Comment = false
 
 -- an atom that is such a word starts a clause
 abbrev pub starts_clause : TokenValue → Bool
@@ -145,13 +128,13 @@ served_clauses clauses = flat_map (λ (clause : Clause). clause_with clause.word
 -- ---- its pieces
 
 -- a text behind a space, where there is one
-abbrev pub behind_space : List ℕ → List ℕ
-behind_space [] = []
-behind_space (x ∷ xs) = 32 ∷ x ∷ xs
+abbrev pub with_space_before : List ℕ → List ℕ
+with_space_before [] = []
+with_space_before (x ∷ xs) = 32 ∷ x ∷ xs
 
 abbrev pub served_piece : List ℕ → Option (List ℕ) → List (List ℕ)
 served_piece word None = []
-served_piece word (Some text) = (word ++ behind_space text) ∷ []
+served_piece word (Some text) = (word ++ with_space_before text) ∷ []
 
 -- the pieces of a clause: the clause as it is served, with its word as it is written, and its comments
 pub record ClausePieces (clause : ClauseTokens) (pieces : List (List ℕ)) : Type 0 where
@@ -166,7 +149,7 @@ ClausesPieces (clause ∷ clauses) pieces = (first more : List (List ℕ)) × (p
 -- the pieces of a date: the semicolon with the date's text, and its comments
 abbrev pub DatePieces : Option (List TokenValue) → List (List ℕ) → Type 0
 DatePieces None pieces = pieces ≡ []
-DatePieces (Some tokens) pieces = (comments : List (List ℕ)) × CommentsPieces (comments_of tokens) comments × (pieces ≡ (59 ∷ behind_space (squeezed_values tokens)) ∷ comments)
+DatePieces (Some tokens) pieces = (comments : List (List ℕ)) × CommentsPieces (comments_of tokens) comments × (pieces ≡ (59 ∷ with_space_before (squeezed_values tokens)) ∷ comments)
 
 -- the pieces of the comments before the clauses, of the clauses, and of the date
 pub record PartsPieces (parts : ReceivedParts) (pieces : List (List ℕ)) : Type 0 where

@@ -156,14 +156,14 @@ pub record NamesMessage (octets made : List ℕ) : Type 0 where
   pub made_is : made ≡ field_octets (with_body f changed)
 
 -- an ASCII field changes where it is the type of an opened message/global
-abbrev pub IsChanged : Bool → List ℕ → Type 0
-IsChanged false octets = ⊥
-IsChanged true octets = (made : List ℕ) × NamesMessage octets made
+abbrev pub IsChangedType : Bool → List ℕ → Type 0
+IsChangedType false octets = ⊥
+IsChangedType true octets = (made : List ℕ) × NamesMessage octets made
 
 -- the field that the layout rule gives
 pub data HasFieldLayout (open_global : Bool) (octets made : List ℕ) : Type 0 where
   -- an ASCII field is copied
-  Copied : list_all is_ascii octets ≡ true → ¬ IsChanged open_global octets → made ≡ octets → HasFieldLayout open_global octets made
+  Copied : list_all is_ascii octets ≡ true → ¬ IsChangedType open_global octets → made ≡ octets → HasFieldLayout open_global octets made
   -- but for the type of an opened message/global
   Changed : open_global ≡ true → NamesMessage octets made → HasFieldLayout open_global octets made
   -- another one is made anew
@@ -238,9 +238,9 @@ pub data StandsSo (open_global : Bool) (f g : FieldParts) : Type 0 where
 -- The made field stands for the original.
 pub data Stands (octets made : List ℕ) (open_global : Bool) : Type 0 where
   -- an ASCII field stands as it is
-  Same : list_all is_ascii octets ≡ true → ¬ IsChanged open_global octets → made ≡ octets → Stands octets made open_global
+  Same : list_all is_ascii octets ≡ true → ¬ IsChangedType open_global octets → made ≡ octets → Stands octets made open_global
   -- the type of an opened message/global stands for itself, but for its subtype
-  Renamed : (f g : FieldParts) → open_global ≡ true → IsAsciiField octets f → IsChanged open_global octets → IsAsciiField made g → IsSameMeaning open_global f g → Stands octets made open_global
+  Renamed : (f g : FieldParts) → open_global ≡ true → IsAsciiField octets f → IsChangedType open_global octets → IsAsciiField made g → IsSameMeaning open_global f g → Stands octets made open_global
   -- another one is ASCII then
   Ascii : (f g : FieldParts) → IsHighField octets f → IsAsciiField made g → StandsSo open_global f g → Stands octets made open_global
 

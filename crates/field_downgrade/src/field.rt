@@ -5,10 +5,10 @@ ghost use Rattle.mail_wire.specs.Folds.{IsFolded};
 ghost use Rattle.mail_wire.specs.Octets.{is_ascii};
 ghost use Rattle.utf8_fields.specs.Parts.{IsField, field_octets};
 ghost use Rattle.field_downgrade.specs.private.Views.{made_from, IsKeep};
-ghost use Rattle.utf8_fields.specs.private.Views.{parts_of};
-ghost use Rattle.field_downgrade.specs.private.Steps.{Adds, MakesUnstructured};
+ghost use Rattle.utf8_fields.specs.private.Views.{parts_value};
+ghost use Rattle.field_downgrade.specs.private.Steps.{AddsOctets, MakesUnstructured};
 ghost use Rattle.field_downgrade.specs.Stands.{HasFieldLayout, NamesMessage, Stands, KeepsLines, with_body};
-ghost use Rattle.field_downgrade.specs.Message.{IsServed};
+ghost use Rattle.field_downgrade.specs.Message.{IsServedField};
 
 use crate::global_bodies::change_global;
 use crate::kind::{is_type, keeps_words};
@@ -30,7 +30,7 @@ pub enum Rewrite {
 fn push_unstructured(alloc: Global, parts: &Parts<'_>, made: &mut Octets) -> Result<(), Memory>
     requires folded { IsFolded parts.now.body.now }
     requires utf8 { IsUtf8 parts.now.body.now }
-    ensures { OnOk result (Adds (MakesUnstructured (parts_of parts.now)) made.old made.new) }
+    ensures { OnOk result (AddsOctets (MakesUnstructured (parts_value parts.now)) made.old made.new) }
 {
     let words = words(alloc, parts.body)?;
     made.push_slice(parts.name)?;
@@ -43,7 +43,7 @@ fn push_unstructured(alloc: Global, parts: &Parts<'_>, made: &mut Octets) -> Res
 fn push_high(alloc: Global, raw: &[u8], open_global: bool, made: &mut Octets) -> Result<(), Memory>
     requires field { IsField raw.now }
     requires high { list_all is_ascii raw.now ≡ false }
-    ensures { OnOk result (Adds (IsServed open_global raw.now) made.old made.new) }
+    ensures { OnOk result (AddsOctets (IsServedField open_global raw.now) made.old made.new) }
 {
     let parts = split_field(raw);
     if keeps_words(parts.name) {
@@ -55,7 +55,7 @@ fn push_high(alloc: Global, raw: &[u8], open_global: bool, made: &mut Octets) ->
 
 // Puts a field of these parts with another body last.
 fn push_with_body(made: &mut Octets, parts: &Parts<'_>, body: &[u8]) -> Result<(), Memory>
-    ensures { OnOk result (made.new ≡ made.old ++ field_octets (with_body (parts_of parts.now) body.now)) }
+    ensures { OnOk result (made.new ≡ made.old ++ field_octets (with_body (parts_value parts.now) body.now)) }
 {
     made.push_slice(parts.name)?;
     made.push_slice(parts.white)?;
@@ -88,7 +88,7 @@ fn named_message(alloc: Global, raw: &[u8]) -> Result<Option<Octets>, Memory>
 fn downgrade_ascii(alloc: Global, raw: &[u8], open_global: bool) -> Result<Rewrite, Memory>
     requires field { IsField raw.now }
     requires ascii { list_all is_ascii raw.now ≡ true }
-    ensures served { IfOk result (λ r. IsServed open_global raw.now (made_from raw.now r)) }
+    ensures served { IfOk result (λ r. IsServedField open_global raw.now (made_from raw.now r)) }
     ensures keep { IfOk result (λ r. IsKeep r ↔ (made_from raw.now r ≡ raw.now)) }
 {
     if !open_global {

@@ -1,7 +1,7 @@
 //! Laws of the layout.
 ghost use Rattle.std.specs.Prelude.{◌≡◌, ℕ, Bool, List};
 ghost use Rattle.utf8_fields.specs.Parts.{FieldParts, IsField};
-ghost use Rattle.field_downgrade.specs.Message.{IsServed};
+ghost use Rattle.field_downgrade.specs.Message.{IsServedField};
 ghost use Rattle.field_downgrade.specs.Stands.{HasFieldLayout, Meaning, Means};
 
 /// A field has one layout.
@@ -17,5 +17,5 @@ pub fn meanings_are_one()
 
 /// Each field has a served form, which is its layout, stands for it, is ASCII and keeps its lines.
 pub fn served_forms_are_there()
-    ensures { (open_global : Bool) (octets : List ℕ) → IsField octets → (made : List ℕ) × IsServed open_global octets made }
+    ensures { (open_global : Bool) (octets : List ℕ) → IsField octets → (made : List ℕ) × IsServedField open_global octets made }
 {}

@@ -4,7 +4,7 @@ ghost use Rattle.mail_wire.specs.Lines.{crlf};
 ghost use Rattle.field_downgrade.specs.Layout.{copied_pieces};
 ghost use Rattle.encoded_words.specs.Folding.{made_body, word_pieces};
 ghost use Rattle.field_downgrade.specs.Words.{copied_octets, plain_text, last_run};
-ghost use Rattle.field_downgrade.specs.private.Views.{words_of};
+ghost use Rattle.field_downgrade.specs.private.Views.{word_values};
 
 use crate::word::Word;
 use mail_wire::{Memory, Octets, push_unfolded};
@@ -19,7 +19,7 @@ pub fn begin_line(made: &mut Octets, white: u8) -> Result<(), Memory>
 
 // Puts words last, with the gaps between them.
 fn push_copied(made: &mut Octets, words: &[Word]) -> Result<(), Memory>
-    ensures { OnOk result (made.new ≡ made.old ++ copied_octets (words_of words.now)) }
+    ensures { OnOk result (made.new ≡ made.old ++ copied_octets (word_values words.now)) }
 {
     let mut gap: &[u8] = &[];
     for word in words {
@@ -32,7 +32,7 @@ fn push_copied(made: &mut Octets, words: &[Word]) -> Result<(), Memory>
 
 /// Puts words that are copied on a line of their own. No words give no line.
 pub fn push_copied_line(made: &mut Octets, white: u8, words: &[Word]) -> Result<(), Memory>
-    ensures { OnOk result (made.new ≡ made.old ++ made_body (copied_pieces white (words_of words.now))) }
+    ensures { OnOk result (made.new ≡ made.old ++ made_body (copied_pieces white (word_values words.now))) }
 {
     if words.is_empty() {
         return Ok(());
@@ -43,7 +43,7 @@ pub fn push_copied_line(made: &mut Octets, white: u8, words: &[Word]) -> Result<
 
 /// Puts words last, with the runs between them.
 pub fn push_plain(text: &mut Octets, words: &[Word]) -> Result<(), Memory>
-    ensures { OnOk result (text.new ≡ text.old ++ plain_text (words_of words.now)) }
+    ensures { OnOk result (text.new ≡ text.old ++ plain_text (word_values words.now)) }
 {
     let mut gap: &[u8] = &[];
     for word in words {
@@ -56,7 +56,7 @@ pub fn push_plain(text: &mut Octets, words: &[Word]) -> Result<(), Memory>
 
 /// Puts the run behind the last word last.
 pub fn push_last_run(text: &mut Octets, words: &[Word]) -> Result<(), Memory>
-    ensures { OnOk result (text.new ≡ text.old ++ last_run (words_of words.now)) }
+    ensures { OnOk result (text.new ≡ text.old ++ last_run (word_values words.now)) }
 {
     match words {
         [.., last] => push_unfolded(text, last.gap),

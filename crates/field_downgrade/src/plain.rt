@@ -1,13 +1,12 @@
 //! The rewriting of plain texts with comments.
 ghost use Rattle.std.specs.Prelude.{◌≡◌, ◌++◌, ◌||◌, ℕ, List, filter, length, not, IfOk, IfSome, IfNone, OnOk, IsTrue, ◌↔◌};
 ghost use Rattle.std.specs.List.{list_all};
-ghost use Rattle.field_tokens.specs.Squeezed.{is_blank as is_blank_of};
+ghost use Rattle.field_tokens.specs.Squeezed.{is_blank as is_blank_of, is_atom_kind};
 ghost use Rattle.field_tokens.specs.declared.Token.{Token};
 ghost use Rattle.field_tokens.specs.Comments.{CommentValue, AddsPieces};
 ghost use Rattle.field_tokens.specs.Tokens.{HasTokens};
 ghost use Rattle.field_downgrade.specs.PlainTexts.{style_where as style_of, text_piece, SaysPlain, PlainPieces};
-ghost use Rattle.field_downgrade.specs.private.PlainSteps.{IsOneAtom, GiveComments};
-ghost use Rattle.field_downgrade.specs.Received.{is_atom_kind};
+ghost use Rattle.field_downgrade.specs.private.PlainSteps.{IsOneAtom, GiveTextComments};
 
 use field_tokens::{
     Style, Token, TokenKind, is_blank, is_comment, read_tokens, squeezed, write_comment,
@@ -53,7 +52,7 @@ fn write_comments(
     pieces: &mut Vec<Octets>,
 ) -> Result<(), Memory>
     requires { HasTokens style text.now tokens.now }
-    ensures { OnOk result (AddsPieces (GiveComments style text.now) pieces.old.items pieces.new.items) }
+    ensures { OnOk result (AddsPieces (GiveTextComments style text.now) pieces.old.items pieces.new.items) }
 {
     let mut rest = text;
     for token in tokens {
@@ -84,7 +83,7 @@ fn plain_pieces(
     said: Octets,
 ) -> Result<Vec<Octets>, Memory>
     requires { HasTokens style text.now tokens.now }
-    ensures { IfOk result (λ pieces. AddsPieces (GiveComments style text.now) (text_piece said) pieces.items) }
+    ensures { IfOk result (λ pieces. AddsPieces (GiveTextComments style text.now) (text_piece said) pieces.items) }
 {
     let mut pieces = Vec::new(alloc);
     push_text(&mut pieces, said)?;

@@ -5,8 +5,8 @@ ghost use Rattle.field_tokens.specs.Comments.{AddsPieces, CommentsPieces};
 ghost use Rattle.field_tokens.specs.Squeezed.{comments_of, is_blank as is_blank_of, StandTogether};
 ghost use Rattle.field_tokens.specs.Tokens.{octets_at};
 ghost use Rattle.field_tokens.specs.declared.Token.{Token};
-ghost use Rattle.field_downgrade.specs.Received.{is_clause_word as is_clause_word_of, starts_clause as starts_clause_of, is_semicolon as is_semicolon_of, is_host_word as is_host_word_of, holds_clause_word as holds_clause_word_of, served_text as served_text_of, date_text as date_text_of, behind_space, served_piece, ClausePieces, DatePieces, PartsPieces, ReceivedParts, ReceivedPieces};
-ghost use Rattle.field_downgrade.specs.private.ReceivedSteps.{token_value, token_values, BeginsSo, CutsTokens, behind_first, clause_at, WritesClauses};
+ghost use Rattle.field_downgrade.specs.Received.{is_clause_word as is_clause_word_of, starts_clause as starts_clause_of, is_semicolon as is_semicolon_of, is_host_word as is_host_word_of, holds_clause_word as holds_clause_word_of, served_text as served_text_of, date_text as date_text_of, with_space_before, served_piece, ClausePieces, DatePieces, PartsPieces, ReceivedParts, ReceivedPieces};
+ghost use Rattle.field_downgrade.specs.private.ReceivedSteps.{token_value, token_values, EndsOrBeginsSo, CutsTokens, behind_first, clause_at, WritesClauses};
 
 use field_tokens::{
     Style, Token, TokenKind, is_blank, is_comment, read_tokens, squeezed, write_comment,
@@ -139,7 +139,7 @@ fn put_comments(
 
 // Puts a word last, with the text behind it.
 fn put_word(alloc: Global, word: &[u8], text: &[u8], pieces: &mut Vec<Octets>) -> Result<(), Memory>
-    ensures { OnOk result (pieces.new.items ≡ pieces.old.items ++ (word.now ++ behind_space text.now) ∷ []) }
+    ensures { OnOk result (pieces.new.items ≡ pieces.old.items ++ (word.now ++ with_space_before text.now) ∷ []) }
 {
     let mut piece = Octets::from_slice(alloc, word)?;
     if !text.is_empty() {
@@ -177,7 +177,7 @@ fn put_clauses(
     pieces: &mut Vec<Octets>,
 ) -> Result<(), Memory>
     requires stand { StandTogether text.now tokens.now }
-    requires begins { BeginsSo starts_clause_of (token_values text.now tokens.now) }
+    requires begins { EndsOrBeginsSo starts_clause_of (token_values text.now tokens.now) }
     requires head { list_all (λ t. not (is_semicolon_of t)) (token_values text.now tokens.now) ≡ true }
     ensures { OnOk result (AddsPieces (WritesClauses (token_values text.now tokens.now)) pieces.old.items pieces.new.items) }
 {

@@ -4,7 +4,7 @@ ghost use Rattle.encoded_words.specs.Folding.{AddsWordLines};
 ghost use Rattle.field_downgrade.specs.Words.{AreWords, AreUtf8, plain_text};
 ghost use Rattle.field_downgrade.specs.Layout.{side_of, first_side, last_side, CutsLeft, CutsRight};
 ghost use Rattle.field_downgrade.specs.private.Steps.{NeedsRun, SplitsCopied, SplitsCore, BeginsCore, CanWrite, WritesSegment, WritesWords};
-ghost use Rattle.field_downgrade.specs.private.Views.{word_of, words_of};
+ghost use Rattle.field_downgrade.specs.private.Views.{word_of, word_values};
 
 use crate::lines::{push_copied_line, push_last_run, push_plain};
 use crate::word::Word;
@@ -31,7 +31,7 @@ fn side_of(word: &Word) -> Side
 }
 
 fn first_side(words: &[Word]) -> Side
-    ensures { result ≡ first_side (words_of words.now) }
+    ensures { result ≡ first_side (word_values words.now) }
 {
     match words {
         [first, ..] => side_of(first),
@@ -40,7 +40,7 @@ fn first_side(words: &[Word]) -> Side
 }
 
 fn last_side(words: &[Word]) -> Side
-    ensures { result ≡ last_side (words_of words.now) }
+    ensures { result ≡ last_side (word_values words.now) }
 {
     match words {
         [.., last] => side_of(last),
@@ -80,7 +80,7 @@ fn cut_right(side: Side, run: &[u8]) -> (&[u8], u8)
 
 // The words before the first one with an octet above 127, and the others.
 fn split_copied<'w, 'a>(words: &'w [Word<'a>]) -> (&'w [Word<'a>], &'w [Word<'a>])
-    ensures { SplitsCopied (words_of words.now) (words_of result.0.now) (words_of result.1.now) }
+    ensures { SplitsCopied (word_values words.now) (word_values result.0.now) (word_values result.1.now) }
 {
     let mut len = 0;
     while len < words.len() && !words[len].is_high {
@@ -92,8 +92,8 @@ fn split_copied<'w, 'a>(words: &'w [Word<'a>]) -> (&'w [Word<'a>], &'w [Word<'a>
 // The core that comes first, and the words behind it.
 fn split_core<'w, 'a>(words: &'w [Word<'a>]) -> (&'w [Word<'a>], &'w [Word<'a>])
     requires some { 0 < length words.now }
-    requires begins { BeginsCore (words_of words.now) }
-    ensures { SplitsCore (words_of words.now) (words_of result.0.now) (words_of result.1.now) }
+    requires begins { BeginsCore (word_values words.now) }
+    ensures { SplitsCore (word_values words.now) (word_values result.0.now) (word_values result.1.now) }
 {
     let mut end = 0;
     let mut at = 0;
@@ -116,8 +116,8 @@ fn push_joined(
     core: &[Word],
     right: &[u8],
 ) -> Result<(), Memory>
-    requires { IsUtf8 ((left.now ++ plain_text (words_of core.now)) ++ right.now) }
-    ensures { OnOk result (AddsWordLines ((left.now ++ plain_text (words_of core.now)) ++ right.now) white made.old made.new) }
+    requires { IsUtf8 ((left.now ++ plain_text (word_values core.now)) ++ right.now) }
+    ensures { OnOk result (AddsWordLines ((left.now ++ plain_text (word_values core.now)) ++ right.now) white made.old made.new) }
 {
     let mut text = Octets::from_slice(alloc, left)?;
     push_plain(&mut text, core)?;
@@ -134,8 +134,8 @@ fn push_core(
     core: &[Word],
     right: &[u8],
 ) -> Result<(), Memory>
-    requires { IsUtf8 ((left.now ++ plain_text (words_of core.now)) ++ right.now) }
-    ensures { OnOk result (AddsWordLines ((left.now ++ plain_text (words_of core.now)) ++ right.now) white made.old made.new) }
+    requires { IsUtf8 ((left.now ++ plain_text (word_values core.now)) ++ right.now) }
+    ensures { OnOk result (AddsWordLines ((left.now ++ plain_text (word_values core.now)) ++ right.now) white made.old made.new) }
 {
     match (left, core, right) {
         ([], [word], []) => push_words(made, white, word.octets),
@@ -151,8 +151,8 @@ fn write_segment(
     copied: &[Word],
     made: &mut Octets,
 ) -> Result<(), Memory>
-    requires { CanWrite (words_of before.now) (words_of core.now) (words_of copied.now) }
-    ensures { OnOk result (WritesSegment (words_of before.now) (words_of core.now) (words_of copied.now) made.old made.new) }
+    requires { CanWrite (word_values before.now) (word_values core.now) (word_values copied.now) }
+    ensures { OnOk result (WritesSegment (word_values before.now) (word_values core.now) (word_values copied.now) made.old made.new) }
 {
     let mut left_run = Octets::new(alloc);
     push_last_run(&mut left_run, before)?;
@@ -166,9 +166,9 @@ fn write_segment(
 
 /// Adds the lines of an unstructured value of these words.
 pub fn write_pieces(alloc: Global, words: &[Word], made: &mut Octets) -> Result<(), Memory>
-    requires words { AreWords (words_of words.now) }
-    requires utf8 { AreUtf8 (words_of words.now) }
-    ensures { OnOk result (WritesWords (words_of words.now) made.old made.new) }
+    requires words { AreWords (word_values words.now) }
+    requires utf8 { AreUtf8 (word_values words.now) }
+    ensures { OnOk result (WritesWords (word_values words.now) made.old made.new) }
 {
     let (mut copied, mut rest) = split_copied(words);
     push_copied_line(made, b' ', copied)?;

@@ -4,7 +4,7 @@ ghost use Rattle.std.specs.List.{list_all};
 ghost use Rattle.mail_wire.specs.Octets.{is_ascii};
 ghost use Rattle.mail_wire.specs.Folds.{IsFolded};
 ghost use Rattle.utf8_fields.specs.Parts.{HasValue, field_octets};
-ghost use Rattle.utf8_fields.specs.private.Views.{parts_of};
+ghost use Rattle.utf8_fields.specs.private.Views.{parts_value};
 ghost use Rattle.encoded_words.specs.Folding.{made_body};
 ghost use Rattle.address_lists.specs.ListPieces.{AddressesPieces};
 ghost use Rattle.address_lists.specs.PhraseLists.{PhrasesPieces};
@@ -13,7 +13,7 @@ ghost use Rattle.encapsulated_fields.specs.Encapsulated.{IsFieldName};
 ghost use Rattle.field_downgrade.specs.Kinds.{kind_named};
 ghost use Rattle.field_downgrade.specs.Layout.{made_of, spaced};
 ghost use Rattle.field_downgrade.specs.Stands.{PiecesAs, downgraded_of, is_encoding_name as is_encoding_of, keeps_name as keeps_name_of};
-ghost use Rattle.field_downgrade.specs.private.Steps.{Adds, AddsWordField, HasNoPieces, IsOther, MakesField};
+ghost use Rattle.field_downgrade.specs.private.Steps.{AddsOctets, AddsWordField, HasNoPieces, IsOther, MakesField};
 
 use crate::kind::{Kind, kind_of};
 use crate::lines::begin_line;
@@ -123,7 +123,7 @@ fn push_lines(made: &mut Octets, pieces: &[Octets]) -> Result<(), Memory>
 
 // Puts a field of these pieces last.
 fn push_pieces(made: &mut Octets, parts: &Parts<'_>, pieces: &[Octets]) -> Result<(), Memory>
-    ensures { OnOk result (made.new ≡ made.old ++ field_octets (made_of (parts_of parts.now) (spaced pieces.now))) }
+    ensures { OnOk result (made.new ≡ made.old ++ field_octets (made_of (parts_value parts.now) (spaced pieces.now))) }
 {
     made.push_slice(parts.name)?;
     made.push(b':')?;
@@ -134,7 +134,7 @@ fn push_pieces(made: &mut Octets, parts: &Parts<'_>, pieces: &[Octets]) -> Resul
 // Puts a field last that keeps a value under its name.
 fn push_kept(made: &mut Octets, parts: &Parts<'_>, value: &[u8]) -> Result<(), Memory>
     requires { IsUtf8 value.now }
-    ensures { OnOk result (AddsWordField (made_of (parts_of parts.now)) value.now made.old made.new) }
+    ensures { OnOk result (AddsWordField (made_of (parts_value parts.now)) value.now made.old made.new) }
 {
     made.push_slice(parts.name)?;
     made.push(b':')?;
@@ -152,7 +152,7 @@ fn push_encapsulated(
     requires name { IsFieldName parts.now.name.now }
     requires utf8 { IsUtf8 value.now }
     requires some { 0 < length value.now }
-    ensures { OnOk result (AddsWordField (downgraded_of (parts_of parts.now)) value.now made.old made.new) }
+    ensures { OnOk result (AddsWordField (downgraded_of (parts_value parts.now)) value.now made.old made.new) }
 {
     let field = encapsulate(alloc, parts.name, value)?;
     let (lines, _) = split_ending(field.as_slice());
@@ -168,13 +168,13 @@ fn push_whole(
     parts: &Parts<'_>,
     value: &[u8],
 ) -> Result<(), Memory>
-    requires other { IsOther (parts_of parts.now) }
+    requires other { IsOther (parts_value parts.now) }
     requires name { IsFieldName parts.now.name.now }
     requires none { HasNoPieces (kind_named parts.now.name.now) open_global parts.now.name.now value.now }
     requires value { HasValue parts.now.body.now value.now }
     requires utf8 { IsUtf8 value.now }
     requires some { 0 < length value.now }
-    ensures { OnOk result (Adds (MakesField open_global (parts_of parts.now)) made.old made.new) }
+    ensures { OnOk result (AddsOctets (MakesField open_global (parts_value parts.now)) made.old made.new) }
 {
     if keeps_name(parts.name) {
         push_kept(made, parts, value)
@@ -190,12 +190,12 @@ pub fn push_structured(
     made: &mut Octets,
     parts: &Parts<'_>,
 ) -> Result<(), Memory>
-    requires other { IsOther (parts_of parts.now) }
+    requires other { IsOther (parts_value parts.now) }
     requires name { IsFieldName parts.now.name.now }
     requires folded { IsFolded parts.now.body.now }
     requires utf8 { IsUtf8 parts.now.body.now }
     requires high { list_all is_ascii parts.now.body.now ≡ false }
-    ensures { OnOk result (Adds (MakesField open_global (parts_of parts.now)) made.old made.new) }
+    ensures { OnOk result (AddsOctets (MakesField open_global (parts_value parts.now)) made.old made.new) }
 {
     let value = value_of(alloc, parts.body)?;
     let kind = kind_of(parts.name);

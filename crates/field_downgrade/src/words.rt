@@ -4,8 +4,8 @@ ghost use Rattle.std.specs.List.{list_all, list_any};
 ghost use Rattle.mail_wire.specs.Octets.{is_ascii};
 ghost use Rattle.mail_wire.specs.Folds.{IsFolded};
 ghost use Rattle.mail_wire.specs.Spans.{IsSpan};
-ghost use Rattle.field_downgrade.specs.Words.{is_word_octet, is_gap_octet, TellsEncoded, is_high, HasWords, AreUtf8};
-ghost use Rattle.field_downgrade.specs.private.Views.{word_of, words_of};
+ghost use Rattle.field_downgrade.specs.Words.{is_word_octet, is_gap_octet, TellsEncoded, HasWords, AreUtf8};
+ghost use Rattle.field_downgrade.specs.private.Views.{word_of, word_values};
 
 use crate::word::Word;
 use encoded_words::read_word;
@@ -65,8 +65,8 @@ fn is_encoded(alloc: Global, word: &[u8]) -> Result<bool, Memory>
 pub fn words(alloc: Global, body: &[u8]) -> Result<Vec<Word<'_>>, Memory>
     requires folded { IsFolded body.now }
     requires utf8 { IsUtf8 body.now }
-    ensures words { IfOk result (λ words. HasWords body.now (words_of words.items)) }
-    ensures utf8 { IfOk result (λ words. AreUtf8 (words_of words.items)) }
+    ensures words { IfOk result (λ words. HasWords body.now (word_values words.items)) }
+    ensures utf8 { IfOk result (λ words. AreUtf8 (word_values words.items)) }
 {
     let mut words = Vec::new(alloc);
     let (_, mut rest) = split_gap(body);

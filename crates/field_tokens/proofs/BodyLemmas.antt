@@ -2,7 +2,7 @@
 use Rattle.std.proofs.Common.{◌≡◌, ℕ, ◌+◌, List, [], ◌∷◌, ◌++◌, length, refl, sym, ap, ◌∙◌, subst, arith}
 use Rattle.std.proofs.lemmas.List.{append_assoc}
 use Rattle.field_tokens.specs.declared.Token.{Token}
-use Rattle.field_tokens.specs.Trees.{spelling, Body, Last, Before, body_octets, IsBody, Tree, End, NestedThen, run_then, HasItems, HasComment}
+use Rattle.field_tokens.specs.Trees.{spelling, Body, Last, Before, body_octets, IsCommentBody, Tree, End, NestedThen, run_then, HasItems, HasComment}
 use Rattle.field_tokens.proofs.Texts.{text_once, open_stops, close_stops, GivesRun-once}
 
 -- the octets of text and a comment, with what follows grouped behind the text
@@ -10,7 +10,7 @@ pub grouped : (text inner more : List ℕ) (x : List ℕ) → (text ++ 40 ∷ (i
 grouped text inner more x = append_assoc text (40 ∷ (inner ++ 41 ∷ more)) x ∙ ap (λ r. text ++ 40 ∷ r) (append_assoc inner (41 ∷ more) x)
 
 -- one body stands before a closing parenthesis
-pub body_once : (a b : Body) (x y : List ℕ) → IsBody a → IsBody b → body_octets a ++ 41 ∷ x ≡ body_octets b ++ 41 ∷ y → (a ≡ b) × (x ≡ y)
+pub body_once : (a b : Body) (x y : List ℕ) → IsCommentBody a → IsCommentBody b → body_octets a ++ 41 ∷ x ≡ body_octets b ++ 41 ∷ y → (a ≡ b) × (x ≡ y)
 body_once (Last s) (Last t) x y p q e =
     let r = text_once s t (41 ∷ x) (41 ∷ y) p q (close_stops x) (close_stops y) e in
     (ap Last r.0, cc (r.1))

@@ -3,7 +3,7 @@ use Rattle.std.proofs.Common.{◌≡◌, ◌≢◌, ℕ, ◌+◌, ◌-◌, ◌<�
 use Rattle.std.proofs.lemmas.List.{length-append}
 use Rattle.mail_wire.specs.declared.values.Span.{Span}
 use Rattle.field_tokens.specs.declared.Item.{Item}
-use Rattle.field_tokens.specs.Trees.{spelling, Body, Last, Before, body_octets, IsBody, Tree, End, NestedThen, run_then, HasItems, all_before, item_of}
+use Rattle.field_tokens.specs.Trees.{spelling, Body, Last, Before, body_octets, IsCommentBody, Tree, End, NestedThen, run_then, HasItems, all_before, tree_item}
 use Rattle.field_tokens.specs.private.Bodies.{SplitsText, body_depth, HoldsBody, ReadsBody, AddsItem}
 use Rattle.field_tokens.proofs.Texts.{text_once, open_stops, close_stops}
 use Rattle.field_tokens.proofs.BodyLemmas.{grouped, body_once}
@@ -13,8 +13,8 @@ pub record OpensBody (levels : ℕ) (behind : List ℕ) : Type 0 where
   pub inner : Body
   pub more : Body
   pub rest : List ℕ
-  pub is_inner : IsBody inner
-  pub is_more : IsBody more
+  pub is_inner : IsCommentBody inner
+  pub is_more : IsCommentBody more
   pub inner_shallow : body_depth inner + 1 < levels
   pub more_shallow : body_depth more < levels
   pub whole : behind ≡ body_octets inner ++ 41 ∷ (body_octets more ++ 41 ∷ rest)
@@ -27,7 +27,7 @@ pub data Marks : ℕ → List ℕ → Type 0 where
 pub mark_follows : (levels end : ℕ) (octets after : List ℕ) (run : Option Span) → HoldsBody levels octets → SplitsText end octets run after → Marks levels after
 mark_follows levels end octets after run holds split = by holds.body holds.is_body holds.shallow holds.whole
   where
-    by : (body : Body) → IsBody body → body_depth body < levels → octets ≡ body_octets body ++ 41 ∷ holds.behind → Marks levels after
+    by : (body : Body) → IsCommentBody body → body_depth body < levels → octets ≡ body_octets body ++ 41 ∷ holds.behind → Marks levels after
     by (Last text) is deep e =
         let r = text_once split.text text after (41 ∷ holds.behind) split.are_text is split.stops (close_stops holds.behind) (sym split.whole ∙ e) in
         Closes holds.behind r.1
@@ -50,7 +50,7 @@ mark_follows levels end octets after run holds split = by holds.body holds.is_bo
 pub record ReadsOn (levels end : ℕ) (octets rest : List ℕ) (items : List Item) : Type 0 where
   pub bound : length rest ≤ end
   pub holds : HoldsBody levels rest
-  pub onward : (body : Body) (more : Tree) (behind : List ℕ) → IsBody body → rest ≡ body_octets body ++ 41 ∷ behind → HasItems (end - length rest) body more → ReadsBody end octets (all_before (map item_of items) more) behind
+  pub onward : (body : Body) (more : Tree) (behind : List ℕ) → IsCommentBody body → rest ≡ body_octets body ++ 41 ∷ behind → HasItems (end - length rest) body more → ReadsBody end octets (all_before (map tree_item items) more) behind
 
 pub ReadsOn-none : (levels end : ℕ) (octets : List ℕ) (items : List Item) → length octets ≤ end → HoldsBody levels octets → items ≡ [] → ReadsOn levels end octets octets items
 ReadsOn-none levels end octets items bound holds none = record {
@@ -104,7 +104,7 @@ ReadsOn-turn levels end octets rest after behind next run tree old mid new r spl
 
 -- the closing parenthesis ends the comment
 pub ReadsOn-end : (levels end : ℕ) (octets rest after behind : List ℕ) (run : Option Span) (old new : List Item) → ReadsOn levels end octets rest old → SplitsText end rest run after → after ≡ 41 ∷ behind
-    → AddsItem old new (run_then run) → ReadsBody end octets (all_before (map item_of new) End) behind
+    → AddsItem old new (run_then run) → ReadsBody end octets (all_before (map tree_item new) End) behind
 ReadsOn-end levels end octets rest after behind run old new r split closes add =
     rw (add End) (r.onward (Last split.text) (run_then run End) behind split.are_text (split.whole ∙ ap (λ x. spelling split.text ++ x) closes) (run, split.gives, refl))
 

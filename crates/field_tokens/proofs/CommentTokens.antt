@@ -5,9 +5,9 @@ use Rattle.encoded_words.specs.CommentUnits.{TextItem, Plain as PlainItem, Pair 
 use Rattle.field_tokens.specs.declared.Style.{Style}
 use Rattle.field_tokens.specs.declared.Token.{Token}
 use Rattle.field_tokens.specs.declared.TokenKind.TheVariants.{Comment}
-use Rattle.field_tokens.specs.Groups.{Inside, End, Plain, Pair, Nested, inside_octets, depth_of, IsInside, IsGroup}
+use Rattle.field_tokens.specs.Groups.{Inside, End, Plain, Pair, Nested, inside_octets, depth_of, IsInside, IsEnclosed}
 use Rattle.field_tokens.specs.Tokens.{comment_marks, IsToken, TokenValue, AreTokens, tokens_from, IsTokenOf, octets_at}
-use Rattle.field_tokens.specs.Trees.{StandsInText, spelling, Body, Last, Before, body_octets, IsBody, Tree, HasItems, HasComment}
+use Rattle.field_tokens.specs.Trees.{StandsInText, spelling, Body, Last, Before, body_octets, IsCommentBody, Tree, HasItems, HasComment}
 use Rattle.field_tokens.specs.private.Bodies.{body_depth, HoldsBody, ReadsBody}
 use Rattle.field_tokens.proofs.TokenLists.{token_at}
 use Rattle.field_tokens.proofs.BodyLemmas.{body_once}
@@ -62,7 +62,7 @@ unfolding item_before
 item_before-octets i (Last text) = refl
 item_before-octets i (Before text inner more) = append_assoc (item_spelling i) (spelling text) (40 ∷ (body_octets inner ++ 41 ∷ body_octets more))
 
-item_before-is : (i : TextItem) (b : Body) → StandsInText i → IsBody b → IsBody (item_before i b)
+item_before-is : (i : TextItem) (b : Body) → StandsInText i → IsCommentBody b → IsCommentBody (item_before i b)
 unfolding item_before
 item_before-is i (Last text) stands is = (stands, is)
 item_before-is i (Before text inner more) stands is = ((stands, is.0), is.1, is.2)
@@ -79,7 +79,7 @@ body_of-octets (Plain x more) = item_before-octets (PlainItem x) (body_of more) 
 body_of-octets (Pair x more) = item_before-octets (PairItem x) (body_of more) ∙ ap (λ r. 92 ∷ x ∷ r) (body_of-octets more)
 body_of-octets (Nested inner more) = rw (body_of-octets inner, body_of-octets more) refl
 
-pub body_of-is : (i : Inside) → IsInside comment_marks i → IsBody (body_of i)
+pub body_of-is : (i : Inside) → IsInside comment_marks i → IsCommentBody (body_of i)
 unfolding body_of
 body_of-is End is = tt
 body_of-is (Plain x more) is = item_before-is (PlainItem x) (body_of more) (is.0, is.1, is.2) (body_of-is more is.4)
@@ -97,14 +97,14 @@ body_of-depth (Nested inner more) = rw (body_of-depth inner, body_of-depth more)
 pub record IsCommentAt (text : List ℕ) (token : Token) : Type 0 where
   pub within : token.span.at + token.span.len ≤ length text
   pub body : Body
-  pub is_body : IsBody body
+  pub is_body : IsCommentBody body
   pub shallow : body_depth body < 64
   pub spelled : octets_at text token.span ≡ 40 ∷ (body_octets body ++ 41 ∷ [])
 
 pub comment_at : (text : List ℕ) (token : Token) → IsTokenOf text token → token.kind ≡ Comment → IsCommentAt text token
 comment_at text token is kind =
     let p = token_placed text token is in
-    let g : IsGroup comment_marks (octets_at text token.span) = subst (λ k. IsToken is.style k (octets_at text token.span) p.rest) kind p.is_token in
+    let g : IsEnclosed comment_marks (octets_at text token.span) = subst (λ k. IsToken is.style k (octets_at text token.span) p.rest) kind p.is_token in
     record {
       within = p.within;
       body = body_of g.inside;

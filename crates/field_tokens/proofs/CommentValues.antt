@@ -12,7 +12,7 @@ use Rattle.encoded_words.proofs.AddedUnits.{WriteAll-once, WriteAll-some}
 use Rattle.encoded_words.proofs.AllUnits.{HasCommentUnits-some}
 use Rattle.encoded_words.proofs.CommentLemmas.{HasCommentUnits-once}
 use Rattle.encoded_words.proofs.WritableUnits.{HasCommentUnits-writable}
-use Rattle.field_tokens.specs.Trees.{spelling, Body, Last, Before, body_octets, IsBody}
+use Rattle.field_tokens.specs.Trees.{spelling, Body, Last, Before, body_octets, IsCommentBody}
 use Rattle.field_tokens.specs.Comments.{IsComment, CommentValue, End, NestedThen, HasRunOf, TextSays, units_then, BodySays, comment_of, CommentSays, RunPieces, TextPieces, White, Run, WrappedPieces, BodyPieces, CommentPieces, CommentsSay, CommentsPieces, AreWritableComments}
 use Rattle.field_tokens.proofs.Texts.{HasRunOf-once, HasRunOf-black}
 use Rattle.field_tokens.proofs.BodyLemmas.{body_once}
@@ -36,7 +36,7 @@ BodySays-once (Before text inner more) v w p q =
     let behind : p.2 ≡ q.2 = BodySays-once more p.2 q.2 p.5 q.5 in
     p.6 ∙ ap (λ us. units_then us (NestedThen p.1 p.2)) units ∙ ap (λ n. units_then q.0 n) (rw (nested, behind) refl) ∙ sym q.6
 
-pub one_body : (octets : List ℕ) (a b : Body) → IsBody a → IsBody b → octets ≡ comment_of a → octets ≡ comment_of b → a ≡ b
+pub one_body : (octets : List ℕ) (a b : Body) → IsCommentBody a → IsCommentBody b → octets ≡ comment_of a → octets ≡ comment_of b → a ≡ b
 one_body octets a b p q e f =
     let whole : 40 ∷ (body_octets a ++ 41 ∷ []) ≡ 40 ∷ (body_octets b ++ 41 ∷ []) = sym e ∙ f in
     (body_once a b [] [] p q (cc whole)).0

@@ -11,7 +11,7 @@ use Rattle.encoded_words.specs.Words.{UnitValue}
 use Rattle.encoded_words.specs.Written.{AddsUnits}
 use Rattle.encoded_words.proofs.PlainItems.{plain_white}
 use Rattle.encoded_words.proofs.WritableUnits.{behind_ascii}
-use Rattle.field_tokens.specs.Trees.{spelling, Body, Last, Before, body_octets, IsBody, IsRun}
+use Rattle.field_tokens.specs.Trees.{spelling, Body, Last, Before, body_octets, IsCommentBody, IsRun}
 use Rattle.field_tokens.specs.private.Bodies.{SplitsRun, body_depth}
 use Rattle.field_tokens.specs.Comments.{comment_of, HasRunOf, RunPieces, White, Run, WrappedPieces, BodyPieces, CommentPieces, AddsPieces}
 use Rattle.field_tokens.specs.private.CommentWriting.{IsCommentWithin, SplitsComment, BeginsComment, WritesText}
@@ -84,7 +84,7 @@ WritesText-some octets lead behind after run len old new span split some run_is 
 -- the octets are a body that is no deeper than this, and a closing parenthesis
 pub record EndsBody (levels : ℕ) (octets : List ℕ) : Type 0 where
   pub body : Body
-  pub is_body : IsBody body
+  pub is_body : IsCommentBody body
   pub shallow : body_depth body < levels
   pub whole : octets ≡ body_octets body ++ 41 ∷ []
 
@@ -92,8 +92,8 @@ pub record EndsBody (levels : ℕ) (octets : List ℕ) : Type 0 where
 pub record OpensLast (levels : ℕ) (octets : List ℕ) : Type 0 where
   pub inner : Body
   pub more : Body
-  pub is_inner : IsBody inner
-  pub is_more : IsBody more
+  pub is_inner : IsCommentBody inner
+  pub is_more : IsCommentBody more
   pub inner_shallow : body_depth inner + 1 < levels
   pub more_shallow : body_depth more < levels
   pub whole : octets ≡ 40 ∷ (body_octets inner ++ 41 ∷ (body_octets more ++ 41 ∷ []))
@@ -106,7 +106,7 @@ pub data Follows (levels : ℕ) (after : List ℕ) : Type 0 where
 pub follows : (levels : ℕ) (rest after : List ℕ) (old new : List (List ℕ)) → EndsBody levels rest → WritesText rest after old new → Follows levels after
 follows levels rest after old new ends w = by ends.body ends.is_body ends.shallow ends.whole
   where
-    by : (body : Body) → IsBody body → body_depth body < levels → rest ≡ body_octets body ++ 41 ∷ [] → Follows levels after
+    by : (body : Body) → IsCommentBody body → body_depth body < levels → rest ≡ body_octets body ++ 41 ∷ [] → Follows levels after
     by (Last text) is deep e = Closes (text_once w.text text after (41 ∷ []) w.are_text is w.stops (close_stops []) (sym w.whole ∙ e)).1
     by (Before text inner more) is deep e =
         let behind : List ℕ = body_octets inner ++ 41 ∷ (body_octets more ++ 41 ∷ []) in
@@ -170,7 +170,7 @@ cut_comment levels after inner behind o split =
 -- the octets are a body with these pieces, and a closing parenthesis
 pub record HasPieces (octets : List ℕ) (pieces : List (List ℕ)) : Type 0 where
   pub body : Body
-  pub is_body : IsBody body
+  pub is_body : IsCommentBody body
   pub whole : octets ≡ body_octets body ++ 41 ∷ []
   pub pieces_are : BodyPieces body pieces
 
@@ -180,7 +180,7 @@ pub record WritesOn (levels : ℕ) (octets rest : List ℕ) (old new : List (Lis
   pub utf8 : IsUtf8 rest
   pub made : List (List ℕ)
   pub added : new ≡ old ++ made
-  pub onward : (body : Body) (more : List (List ℕ)) → IsBody body → rest ≡ body_octets body ++ 41 ∷ [] → BodyPieces body more → HasPieces octets (made ++ more)
+  pub onward : (body : Body) (more : List (List ℕ)) → IsCommentBody body → rest ≡ body_octets body ++ 41 ∷ [] → BodyPieces body more → HasPieces octets (made ++ more)
 
 -- what stands behind the opening parenthesis
 pub inside_is : (mark : ℕ) (comment octets : List ℕ) (body : Body) → comment ≡ comment_of body → comment ≡ mark ∷ octets → (mark ≡ 40) × (octets ≡ body_octets body ++ 41 ∷ [])

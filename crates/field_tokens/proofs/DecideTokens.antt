@@ -14,8 +14,8 @@ use Rattle.field_tokens.specs.declared.TokenKind.{TokenKind}
 use Rattle.field_tokens.specs.declared.TokenKind.TheVariants.{Atom, Quoted, Literal, Special, Gap, Comment}
 use Rattle.field_tokens.specs.TokenOctets.{is_mail, is_special, is_atom_octet, is_line_octet}
 use Rattle.field_tokens.specs.Groups.{may_stand, AreMarks}
-use Rattle.field_tokens.specs.private.Levels.{Step, NeverCloses, SplitsGroup, BeginsNoGroup}
-use Rattle.field_tokens.specs.Tokens.{comment_marks, quoted_marks, literal_marks, BeginsWith, TokenValue, AreTokens, IsLine, HasTokenValues}
+use Rattle.field_tokens.specs.private.Levels.{LevelStep, NeverCloses, SplitsGroup, BeginsNoGroup}
+use Rattle.field_tokens.specs.Tokens.{comment_marks, quoted_marks, literal_marks, BeginsToken, TokenValue, AreTokens, IsLine, HasTokenValues}
 use Rattle.field_tokens.proofs.Levels.{Step-none, Step-more, Step-plain, Step-pair, Step-close, Step-open, NeverCloses-deep, NeverCloses-end, NeverCloses-backslash, NeverCloses-plain, NeverCloses-pair}
 use Rattle.field_tokens.proofs.GroupLemmas.{group_found, group_never, no_group}
 use Rattle.field_tokens.proofs.TokenLemmas.{comment_proper, quoted_proper, literal_proper, literal_octet, no_class, class_none, comment_none, quoted_none, literal_none, special_found, not_opposite}
@@ -23,9 +23,9 @@ use Rattle.field_tokens.proofs.TokenLists.{ReadsTokens-none, ReadsTokens-push, n
 
 -- the open groups close before some rest, or never
 abbrev Closes : Marks → ℕ → List ℕ → Type 0
-Closes m d text = ((rest : List ℕ) × Step m d text 0 rest) ⊎ NeverCloses m d text
+Closes m d text = ((rest : List ℕ) × LevelStep m d text 0 rest) ⊎ NeverCloses m d text
 
-after_step : (m : Marks) (d e : ℕ) (text after : List ℕ) → Step m d text e after → Closes m e after → Closes m d text
+after_step : (m : Marks) (d e : ℕ) (text after : List ℕ) → LevelStep m d text e after → Closes m e after → Closes m d text
 after_step m d e text after step (inl found) = inl (found.0, Step-more m d e 0 text after found.0 step found.1)
 after_step m d e text after step (inr never) = inr (λ xs z same l. let r = step.back xs z same l in never r.0 z r.1 r.2)
 
@@ -91,7 +91,7 @@ longest_some p b after (x ∷ front) rest passes s = omega arith
 
 -- the first token of a text, or none
 abbrev pub First : Style → List ℕ → Type 0
-First style text = ((kind : TokenKind) × (rest : List ℕ) × BeginsWith style kind text rest) ⊎ ((kind : TokenKind) (rest : List ℕ) → ¬ BeginsWith style kind text rest)
+First style text = ((kind : TokenKind) × (rest : List ℕ) × BeginsToken style kind text rest) ⊎ ((kind : TokenKind) (rest : List ℕ) → ¬ BeginsToken style kind text rest)
 
 gap_first : (style : Style) (b : ℕ) (after : List ℕ) → is_white b ≡ true → First style (b ∷ after)
 gap_first style b after is =
@@ -151,7 +151,7 @@ abbrev pub Tokenized : Style → List ℕ → Type 0
 Tokenized style text = ((values : List TokenValue) × AreTokens style values text) ⊎ ((values : List TokenValue) → ¬ AreTokens style values text)
 
 -- what follows the first token decides
-behind_first : (style : Style) (text : List ℕ) (kind : TokenKind) (rest : List ℕ) → 0 < length text → BeginsWith style kind text rest → Tokenized style rest → Tokenized style text
+behind_first : (style : Style) (text : List ℕ) (kind : TokenKind) (rest : List ℕ) → 0 < length text → BeginsToken style kind text rest → Tokenized style rest → Tokenized style text
 behind_first style text kind rest some b (inl found) = inl (record { kind = kind; octets = b.octets } ∷ found.0, (rest, b.whole, b.is_token, found.1))
 behind_first style text kind rest some b (inr none) = inr (λ values are. let u = (ReadsTokens-push style kind text text rest [] (ReadsTokens-none style text) some b).back values are in none u.0 u.1)
 

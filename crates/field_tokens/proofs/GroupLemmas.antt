@@ -3,12 +3,12 @@ use Rattle.std.proofs.Common.{◌≡◌, ◌≢◌, ℕ, suc, ◌+◌, ◌<◌, 
 use Rattle.std.proofs.lemmas.List.{append_assoc, append-nil}
 use Rattle.field_tokens.specs.declared.groups.Marks.{Marks}
 use Rattle.field_tokens.specs.Groups.{Inside, End, Plain, Pair, Nested, inside_octets, depth_of, IsInside, AreMarks}
-use Rattle.field_tokens.specs.private.Levels.{Levels, Step, NeverCloses, SplitsGroup, BeginsNoGroup}
+use Rattle.field_tokens.specs.private.Levels.{Levels, LevelStep, NeverCloses, SplitsGroup, BeginsNoGroup}
 use Rattle.field_tokens.proofs.Levels.{Step-plain, Step-pair, Step-close, Step-open, Step-more}
 
-pub group_found : (m : Marks) (text body rest : List ℕ) (d : ℕ) → text ≡ m.open_mark ∷ body → d ≡ 0 → Step m 1 body d rest → SplitsGroup m text rest
+pub group_found : (m : Marks) (text body rest : List ℕ) (d : ℕ) → text ≡ m.open_mark ∷ body → d ≡ 0 → LevelStep m 1 body d rest → SplitsGroup m text rest
 group_found m text body rest d text_is closed step =
-    let all : Step m 1 body 0 rest = rw (← closed) step in
+    let all : LevelStep m 1 body 0 rest = rw (← closed) step in
     let l = all.onward [] refl in
     record {
       group = m.open_mark ∷ all.front;
@@ -31,14 +31,14 @@ body_is m text body rest text_is s =
     let whole : m.open_mark ∷ body ≡ m.open_mark ∷ ((inside_octets m s.is_group.inside ++ m.close_mark ∷ []) ++ rest) = sym text_is ∙ s.whole ∙ ap (λ g. g ++ rest) s.is_group.spelled in
     cc whole
 
-pub group_never : (m : Marks) (text body rest : List ℕ) (d : ℕ) → text ≡ m.open_mark ∷ body → Step m 1 body d rest → NeverCloses m d rest → BeginsNoGroup m text
+pub group_never : (m : Marks) (text body rest : List ℕ) (d : ℕ) → text ≡ m.open_mark ∷ body → LevelStep m 1 body d rest → NeverCloses m d rest → BeginsNoGroup m text
 group_never m text body rest d text_is step never z s =
     let g = s.is_group in
     let r = step.back (inside_octets m g.inside ++ m.close_mark ∷ []) z (body_is m text body z text_is s) (one_level m g.inside g.is_inside g.shallow) in
     never r.0 z r.1 r.2
 
 -- reading what stands in a group
-Step-inside : (m : Marks) (d : ℕ) (i : Inside) (after : List ℕ) → AreMarks m → IsInside m i → depth_of i + suc d ≤ m.limit → Step m (suc d) (inside_octets m i ++ m.close_mark ∷ after) d after
+Step-inside : (m : Marks) (d : ℕ) (i : Inside) (after : List ℕ) → AreMarks m → IsInside m i → depth_of i + suc d ≤ m.limit → LevelStep m (suc d) (inside_octets m i ++ m.close_mark ∷ after) d after
 Step-inside m d End after marks is deep = Step-close m d after marks (omega arith)
 Step-inside m d (Plain b more) after marks is deep =
     Step-more m (suc d) (suc d) d _ _ _ (Step-plain m d b (inside_octets m more ++ m.close_mark ∷ after) is.0 is.1 is.2 is.3) (Step-inside m d more after marks is.4 deep)

@@ -4,7 +4,7 @@ use Rattle.std.proofs.lemmas.List.{append-nil}
 use Rattle.encoded_words.specs.CommentUnits.{TextItem, Plain as PlainItem, Pair as PairItem}
 use Rattle.field_tokens.specs.Groups.{Inside, End, Plain, Pair, Nested, inside_octets, depth_of, IsInside}
 use Rattle.field_tokens.specs.Tokens.{comment_marks}
-use Rattle.field_tokens.specs.Trees.{AreText, spelling, Body, Last, Before, body_octets, IsBody}
+use Rattle.field_tokens.specs.Trees.{AreText, spelling, Body, Last, Before, body_octets, IsCommentBody}
 use Rattle.field_tokens.specs.private.Bodies.{body_depth}
 use Rattle.field_tokens.specs.Comments.{IsComment, comment_of}
 use Rattle.field_tokens.specs.private.CommentWriting.{IsCommentWithin}
@@ -43,7 +43,7 @@ inside_of-octets (Last text) = items_before-octets text End ∙ append-nil (spel
 inside_of-octets (Before text inner more) =
     items_before-octets text (Nested (inside_of inner) (inside_of more)) ∙ rw (inside_of-octets inner, inside_of-octets more) refl
 
-inside_of-is : (body : Body) → IsBody body → IsInside comment_marks (inside_of body)
+inside_of-is : (body : Body) → IsCommentBody body → IsInside comment_marks (inside_of body)
 unfolding inside_of
 inside_of-is (Last text) is = items_before-is text End is tt
 inside_of-is (Before text inner more) is = items_before-is text (Nested (inside_of inner) (inside_of more)) is.0 (inside_of-is inner is.1, inside_of-is more is.2)
@@ -55,7 +55,7 @@ inside_of-depth (Before text inner more) =
     items_before-depth text (Nested (inside_of inner) (inside_of more)) ∙ rw (inside_of-depth inner, inside_of-depth more) refl
 
 -- a body between parentheses is a comment
-pub IsComment-of : (body : Body) → IsBody body → body_depth body < 64 → IsComment (comment_of body)
+pub IsComment-of : (body : Body) → IsCommentBody body → body_depth body < 64 → IsComment (comment_of body)
 IsComment-of body is shallow = record {
   inside = inside_of body;
   is_inside = inside_of-is body is;

@@ -4,12 +4,12 @@ use Rattle.std.proofs.lemmas.Bool.{both_ways}
 use Rattle.std.proofs.lemmas.List.{append_assoc, length-append}
 use Rattle.field_tokens.specs.Groups.{Inside, End, Plain, Pair, Nested, inside_octets, depth_of, may_stand, IsInside, AreMarks}
 use Rattle.field_tokens.specs.declared.groups.Marks.{Marks}
-use Rattle.field_tokens.specs.private.Levels.{Levels, Step, NeverCloses}
+use Rattle.field_tokens.specs.private.Levels.{Levels, LevelStep, NeverCloses}
 
-pub Step-none : (m : Marks) (d : ℕ) (rest : List ℕ) → Step m d rest d rest
+pub Step-none : (m : Marks) (d : ℕ) (rest : List ℕ) → LevelStep m d rest d rest
 Step-none m d rest = record { front = []; whole = refl; onward = λ ys l. l; back = λ xs z e l. (xs, e, l, refl) }
 
-pub Step-more : (m : Marks) (d e f : ℕ) (rest mid after : List ℕ) → Step m d rest e mid → Step m e mid f after → Step m d rest f after
+pub Step-more : (m : Marks) (d e f : ℕ) (rest mid after : List ℕ) → LevelStep m d rest e mid → LevelStep m e mid f after → LevelStep m d rest f after
 Step-more m d e f rest mid after a b = record {
   front = a.front ++ b.front;
   whole = a.whole ∙ rw (append_assoc) (ap (λ r. a.front ++ r) b.whole);
@@ -21,7 +21,7 @@ Step-more m d e f rest mid after a b = record {
 }
 
 -- an octet that stands for itself
-pub Step-plain : (m : Marks) (d b : ℕ) (after : List ℕ) → b ≢ m.open_mark → b ≢ m.close_mark → b ≢ 92 → may_stand m b ≡ true → Step m (suc d) (b ∷ after) (suc d) after
+pub Step-plain : (m : Marks) (d b : ℕ) (after : List ℕ) → b ≢ m.open_mark → b ≢ m.close_mark → b ≢ 92 → may_stand m b ≡ true → LevelStep m (suc d) (b ∷ after) (suc d) after
 Step-plain m d b after o c s stands = record {
   front = b ∷ [];
   whole = refl;
@@ -41,7 +41,7 @@ Step-plain m d b after o c s stands = record {
         let h : b ∷ after ≡ m.open_mark ∷ (((inside_octets m x ++ m.close_mark ∷ inside_octets m more) ++ m.close_mark ∷ ys) ++ z) = rw e at same in absurd (o (cc h))
 
 -- a quoted pair
-pub Step-pair : (m : Marks) (d b : ℕ) (after : List ℕ) → AreMarks m → may_stand m b ≡ true → Step m (suc d) (92 ∷ b ∷ after) (suc d) after
+pub Step-pair : (m : Marks) (d b : ℕ) (after : List ℕ) → AreMarks m → may_stand m b ≡ true → LevelStep m (suc d) (92 ∷ b ∷ after) (suc d) after
 Step-pair m d b after marks stands = record {
   front = 92 ∷ b ∷ [];
   whole = refl;
@@ -61,7 +61,7 @@ Step-pair m d b after marks stands = record {
         let h : 92 ∷ b ∷ after ≡ m.open_mark ∷ (((inside_octets m x ++ m.close_mark ∷ inside_octets m more) ++ m.close_mark ∷ ys) ++ z) = rw e at same in absurd (marks.open_is (cc h))
 
 -- a close mark
-pub Step-close : (m : Marks) (d : ℕ) (after : List ℕ) → AreMarks m → suc d ≤ m.limit → Step m (suc d) (m.close_mark ∷ after) d after
+pub Step-close : (m : Marks) (d : ℕ) (after : List ℕ) → AreMarks m → suc d ≤ m.limit → LevelStep m (suc d) (m.close_mark ∷ after) d after
 Step-close m d after marks room = record {
   front = m.close_mark ∷ [];
   whole = refl;
@@ -80,7 +80,7 @@ Step-close m d after marks room = record {
         absurd (omega arith)
 
 -- an open mark
-pub Step-open : (m : Marks) (d : ℕ) (after : List ℕ) → AreMarks m → m.open_mark ≢ m.close_mark → Step m (suc d) (m.open_mark ∷ after) (suc (suc d)) after
+pub Step-open : (m : Marks) (d : ℕ) (after : List ℕ) → AreMarks m → m.open_mark ≢ m.close_mark → LevelStep m (suc d) (m.open_mark ∷ after) (suc (suc d)) after
 Step-open m d after marks other = record {
   front = m.open_mark ∷ [];
   whole = refl;
@@ -147,7 +147,7 @@ NeverCloses-pair m d b after marks bars xs z same l = back l.0 l.1 l.2 (rw l.4 a
     back (Nested x more) ys is h = marks.open_is (cc h)
 
 -- the same step, under equal names
-pub Step-at : (m : Marks) (d k e f : ℕ) (rest same after : List ℕ) → d ≡ k → e ≡ f → rest ≡ same → Step m k same f after → Step m d rest e after
+pub Step-at : (m : Marks) (d k e f : ℕ) (rest same after : List ℕ) → d ≡ k → e ≡ f → rest ≡ same → LevelStep m k same f after → LevelStep m d rest e after
 Step-at m d k e f rest same after p q r step = rw (p, q, r) step
 
 pub NeverCloses-at : (m : Marks) (d k : ℕ) (rest same : List ℕ) → d ≡ k → rest ≡ same → NeverCloses m k same → NeverCloses m d rest

@@ -14,7 +14,7 @@ use Rattle.encoded_words.specs.Written.{WriteAll}
 use Rattle.encoded_words.proofs.WritableUnits.{HasCommentUnits-writable}
 use Rattle.encoded_words.proofs.WrittenPieces.{is_no_mark, is_plain, IsPlainPiece, passes_alone, HasCommentUnits-sources, WriteAll-plain}
 use Rattle.field_tokens.specs.TokenOctets.{is_line_octet}
-use Rattle.field_tokens.specs.Trees.{AreText, spelling, Body, Last, Before, body_octets, IsBody}
+use Rattle.field_tokens.specs.Trees.{AreText, spelling, Body, Last, Before, body_octets, IsCommentBody}
 use Rattle.field_tokens.specs.Comments.{HasRunOf, RunPieces, TextPieces, White, Run, WrappedPieces, BodyPieces, comment_of, CommentPieces, CommentsPieces, AreWritableComments, IsLinePiece, AreLineComments}
 use Rattle.field_tokens.proofs.Texts.{AreText-parts, spelling-append}
 use Rattle.field_tokens.proofs.Runs.{run_some}
@@ -94,7 +94,7 @@ comment_holds q in_plain body all =
 comment_some : (body : Body) → 0 < length (comment_of body)
 comment_some body = omega arith
 
-body_holds : (q : ℕ → Bool) → HoldsInPlain q → (body : Body) (pieces : List (List ℕ)) → IsBody body → IsUtf8 (body_octets body) → list_all q (body_octets body) ≡ true → BodyPieces body pieces
+body_holds : (q : ℕ → Bool) → HoldsInPlain q → (body : Body) (pieces : List (List ℕ)) → IsCommentBody body → IsUtf8 (body_octets body) → list_all q (body_octets body) ≡ true → BodyPieces body pieces
     → AllByRecursion (HoldsPiece q) pieces
 body_holds q in_plain (Last text) pieces is u all has = text_holds q in_plain text pieces is u all has
 body_holds q in_plain (Before text inner more) pieces is u all has =

@@ -15,8 +15,8 @@ use Rattle.field_tokens.specs.declared.TokenKind.{TokenKind}
 use Rattle.field_tokens.specs.declared.TokenKind.TheVariants.{Atom, Quoted, Literal, Special, Gap, Comment}
 use Rattle.field_tokens.specs.declared.groups.Marks.{Marks}
 use Rattle.field_tokens.specs.TokenOctets.{is_special, is_mark, is_control, is_atom_octet}
-use Rattle.field_tokens.specs.Groups.{IsGroup, inside_octets}
-use Rattle.field_tokens.specs.Tokens.{comment_marks, quoted_marks, literal_marks, IsToken, BeginsWith, TokenValue, AreTokens}
+use Rattle.field_tokens.specs.Groups.{IsEnclosed, inside_octets}
+use Rattle.field_tokens.specs.Tokens.{comment_marks, quoted_marks, literal_marks, IsToken, BeginsToken, TokenValue, AreTokens}
 use Rattle.field_tokens.specs.Squeezed.{is_blank, is_there, runs_of, octets_of, is_comment, comments_of, words_of, is_gap, space, apart, IsPart}
 use Rattle.field_tokens.proofs.TokenLists.{token_octets_some}
 use Rattle.field_tokens.proofs.TokenLemmas.{kind_is}
@@ -97,7 +97,7 @@ AreTokens-append style (t ∷ u ∷ ts) b x y are ends stops more =
 first_black : (style : Style) (kind : TokenKind) (b : ℕ) (after octets rest : List ℕ) → b ∷ after ≡ octets ++ rest → IsToken style kind octets rest → is_gap kind ≡ false → is_white b ≡ false
 first_black style kind b after octets rest e is black = elim (cases_Bool (is_white b)) [
   | inl white ↦
-      let begins : BeginsWith style kind (b ∷ after) rest = record { octets = octets; whole = e; is_token = is } in
+      let begins : BeginsToken style kind (b ∷ after) rest = record { octets = octets; whole = e; is_token = is } in
       let class = kind_is style kind b (b ∷ after) after rest refl begins in
       let both = rw (white) at class in
       let same : Gap ≡ kind = cc both in
@@ -128,7 +128,7 @@ special_black : (style : Style) (x : ℕ) → is_special style x ≡ true → is
 special_black Mail x h = grind (arith, nat_tests)
 special_black Mime x h = grind (arith, nat_tests)
 
-group_black : (m : Marks) (octets : List ℕ) → is_white m.close_mark ≡ false → IsGroup m octets → StopsBehind is_white octets
+group_black : (m : Marks) (octets : List ℕ) → is_white m.close_mark ≡ false → IsEnclosed m octets → StopsBehind is_white octets
 group_black m octets black g = rw (g.spelled) (StopsBehind-append is_white (m.open_mark ∷ inside_octets m g.inside) (m.close_mark ∷ []) (omega arith) black)
 
 -- a token that is no gap ends with no white octet
@@ -235,10 +235,10 @@ comment_part c = record { kind = Comment; octets = c } ∷ []
 abbrev pub comment_parts : List (List ℕ) → List (List TokenValue)
 comment_parts cs = map comment_part cs
 
-pub comment_is_part : (style : Style) (c : List ℕ) → IsGroup comment_marks c → IsPart style (comment_part c)
+pub comment_is_part : (style : Style) (c : List ℕ) → IsEnclosed comment_marks c → IsPart style (comment_part c)
 comment_is_part style c is = part_of style (comment_part c) (omega arith) ([], refl, is, refl) refl refl
 
-pub comments_are_parts : (style : Style) (cs : List (List ℕ)) → AllByRecursion (IsGroup comment_marks) cs → AllByRecursion (IsPart style) (comment_parts cs)
+pub comments_are_parts : (style : Style) (cs : List (List ℕ)) → AllByRecursion (IsEnclosed comment_marks) cs → AllByRecursion (IsPart style) (comment_parts cs)
 comments_are_parts style [] all = tt
 comments_are_parts style (c ∷ cs) all = (comment_is_part style c all.0, comments_are_parts style cs all.1)
 

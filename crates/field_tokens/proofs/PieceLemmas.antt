@@ -3,7 +3,7 @@ use Rattle.std.proofs.Common.{◌≡◌, ℕ, ◌<◌, List, [], ◌∷◌, ◌+
 use Rattle.std.proofs.lemmas.List.{append_assoc, append-nil}
 use Rattle.std.specs.List.{AllByRecursion, join_with_byte}
 use Rattle.field_tokens.specs.declared.TokenKind.TheVariants.{Comment}
-use Rattle.field_tokens.specs.Groups.{IsGroup}
+use Rattle.field_tokens.specs.Groups.{IsEnclosed}
 use Rattle.field_tokens.specs.Tokens.{TokenValue, comment_marks, IsLine}
 use Rattle.field_tokens.specs.Squeezed.{comments_of, space}
 use Rattle.field_tokens.specs.Comments.{CommentsPieces, IsLinePiece, IsAsciiComment}
@@ -45,7 +45,7 @@ pub no_comments : (comments pieces : List (List ℕ)) → CommentsPieces comment
 no_comments [] pieces are e = refl
 no_comments (c ∷ cs) pieces are e = absurd (omega (arith, CommentsPieces-there (c ∷ cs) pieces (omega arith) are, ap length e))
 
-pub comments_groups : (cs : List (List ℕ)) → AllByRecursion IsAsciiComment cs → AllByRecursion (IsGroup comment_marks) cs
+pub comments_groups : (cs : List (List ℕ)) → AllByRecursion IsAsciiComment cs → AllByRecursion (IsEnclosed comment_marks) cs
 comments_groups [] all = tt
 comments_groups (c ∷ cs) all = (all.0.is_comment, comments_groups cs all.1)
 

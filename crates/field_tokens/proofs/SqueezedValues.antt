@@ -11,7 +11,7 @@ use Rattle.field_tokens.specs.declared.Style.{Style}
 use Rattle.field_tokens.specs.declared.Token.{Token}
 use Rattle.field_tokens.specs.declared.TokenKind.{TokenKind}
 use Rattle.field_tokens.specs.declared.TokenKind.TheVariants.{Atom, Quoted, Literal, Special, Gap, Comment}
-use Rattle.field_tokens.specs.Groups.{IsGroup}
+use Rattle.field_tokens.specs.Groups.{IsEnclosed}
 use Rattle.field_tokens.specs.Tokens.{comment_marks, IsToken, TokenValue, AreTokens, tokens_from, octets_at}
 use Rattle.field_tokens.specs.Squeezed.{is_blank, run_octets, is_there, squeezed_text, runs_of, octets_of, squeezed_values, is_comment, comments_of, words_of, is_gap, apart, IsPart}
 use Rattle.field_tokens.proofs.TokenLists.{token_at}
@@ -239,7 +239,7 @@ runs_and-flat : {A : Type 0} (f : List TokenValue → List A) (tokens : List Tok
     → flat_map f (runs_of tokens) ≡ front → flat_map f (comment_parts comments) ≡ behind → flat_map f (runs_and tokens comments) ≡ front ++ behind
 runs_and-flat f tokens comments front behind p q = flat_map-append f (runs_of tokens) (comment_parts comments) ∙ rw (p, q) refl
 
-pub squeezed_again : (style : Style) (tokens : List TokenValue) (text : List ℕ) (comments : List (List ℕ)) → AreTokens style tokens text → AllByRecursion (IsGroup comment_marks) comments → IsSqueezedAgain style tokens comments
+pub squeezed_again : (style : Style) (tokens : List TokenValue) (text : List ℕ) (comments : List (List ℕ)) → AreTokens style tokens text → AllByRecursion (IsEnclosed comment_marks) comments → IsSqueezedAgain style tokens comments
 squeezed_again style tokens text comments are all =
     let parts : List (List TokenValue) = runs_and tokens comments in
     let are_parts : AllByRecursion (IsPart style) parts

@@ -8,11 +8,11 @@ use Rattle.field_tokens.specs.declared.Style.TheVariants.{Mail, Mime}
 use Rattle.field_tokens.specs.declared.TokenKind.{TokenKind}
 use Rattle.field_tokens.specs.declared.TokenKind.TheVariants.{Atom, Quoted, Literal, Special, Gap, Comment}
 use Rattle.field_tokens.specs.declared.groups.Marks.{Marks}
-use Rattle.field_tokens.specs.Groups.{IsGroup, AreMarks}
+use Rattle.field_tokens.specs.Groups.{IsEnclosed, AreMarks}
 use Rattle.field_tokens.specs.private.Levels.{BeginsNoGroup}
 use Rattle.mail_wire.specs.Octets.{is_white}
 use Rattle.field_tokens.specs.TokenOctets.{is_mail, is_special, is_mark, is_control, is_atom_octet}
-use Rattle.field_tokens.specs.Tokens.{comment_marks, quoted_marks, literal_marks, IsToken, BeginsWith}
+use Rattle.field_tokens.specs.Tokens.{comment_marks, quoted_marks, literal_marks, IsToken, BeginsToken}
 use Rattle.mail_wire.proofs.SpanLemmas.{span_once, Opposite}
 use Rattle.field_tokens.proofs.GroupLemmas.{group_once}
 
@@ -66,7 +66,7 @@ class_of style Atom b h =
     rw (white, m.0, m.1, m.2, special, q.1) refl
 
 -- the first octet of a group
-group_first : (m : Marks) (b : ℕ) (after octets rest : List ℕ) → b ∷ after ≡ octets ++ rest → IsGroup m octets → b ≡ m.open_mark
+group_first : (m : Marks) (b : ℕ) (after octets rest : List ℕ) → b ∷ after ≡ octets ++ rest → IsEnclosed m octets → b ≡ m.open_mark
 group_first m b after octets rest e g = let h = rw (g.spelled) at e in cc h
 
 span_first : (p : ℕ → Bool) (b : ℕ) (after octets rest : List ℕ) → b ∷ after ≡ octets ++ rest → 0 < length octets → list_all p octets ≡ true → p b ≡ true
@@ -82,7 +82,7 @@ begins_of style Quoted b after octets rest e is = group_first quoted_marks b aft
 begins_of style Literal b after octets rest e is = (is.0, group_first literal_marks b after octets rest e is.1)
 
 -- the kind of the first token, by the first octet
-pub kind_is : (style : Style) (kind : TokenKind) (b : ℕ) (text after rest : List ℕ) → text ≡ b ∷ after → BeginsWith style kind text rest → class style b ≡ Some kind
+pub kind_is : (style : Style) (kind : TokenKind) (b : ℕ) (text after rest : List ℕ) → text ≡ b ∷ after → BeginsToken style kind text rest → class style b ≡ Some kind
 kind_is style kind b text after rest e begins = class_of style kind b (begins_of style kind b after begins.octets rest (sym e ∙ begins.whole) begins.is_token)
 
 pub comment_proper : AreMarks comment_marks
@@ -95,15 +95,15 @@ pub literal_proper : AreMarks literal_marks
 literal_proper = record { open_is = λ e. omega (arith, e); close_is = λ e. omega (arith, e); some = omega arith; differ = λ e. refl }
 
 -- where a kind of group is wanted and none stands there, no token does
-pub no_token : (style : Style) (wanted : TokenKind) (b : ℕ) (text after : List ℕ) → text ≡ b ∷ after → class style b ≡ Some wanted → ((rest : List ℕ) → BeginsWith style wanted text rest → ⊥)
-    → (kind : TokenKind) (rest : List ℕ) → BeginsWith style kind text rest → ⊥
+pub no_token : (style : Style) (wanted : TokenKind) (b : ℕ) (text after : List ℕ) → text ≡ b ∷ after → class style b ≡ Some wanted → ((rest : List ℕ) → BeginsToken style wanted text rest → ⊥)
+    → (kind : TokenKind) (rest : List ℕ) → BeginsToken style kind text rest → ⊥
 no_token style wanted b text after e is none kind rest begins =
     let other = kind_is style kind b text after rest e begins in
     let both = sym other ∙ is in
     let same : kind ≡ wanted = cc both in
-    none rest (subst (λ k. BeginsWith style k text rest) same begins)
+    none rest (subst (λ k. BeginsToken style k text rest) same begins)
 
-pub no_class : (style : Style) (b : ℕ) (text after : List ℕ) → text ≡ b ∷ after → class style b ≡ None → (kind : TokenKind) (rest : List ℕ) → BeginsWith style kind text rest → ⊥
+pub no_class : (style : Style) (b : ℕ) (text after : List ℕ) → text ≡ b ∷ after → class style b ≡ None → (kind : TokenKind) (rest : List ℕ) → BeginsToken style kind text rest → ⊥
 no_class style b text after e is kind rest begins =
     let other = kind_is style kind b text after rest e begins in
     let both = sym other ∙ is in
@@ -120,26 +120,26 @@ class_none style b w c q l s a =
     ∙ cond-false (is_special style b) (Some Special) (cond (is_atom_octet style b) (Some Atom) None) s ∙ cond-false (is_atom_octet style b) (Some Atom) None a
 
 -- a group that is found is a token
-pub comment_none : (style : Style) (b : ℕ) (text after : List ℕ) → text ≡ b ∷ after → b ≡ 40 → BeginsNoGroup comment_marks text → (kind : TokenKind) (rest : List ℕ) → BeginsWith style kind text rest → ⊥
+pub comment_none : (style : Style) (b : ℕ) (text after : List ℕ) → text ≡ b ∷ after → b ≡ 40 → BeginsNoGroup comment_marks text → (kind : TokenKind) (rest : List ℕ) → BeginsToken style kind text rest → ⊥
 comment_none style b text after e is none = no_token style Comment b text after e (class_of style Comment b is) (λ rest t. none rest (record { group = t.octets; is_group = t.is_token; whole = t.whole }))
 
-pub quoted_none : (style : Style) (b : ℕ) (text after : List ℕ) → text ≡ b ∷ after → b ≡ 34 → BeginsNoGroup quoted_marks text → (kind : TokenKind) (rest : List ℕ) → BeginsWith style kind text rest → ⊥
+pub quoted_none : (style : Style) (b : ℕ) (text after : List ℕ) → text ≡ b ∷ after → b ≡ 34 → BeginsNoGroup quoted_marks text → (kind : TokenKind) (rest : List ℕ) → BeginsToken style kind text rest → ⊥
 quoted_none style b text after e is none = no_token style Quoted b text after e (class_of style Quoted b is) (λ rest t. none rest (record { group = t.octets; is_group = t.is_token; whole = t.whole }))
 
-pub literal_none : (style : Style) (b : ℕ) (text after : List ℕ) → text ≡ b ∷ after → (style ≡ Mail) × (b ≡ 91) → BeginsNoGroup literal_marks text → (kind : TokenKind) (rest : List ℕ) → BeginsWith style kind text rest → ⊥
+pub literal_none : (style : Style) (b : ℕ) (text after : List ℕ) → text ≡ b ∷ after → (style ≡ Mail) × (b ≡ 91) → BeginsNoGroup literal_marks text → (kind : TokenKind) (rest : List ℕ) → BeginsToken style kind text rest → ⊥
 literal_none style b text after e is none = no_token style Literal b text after e (class_of style Literal b is) (λ rest t. none rest (record { group = t.octets; is_group = t.is_token.1; whole = t.whole }))
 
-pub special_found : (style : Style) (b : ℕ) (text after : List ℕ) → text ≡ b ∷ after → is_special style b ≡ true → BeginsWith style Special text after
+pub special_found : (style : Style) (b : ℕ) (text after : List ℕ) → text ≡ b ∷ after → is_special style b ≡ true → BeginsToken style Special text after
 special_found style b text after e is = record { octets = b ∷ []; whole = e; is_token = (b, refl, is) }
 
 -- what follows the first token is shorter, and one list
-pub token_once : (style : Style) (j k : TokenKind) (b : ℕ) (text after x y : List ℕ) → text ≡ b ∷ after → BeginsWith style j text x → BeginsWith style k text y → (j ≡ k) × (x ≡ y)
+pub token_once : (style : Style) (j k : TokenKind) (b : ℕ) (text after x y : List ℕ) → text ≡ b ∷ after → BeginsToken style j text x → BeginsToken style k text y → (j ≡ k) × (x ≡ y)
 token_once style j k b text after x y e p q =
     let both = sym (kind_is style j b text after x e p) ∙ kind_is style k b text after y e q in
     let same : j ≡ k = cc both in
-    (same, one style k text x y (subst (λ i. BeginsWith style i text x) same p) q)
+    (same, one style k text x y (subst (λ i. BeginsToken style i text x) same p) q)
   where
-    one : (style : Style) (k : TokenKind) (text x y : List ℕ) → BeginsWith style k text x → BeginsWith style k text y → x ≡ y
+    one : (style : Style) (k : TokenKind) (text x y : List ℕ) → BeginsToken style k text x → BeginsToken style k text y → x ≡ y
     one style Gap text x y p q = (span_once is_white p.octets q.octets x y p.is_token.1.passes q.is_token.1.passes p.is_token.1.stops q.is_token.1.stops (sym p.whole ∙ q.whole)).1
     one style Atom text x y p q = (span_once (is_atom_octet style) p.octets q.octets x y p.is_token.1.passes q.is_token.1.passes p.is_token.1.stops q.is_token.1.stops (sym p.whole ∙ q.whole)).1
     one style Special text x y p q =

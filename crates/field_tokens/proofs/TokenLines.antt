@@ -18,7 +18,7 @@ use Rattle.field_tokens.specs.declared.Style.TheVariants.{Mail, Mime}
 use Rattle.field_tokens.specs.declared.TokenKind.{TokenKind}
 use Rattle.field_tokens.specs.declared.TokenKind.TheVariants.{Atom, Quoted, Literal, Special, Gap, Comment}
 use Rattle.field_tokens.specs.declared.groups.Marks.{Marks}
-use Rattle.field_tokens.specs.Groups.{IsGroup, inside_octets}
+use Rattle.field_tokens.specs.Groups.{IsEnclosed, inside_octets}
 use Rattle.field_tokens.specs.TokenOctets.{is_special, is_atom_octet, is_line_octet}
 use Rattle.field_tokens.specs.Tokens.{comment_marks, quoted_marks, literal_marks, IsToken, TokenValue, AreTokens, tokens_from, IsLine, HasTokenValues}
 use Rattle.field_tokens.specs.Squeezed.{is_blank, is_there, squeezed_text, runs_of, octets_of, squeezed_values, is_comment, comments_of, words_of, apart}
@@ -37,7 +37,7 @@ stops_ascii : (style : Style) (rest : List ℕ) → Stops (is_atom_octet style) 
 stops_ascii style [] s = tt
 stops_ascii style (x ∷ rest) s = no_atom_ascii style x s
 
-group_utf8 : (m : Marks) (octets rest : List ℕ) → m.close_mark < 128 → IsGroup m octets → IsUtf8 (octets ++ rest) → BothUtf8 octets rest
+group_utf8 : (m : Marks) (octets rest : List ℕ) → m.close_mark < 128 → IsEnclosed m octets → IsUtf8 (octets ++ rest) → BothUtf8 octets rest
 group_utf8 m octets rest ascii g u = rw (g.spelled) (ends_ascii (m.open_mark ∷ inside_octets m g.inside) m.close_mark rest ascii (rw (g.spelled) at u))
 
 -- UTF-8 is cut between tokens
@@ -63,7 +63,7 @@ tokens_lines style (t ∷ ts) text are line =
     (record { utf8 = both.front; plain = parts.0 }, tokens_lines style ts are.0 are.3 (record { utf8 = both.rest; plain = parts.1 }))
 
 -- the comments among the tokens are comments
-comment_is : (style : Style) (kind : TokenKind) (octets rest : List ℕ) → is_comment kind ≡ true → IsToken style kind octets rest → IsGroup comment_marks octets
+comment_is : (style : Style) (kind : TokenKind) (octets rest : List ℕ) → is_comment kind ≡ true → IsToken style kind octets rest → IsEnclosed comment_marks octets
 comment_is style Gap octets rest e is = cc e
 comment_is style Atom octets rest e is = cc e
 comment_is style Special octets rest e is = cc e
@@ -71,7 +71,7 @@ comment_is style Comment octets rest e is = is
 comment_is style Quoted octets rest e is = cc e
 comment_is style Literal octets rest e is = cc e
 
-pub comments_are_comments : (style : Style) (tokens : List TokenValue) (text : List ℕ) → AreTokens style tokens text → AllByRecursion (IsGroup comment_marks) (comments_of tokens)
+pub comments_are_comments : (style : Style) (tokens : List TokenValue) (text : List ℕ) → AreTokens style tokens text → AllByRecursion (IsEnclosed comment_marks) (comments_of tokens)
 comments_are_comments style [] text are = tt
 comments_are_comments style (t ∷ ts) text are = elim (cases_Bool (is_comment t.kind)) [
   | inl c ↦ rw (c) ((comment_is style t.kind t.octets are.0 c are.2, comments_are_comments style ts are.0 are.3))
@@ -89,7 +89,7 @@ pub comments_are_lines : (style : Style) (tokens : List TokenValue) (text : List
 comments_are_lines style tokens text are line = comments_lines tokens (tokens_lines style tokens text are line)
 
 -- comments that are lines may be written
-pub writable_lines : (comments : List (List ℕ)) → AllByRecursion (IsGroup comment_marks) comments → AllByRecursion IsLine comments → AreWritableComments comments
+pub writable_lines : (comments : List (List ℕ)) → AllByRecursion (IsEnclosed comment_marks) comments → AllByRecursion IsLine comments → AreWritableComments comments
 writable_lines [] groups lines = tt
 writable_lines (c ∷ comments) groups lines = (groups.0, lines.0.utf8, writable_lines comments groups.1 lines.1)
 
@@ -144,7 +144,7 @@ runs_are_lines style tokens text are line = lines_there (slice_split (λ (t : To
 pub squeezed_line : (style : Style) (tokens : List TokenValue) (text : List ℕ) → AreTokens style tokens text → IsLine text → IsLine (squeezed_values tokens)
 squeezed_line style tokens text are line = joined_line (map octets_of (runs_of tokens)) (runs_are_lines style tokens text are line)
 
-pub squeezed_and_line : (style : Style) (tokens : List TokenValue) (text : List ℕ) (comments : List (List ℕ)) → AreTokens style tokens text → IsLine text → AllByRecursion (IsGroup comment_marks) comments
+pub squeezed_and_line : (style : Style) (tokens : List TokenValue) (text : List ℕ) (comments : List (List ℕ)) → AreTokens style tokens text → IsLine text → AllByRecursion (IsEnclosed comment_marks) comments
     → AllByRecursion IsLine comments → IsLine (squeezed_and tokens comments)
 squeezed_and_line style tokens text comments are line groups lines =
     let again = squeezed_again style tokens text comments are groups in

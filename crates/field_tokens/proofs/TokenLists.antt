@@ -8,7 +8,7 @@ use Rattle.field_tokens.specs.declared.Style.{Style}
 use Rattle.field_tokens.specs.declared.TokenKind.{TokenKind}
 use Rattle.field_tokens.specs.declared.TokenKind.TheVariants.{Atom, Quoted, Literal, Special, Gap, Comment}
 use Rattle.field_tokens.specs.declared.Token.{Token}
-use Rattle.field_tokens.specs.Tokens.{IsToken, BeginsWith, TokenValue, AreTokens, tokens_from, IsLine, HasTokens}
+use Rattle.field_tokens.specs.Tokens.{IsToken, BeginsToken, TokenValue, AreTokens, tokens_from, IsLine, HasTokens}
 use Rattle.field_tokens.proofs.TokenLemmas.{token_once}
 
 abbrev value : TokenKind → List ℕ → TokenValue
@@ -34,11 +34,11 @@ pub ReadsTokens-none : (style : Style) (text : List ℕ) → ReadsTokens style t
 ReadsTokens-none style text = record { front = []; whole = refl; onward = λ ts are. are; back = λ ts are. (ts, are, refl) }
 
 -- a token by what it begins
-abbrev begun : (style : Style) (t : TokenValue) (text rest : List ℕ) → text ≡ t.octets ++ rest → IsToken style t.kind t.octets rest → BeginsWith style t.kind text rest
+abbrev begun : (style : Style) (t : TokenValue) (text rest : List ℕ) → text ≡ t.octets ++ rest → IsToken style t.kind t.octets rest → BeginsToken style t.kind text rest
 begun style t text rest e is = record { octets = t.octets; whole = e; is_token = is }
 
 -- what tokens of a text begin with, beside its first token
-begins_so : (style : Style) (kind : TokenKind) (text after : List ℕ) (us : List TokenValue) → 0 < length text → (b : BeginsWith style kind text after) → AreTokens style us text
+begins_so : (style : Style) (kind : TokenKind) (text after : List ℕ) (us : List TokenValue) → 0 < length text → (b : BeginsToken style kind text after) → AreTokens style us text
     → (vs : List TokenValue) × AreTokens style vs after × (us ≡ value kind b.octets ∷ vs)
 begins_so style kind text after [] some b are = absurd (omega (arith, ap length are))
 begins_so style kind text after (u ∷ us) some b are =
@@ -48,7 +48,7 @@ begins_so style kind text after (u ∷ us) some b are =
     let head : u ≡ value kind b.octets = made u.kind kind u.octets b.octets once.0 octets in
     (us, subst (AreTokens style us) same are.3, ap (λ t. t ∷ us) head)
 
-pub ReadsTokens-push : (style : Style) (kind : TokenKind) (text rest after : List ℕ) (done : List TokenValue) → ReadsTokens style text done rest → 0 < length rest → (b : BeginsWith style kind rest after)
+pub ReadsTokens-push : (style : Style) (kind : TokenKind) (text rest after : List ℕ) (done : List TokenValue) → ReadsTokens style text done rest → 0 < length rest → (b : BeginsToken style kind rest after)
     → ReadsTokens style text (done ++ value kind b.octets ∷ []) after
 ReadsTokens-push style kind text rest after done reads some b = record {
   front = reads.front ++ b.octets;
@@ -81,7 +81,7 @@ pub ReadsSpans-none : (style : Style) (text : List ℕ) (tokens : List Token) �
 ReadsSpans-none style text tokens e = record { done = []; reads = ReadsTokens-none style text; octets = refl; placed = e }
 
 pub ReadsSpans-turn : (style : Style) (text rest after : List ℕ) (old new : List Token) (t : Token) → ReadsSpans style text old rest → 0 < length rest
-    → BeginsWith style t.kind rest after → t.span.at ≡ length text - length rest → t.span.len ≡ length rest - length after → new ≡ old ++ t ∷ [] → ReadsSpans style text new after
+    → BeginsToken style t.kind rest after → t.span.at ≡ length text - length rest → t.span.len ≡ length rest - length after → new ≡ old ++ t ∷ [] → ReadsSpans style text new after
 ReadsSpans-turn style text rest after old new t r some b at len pushed =
     let v : TokenValue = value t.kind b.octets in
     let place : t.span.at ≡ 0 + length (all_octets r.done) = omega (arith, ap length r.octets, length-append (all_octets r.done) rest) in
@@ -95,7 +95,7 @@ ReadsSpans-turn style text rest after old new t r some b at len pushed =
       placed = pushed ∙ ap (λ x. x ++ t ∷ []) r.placed ∙ ap (λ x. tokens_from 0 r.done ++ x ∷ []) same ∙ sym (tokens_from-append 0 r.done (v ∷ []));
     }
 
-pub no_tokens : (style : Style) (text rest : List ℕ) (done : List TokenValue) → ReadsTokens style text done rest → 0 < length rest → ((kind : TokenKind) (after : List ℕ) → BeginsWith style kind rest after → ⊥)
+pub no_tokens : (style : Style) (text rest : List ℕ) (done : List TokenValue) → ReadsTokens style text done rest → 0 < length rest → ((kind : TokenKind) (after : List ℕ) → BeginsToken style kind rest after → ⊥)
     → (ts : List TokenValue) → AreTokens style ts text → ⊥
 no_tokens style text rest done reads some none ts are = let old = reads.back ts are in stuck old.0 old.1
   where
@@ -115,7 +115,7 @@ token_octets_some style Comment octets rest is = omega (arith, ap length is.spel
 token_octets_some style Quoted octets rest is = omega (arith, ap length is.spelled)
 token_octets_some style Literal octets rest is = omega (arith, ap length is.1.spelled)
 
-pub token_some : (style : Style) (kind : TokenKind) (text rest : List ℕ) → BeginsWith style kind text rest → length rest < length text
+pub token_some : (style : Style) (kind : TokenKind) (text rest : List ℕ) → BeginsToken style kind text rest → length rest < length text
 token_some style kind text rest b = omega (arith, token_octets_some style kind b.octets rest b.is_token, ap length b.whole, length-append b.octets rest)
 
 -- A text has one list of tokens at most.
@@ -133,7 +133,7 @@ AreTokens-once style text (t ∷ ts) us p q =
 pub no_line : (style : Style) (text : List ℕ) → (IsLine text → ⊥) → (tokens : List Token) → HasTokens style text tokens → ⊥
 no_line style text not_line tokens has = not_line has.is_line
 
-pub never_tokens : (style : Style) (text rest : List ℕ) (old : List Token) → ReadsSpans style text old rest → 0 < length rest → ((kind : TokenKind) (after : List ℕ) → BeginsWith style kind rest after → ⊥)
+pub never_tokens : (style : Style) (text rest : List ℕ) (old : List Token) → ReadsSpans style text old rest → 0 < length rest → ((kind : TokenKind) (after : List ℕ) → BeginsToken style kind rest after → ⊥)
     → (tokens : List Token) → HasTokens style text tokens → ⊥
 never_tokens style text rest old r some none tokens has = no_tokens style text rest r.done r.reads some none has.values has.are_tokens
 

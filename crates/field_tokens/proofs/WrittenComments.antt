@@ -17,7 +17,7 @@ use Rattle.encoded_words.proofs.WithText.{AreUnits-merged}
 use Rattle.encoded_words.proofs.WritableUnits.{HasCommentUnits-writable}
 use Rattle.encoded_words.proofs.WrittenUnits.{HasCommentUnits-written}
 use Rattle.encoded_words.proofs.WrittenPieces.{is_plain, IsPlainPiece, HasCommentUnits-not_empty, WriteAll-some_piece, joined_all}
-use Rattle.field_tokens.specs.Trees.{StandsInText, AreText, spelling, Body, Last, Before, body_octets, IsBody, IsRun}
+use Rattle.field_tokens.specs.Trees.{StandsInText, AreText, spelling, Body, Last, Before, body_octets, IsCommentBody, IsRun}
 use Rattle.field_tokens.specs.private.Bodies.{body_depth}
 use Rattle.field_tokens.specs.Comments.{IsComment, CommentValue, TextSays, BodySays, comment_of, CommentSays, RunPieces, TextPieces, White, Run, WrappedPieces, BodyPieces, CommentPieces, CommentsSay, CommentsPieces, AreWritableComments, IsWritten, IsAsciiComment, AreWritten}
 use Rattle.field_tokens.proofs.Texts.{AreText-append, spelling-append, HasRunOf-once, HasRunOf-black}
@@ -146,7 +146,7 @@ text_spaced text pieces (Some units) are u (Run run h given) said =
 -- A body that is written, no deeper than this.
 record SpacedBody (depth : ℕ) (pieces : List (List ℕ)) (value : CommentValue) : Type 0 where
   body : Body
-  is_body : IsBody body
+  is_body : IsCommentBody body
   shallow : body_depth body ≤ depth
   spelled : body_octets body ≡ spaced pieces ++ 32 ∷ []
   says : BodySays body value
@@ -154,7 +154,7 @@ record SpacedBody (depth : ℕ) (pieces : List (List ℕ)) (value : CommentValue
 -- a comment that is written
 record SpacedComment (depth : ℕ) (pieces : List (List ℕ)) (value : CommentValue) : Type 0 where
   body : Body
-  is_body : IsBody body
+  is_body : IsCommentBody body
   shallow : body_depth body ≤ depth
   spelled : spaced pieces ≡ 32 ∷ comment_of body
   says : BodySays body value
@@ -163,7 +163,7 @@ record SpacedComment (depth : ℕ) (pieces : List (List ℕ)) (value : CommentVa
 between : (inner : List (List ℕ)) → spaced (inner ++ (41 ∷ []) ∷ []) ≡ (spaced inner ++ 32 ∷ []) ++ 41 ∷ []
 between inner = spaced-append inner ((41 ∷ []) ∷ []) ∙ sym (append_assoc (spaced inner) (32 ∷ []) (41 ∷ []))
 
-wrapped_spaced : (b : Bool) (body : Body) (pieces : List (List ℕ)) (value : CommentValue) → IsBody body → BodySays body value → ((inner : List (List ℕ)) → BodyPieces body inner → SpacedBody (body_depth body) inner value)
+wrapped_spaced : (b : Bool) (body : Body) (pieces : List (List ℕ)) (value : CommentValue) → IsCommentBody body → BodySays body value → ((inner : List (List ℕ)) → BodyPieces body inner → SpacedBody (body_depth body) inner value)
     → WrappedPieces b (comment_of body) (BodyPieces body) pieces → SpacedComment (body_depth body) pieces value
 wrapped_spaced true body pieces value is says inside given = record {
   body = body;
@@ -187,7 +187,7 @@ regroup a n b =
     let inside : ((n ++ 41 ∷ []) ++ b) ++ 32 ∷ [] ≡ n ++ 41 ∷ (b ++ 32 ∷ []) = ap (λ r. r ++ 32 ∷ []) (append_assoc n (41 ∷ []) b) ∙ append_assoc n (41 ∷ b) (32 ∷ []) in
     append_assoc a (32 ∷ []) (40 ∷ (n ++ 41 ∷ (b ++ 32 ∷ []))) ∙ ap (λ r. a ++ 32 ∷ 40 ∷ r) (sym inside) ∙ sym (append_assoc a ((32 ∷ 40 ∷ (n ++ 41 ∷ [])) ++ b) (32 ∷ []))
 
-body_spaced : (body : Body) (pieces : List (List ℕ)) (value : CommentValue) → IsBody body → IsUtf8 (body_octets body) → BodyPieces body pieces → BodySays body value → SpacedBody (body_depth body) pieces value
+body_spaced : (body : Body) (pieces : List (List ℕ)) (value : CommentValue) → IsCommentBody body → IsUtf8 (body_octets body) → BodyPieces body pieces → BodySays body value → SpacedBody (body_depth body) pieces value
 body_spaced (Last text) pieces value is u given says =
     let t = text_spaced text pieces says.0 is u given says.1 in
     record { body = Last t.made; is_body = t.are_text; shallow = omega arith; spelled = t.spelled; says = (says.0, t.says, says.2) }

@@ -6,13 +6,13 @@ use Rattle.encoded_words.specs.Words.{UnitValue}
 use Rattle.encoded_words.specs.CommentUnits.{TextItem, is_white_item, HasCommentUnits}
 use Rattle.encoded_words.specs.Written.{WriteAll}
 use Rattle.field_tokens.specs.TokenOctets.{is_line_octet}
-use Rattle.field_tokens.specs.Groups.{IsGroup}
+use Rattle.field_tokens.specs.Groups.{IsEnclosed}
 use Rattle.field_tokens.specs.Tokens.{comment_marks}
-use Rattle.field_tokens.specs.Trees.{spelling, Body, Last, Before, body_octets, IsBody, IsRun}
+use Rattle.field_tokens.specs.Trees.{spelling, Body, Last, Before, body_octets, IsCommentBody, IsRun}
 
 -- the octets are a comment, at most 64 deep
 abbrev pub IsComment : List ℕ → Type 0
-IsComment octets = IsGroup comment_marks octets
+IsComment octets = IsEnclosed comment_marks octets
 
 -- what stands in a comment: nothing more, or the units of a run or a comment, and then more
 pub data CommentValue : Type 0 where
@@ -50,7 +50,7 @@ comment_of body = 40 ∷ (body_octets body ++ 41 ∷ [])
 -- the octets are a comment that says this
 pub record CommentSays (octets : List ℕ) (value : CommentValue) : Type 0 where
   pub body : Body
-  pub is_body : IsBody body
+  pub is_body : IsCommentBody body
   pub spelled : octets ≡ comment_of body
   pub says : BodySays body value
 
@@ -78,7 +78,7 @@ BodyPieces (Before text inner more) pieces = (first nested behind : List (List �
 -- the pieces of a comment
 pub record CommentPieces (octets : List ℕ) (pieces : List (List ℕ)) : Type 0 where
   pub body : Body
-  pub is_body : IsBody body
+  pub is_body : IsCommentBody body
   pub spelled : octets ≡ comment_of body
   pub pieces_are : WrappedPieces (list_all is_ascii octets) octets (BodyPieces body) pieces
 

@@ -36,7 +36,7 @@ IsInside m (Pair x more) = (may_stand m x ≡ true) × IsInside m more
 IsInside m (Nested inside more) = IsInside m inside × IsInside m more
 
 -- a group: its opening mark, what stands in it, and its closing mark
-pub record IsGroup (m : Marks) (octets : List ℕ) : Type 0 where
+pub record IsEnclosed (m : Marks) (octets : List ℕ) : Type 0 where
   pub inside : Inside
   pub is_inside : IsInside m inside
   pub shallow : depth_of inside < m.limit

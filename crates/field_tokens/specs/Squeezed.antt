@@ -74,6 +74,22 @@ is_gap Literal = false
 is_gap Special = false
 is_gap Comment = false
 
+abbrev pub is_atom_kind : TokenKind → Bool
+is_atom_kind Atom = true
+is_atom_kind Quoted = false
+is_atom_kind Literal = false
+is_atom_kind Special = false
+is_atom_kind Gap = false
+is_atom_kind Comment = false
+
+abbrev pub is_special_kind : TokenKind → Bool
+is_special_kind Special = true
+is_special_kind Atom = false
+is_special_kind Quoted = false
+is_special_kind Literal = false
+is_special_kind Gap = false
+is_special_kind Comment = false
+
 -- one space between tokens
 abbrev pub space : TokenValue
 space = record { kind = Gap; octets = 32 ∷ [] }

@@ -11,7 +11,7 @@ use Rattle.field_tokens.specs.declared.Token.{Token}
 use Rattle.field_tokens.specs.declared.TokenKind.{TokenKind}
 use Rattle.field_tokens.specs.declared.TokenKind.TheVariants.{Atom, Quoted, Literal, Special, Gap, Comment}
 use Rattle.field_tokens.specs.TokenOctets.{is_special, is_atom_octet, is_line_octet}
-use Rattle.field_tokens.specs.Groups.{IsGroup}
+use Rattle.field_tokens.specs.Groups.{IsEnclosed}
 
 abbrev pub comment_marks : Marks
 comment_marks = record { open_mark = 40; close_mark = 41; limit = 64; holds_controls = true }
@@ -28,12 +28,12 @@ abbrev pub IsToken : Style → TokenKind → List ℕ → List ℕ → Type 0
 IsToken style Gap octets rest = (0 < length octets) × IsSpan is_white (octets ++ rest) octets rest
 IsToken style Atom octets rest = (0 < length octets) × IsSpan (is_atom_octet style) (octets ++ rest) octets rest
 IsToken style Special octets rest = (x : ℕ) × (octets ≡ x ∷ []) × (is_special style x ≡ true)
-IsToken style Comment octets rest = IsGroup comment_marks octets
-IsToken style Quoted octets rest = IsGroup quoted_marks octets
-IsToken style Literal octets rest = (style ≡ Mail) × IsGroup literal_marks octets
+IsToken style Comment octets rest = IsEnclosed comment_marks octets
+IsToken style Quoted octets rest = IsEnclosed quoted_marks octets
+IsToken style Literal octets rest = (style ≡ Mail) × IsEnclosed literal_marks octets
 
 -- the text begins with a token of this kind, and rest follows it
-pub record BeginsWith (style : Style) (kind : TokenKind) (text rest : List ℕ) : Type 0 where
+pub record BeginsToken (style : Style) (kind : TokenKind) (text rest : List ℕ) : Type 0 where
   pub octets : List ℕ
   pub whole : text ≡ octets ++ rest
   pub is_token : IsToken style kind octets rest

@@ -30,9 +30,9 @@ abbrev pub body_octets : Body → List ℕ
 body_octets (Last text) = spelling text
 body_octets (Before text inner more) = spelling text ++ 40 ∷ (body_octets inner ++ 41 ∷ body_octets more)
 
-abbrev pub IsBody : Body → Type 0
-IsBody (Last text) = AreText text
-IsBody (Before text inner more) = AreText text × IsBody inner × IsBody more
+abbrev pub IsCommentBody : Body → Type 0
+IsCommentBody (Last text) = AreText text
+IsCommentBody (Before text inner more) = AreText text × IsCommentBody inner × IsCommentBody more
 
 -- a comment's tree: nothing more, or a run or a comment, and then more
 pub data Tree : Type 0 where
@@ -77,7 +77,7 @@ HasItems at (Before text inner more) tree =
 -- the token's octets are parentheses around a body, and the tree is the body's
 pub record HasComment (text : List ℕ) (token : Token) (tree : Tree) : Type 0 where
   pub body : Body
-  pub is_body : IsBody body
+  pub is_body : IsCommentBody body
   pub spelled : octets_at text token.span ≡ 40 ∷ (body_octets body ++ 41 ∷ [])
   pub items : HasItems (token.span.at + 1) body tree
 
@@ -97,5 +97,5 @@ comment_step comment = all_before comment.items.items End
 abbrev pub tree_of : Comment → Tree
 tree_of = fold-Comment (Tree → Tree) Tree item_step comment_step
 
-abbrev pub item_of : Item → Tree → Tree
-item_of = fold-Item (Tree → Tree) Tree item_step comment_step
+abbrev pub tree_item : Item → Tree → Tree
+tree_item = fold-Item (Tree → Tree) Tree item_step comment_step

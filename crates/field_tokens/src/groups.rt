@@ -2,7 +2,7 @@
 ghost use Rattle.std.specs.Prelude.{◌≡◌, ◌<◌, ◌≤◌, length, IfSome, IfNone};
 ghost use Rattle.field_tokens.specs.TokenOctets.{is_control as is_control_of};
 ghost use Rattle.field_tokens.specs.Groups.{may_stand as may_stand_of, AreMarks};
-ghost use Rattle.field_tokens.specs.private.Levels.{Step, NeverCloses, SplitsGroup, BeginsNoGroup};
+ghost use Rattle.field_tokens.specs.private.Levels.{LevelStep, NeverCloses, SplitsGroup, BeginsNoGroup};
 
 /// The marks of a kind of group, how many may be open at one place, and whether control octets may stand in it.
 #[derive(Clone, Copy)]
@@ -53,7 +53,7 @@ fn group_step(marks: Marks, depth: usize, rest: &[u8]) -> Option<(usize, &[u8])>
     requires marks { AreMarks marks }
     requires is_open { 0 < depth }
     requires room { depth ≤ marks.limit }
-    ensures found { IfSome result (λ x. Step marks depth rest.now x.0 x.1.now) }
+    ensures found { IfSome result (λ x. LevelStep marks depth rest.now x.0 x.1.now) }
     ensures shorter { IfSome result (λ x. length x.1.now < length rest.now) }
     ensures still { IfSome result (λ x. x.0 ≤ marks.limit) }
     ensures none { IfNone result (NeverCloses marks depth rest.now) }

@@ -3,7 +3,7 @@ ghost use Rattle.std.specs.Prelude.{◌≡◌, ◌<◌, ℕ, List, length, not, 
 ghost use Rattle.std.specs.List.{list_all};
 ghost use Rattle.mail_wire.specs.Spans.{IsSpan};
 ghost use Rattle.field_tokens.specs.TokenOctets.{is_mail, is_special as is_special_of, is_mark as is_mark_of, is_atom_octet as is_atom_octet_of, is_line_octet};
-ghost use Rattle.field_tokens.specs.Tokens.{IsLine, BeginsWith, HasTokens};
+ghost use Rattle.field_tokens.specs.Tokens.{IsLine, BeginsToken, HasTokens};
 ghost use Rattle.field_tokens.specs.declared.Token.{Token};
 ghost use Rattle.field_tokens.specs.declared.TokenKind.{TokenKind};
 
@@ -68,9 +68,9 @@ fn split_atom(style: Style, octets: &[u8]) -> (&[u8], &[u8])
 // The kind of the first token of a text, and what follows it.
 fn first_token(style: Style, text: &[u8]) -> Option<(TokenKind, &[u8])>
     requires { 0 < length text.now }
-    ensures found { IfSome result (λ x. BeginsWith style x.0 text.now x.1.now) }
+    ensures found { IfSome result (λ x. BeginsToken style x.0 text.now x.1.now) }
     ensures shorter { IfSome result (λ x. length x.1.now < length text.now) }
-    ensures none { IfNone result ((kind : TokenKind) (rest : List ℕ) → ¬ BeginsWith style kind text.now rest) }
+    ensures none { IfNone result ((kind : TokenKind) (rest : List ℕ) → ¬ BeginsToken style kind text.now rest) }
 {
     let octet = text[0];
     if is_white(octet) {

@@ -7,11 +7,11 @@ use Rattle.unicode_normalization.specs.Forms.{nfd}
 use Rattle.caseless.specs.Caseless.{default_case_fold, canonical_key}
 use Rattle.address_grammar.specs.declared.Address.{Address}
 use Rattle.address_grammar.specs.Paths.{HasPath, in_angles}
-use Rattle.journal_records.specs.Addresses.{IsTextOf}
+use Rattle.journal_records.specs.Addresses.{IsTextOfAddress}
 
 -- where the path was the null path, the text is that of no address
 pub none_found : (found : Option Address) (text path : List ℕ) → path ≡ in_angles text → ((answer : Option Address) → HasPath path answer → found ≡ answer)
-    → IfNone found ((address : Address) → ¬ IsTextOf text address)
+    → IfNone found ((address : Address) → ¬ IsTextOfAddress text address)
 none_found (Some a) text path is exact = tt
 none_found None text path is exact = λ address has.
     let differs : None ≡ Some address = exact (Some address) (subst (λ (p : List ℕ). HasPath p (Some address)) (sym is) has) in

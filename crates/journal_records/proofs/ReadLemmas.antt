@@ -4,12 +4,12 @@ use Rattle.journal_records.specs.declared.reading.ReadFault.{ReadFault}
 use Rattle.journal_records.specs.declared.reading.ReadFault.TheVariants.{NoRecord}
 use Rattle.journal_records.specs.declared.records.Record.{Record}
 use Rattle.journal_records.specs.Spelling.{Fits, fields_of}
-use Rattle.journal_records.specs.private.Reading.{Gives, record_at}
+use Rattle.journal_records.specs.private.Reading.{ReadsInto, record_at}
 use Rattle.journal_records.proofs.Fields.{AreOctets}
 use Rattle.journal_records.proofs.RecordLaws.{none_is_some, record_takes, record_again}
 
 abbrev IsRead : Result Record ReadFault → List ℕ → Type 0
-IsRead result fields = Gives (λ (one : Record). one) result (record_at fields)
+IsRead result fields = ReadsInto (λ (one : Record). one) result (record_at fields)
 
 pub read_spelled : (result : Result Record ReadFault) (fields : List ℕ) → AreOctets fields → IsRead result fields → IfOk result (λ one. fields ≡ fields_of one)
 read_spelled (Ok one) fields octets is = (record_takes fields one octets is).0

@@ -4,8 +4,8 @@ use Rattle.std.specs.List.{flat_map}
 use Rattle.std.proofs.lemmas.Bool.{eqb-true}
 use Rattle.journal_records.specs.declared.records.Record.{Record}
 use Rattle.journal_records.specs.declared.records.Record.TheVariants as records
-use Rattle.journal_records.specs.Spelling.{number, octet_list, fields_of, record_text, Fits, IsWritable}
-use Rattle.journal_records.specs.private.Reading.{◌>>=◌, number_at, octet_at, list_at, lists_at, ended, account_at, domain_at, folder_at, message_at, flags_at, expunge_at, queue_at, settle_at, kind_at, record_at}
+use Rattle.journal_records.specs.Spelling.{number, octet_list, fields_of, record_text, Fits, IsWritableRecord}
+use Rattle.journal_records.specs.private.Reading.{◌>>=◌, number_at, octet_at, list_at, lists_at, ended_fields, account_at, domain_at, folder_at, message_at, flags_at, expunge_at, queue_at, settle_at, kind_at, record_at}
 use Rattle.journal_records.proofs.FrameLemmas.{list_once}
 use Rattle.journal_records.proofs.Fields.{AreOctets, AreOctets-rest, some_is, bind_some, guard_held, Takes, Takes-then, Takes-all, number_takes, number_again, octet_takes, list_takes, list_again, lists_take, lists_again}
 
@@ -17,7 +17,7 @@ pub record Spells (kind : ℕ) (octets : List ℕ) (one : Record) : Type 0 where
   pub text : kind ∷ octets ≡ fields_of one
   pub fits : Fits one
 
-last : (octets text rest : List ℕ) (kind : ℕ) (made one : Record) → Takes octets text rest → ended made rest ≡ Some one → kind ∷ text ≡ fields_of made → Fits made → Spells kind octets one
+last : (octets text rest : List ℕ) (kind : ℕ) (made one : Record) → Takes octets text rest → ended_fields made rest ≡ Some one → kind ∷ text ≡ fields_of made → Fits made → Spells kind octets one
 last octets text rest kind made one t e is fits =
     let g = guard_held (eqb (length rest) 0) made one e in
     let all : octets ≡ text = Takes-all octets text rest t (eqb-true _ _ g.0) in
@@ -26,8 +26,8 @@ last octets text rest kind made one t e is fits =
 account_takes : (octets : List ℕ) (one : Record) → AreOctets octets → account_at octets ≡ Some one → Spells 1 octets one
 unfolding account_at
 account_takes octets one fits e =
-    let a = bind_some (list_at octets) (λ x. list_at x.1 >>= λ y. ended (records.Account x.0 y.0) y.1) one e in
-    let b = bind_some (list_at a.0.1) (λ y. ended (records.Account a.0.0 y.0) y.1) one a.2 in
+    let a = bind_some (list_at octets) (λ x. list_at x.1 >>= λ y. ended_fields (records.Account x.0 y.0) y.1) one e in
+    let b = bind_some (list_at a.0.1) (λ y. ended_fields (records.Account a.0.0 y.0) y.1) one a.2 in
     let t0 = list_takes octets a.0.0 a.0.1 fits a.1 in
     let t1 = list_takes a.0.1 b.0.0 b.0.1 t0.0.rest_fits b.1 in
     let t = Takes-then octets (octet_list a.0.0) a.0.1 (octet_list b.0.0) b.0.1 t0.0 t1.0 in
@@ -42,7 +42,7 @@ account_again address password fits =
 domain_takes : (octets : List ℕ) (one : Record) → AreOctets octets → domain_at octets ≡ Some one → Spells 2 octets one
 unfolding domain_at
 domain_takes octets one fits e =
-    let a = bind_some (list_at octets) (λ x. ended (records.Domain x.0) x.1) one e in
+    let a = bind_some (list_at octets) (λ x. ended_fields (records.Domain x.0) x.1) one e in
     let t0 = list_takes octets a.0.0 a.0.1 fits a.1 in
     last octets (octet_list a.0.0) a.0.1 2 (records.Domain a.0.0) one t0.0 a.2 refl t0.1
 
@@ -55,8 +55,8 @@ domain_again name fits =
 folder_takes : (octets : List ℕ) (one : Record) → AreOctets octets → folder_at octets ≡ Some one → Spells 3 octets one
 unfolding folder_at
 folder_takes octets one fits e =
-    let a = bind_some (number_at octets) (λ x. list_at x.1 >>= λ y. ended (records.Folder x.0 y.0) y.1) one e in
-    let b = bind_some (list_at a.0.1) (λ y. ended (records.Folder a.0.0 y.0) y.1) one a.2 in
+    let a = bind_some (number_at octets) (λ x. list_at x.1 >>= λ y. ended_fields (records.Folder x.0 y.0) y.1) one e in
+    let b = bind_some (list_at a.0.1) (λ y. ended_fields (records.Folder a.0.0 y.0) y.1) one a.2 in
     let t0 = number_takes octets a.0.0 a.0.1 fits a.1 in
     let t1 = list_takes a.0.1 b.0.0 b.0.1 t0.0.rest_fits b.1 in
     let t = Takes-then octets (number a.0.0) a.0.1 (octet_list b.0.0) b.0.1 t0.0 t1.0 in
@@ -71,10 +71,10 @@ folder_again account name fits =
 message_takes : (octets : List ℕ) (one : Record) → AreOctets octets → message_at octets ≡ Some one → Spells 4 octets one
 unfolding message_at
 message_takes octets one fits e =
-    let a = bind_some (number_at octets) (λ x. octet_at x.1 >>= λ y. list_at y.1 >>= λ z. list_at z.1 >>= λ w. ended (records.Message x.0 y.0 z.0 w.0) w.1) one e in
-    let b = bind_some (octet_at a.0.1) (λ y. list_at y.1 >>= λ z. list_at z.1 >>= λ w. ended (records.Message a.0.0 y.0 z.0 w.0) w.1) one a.2 in
-    let d = bind_some (list_at b.0.1) (λ z. list_at z.1 >>= λ w. ended (records.Message a.0.0 b.0.0 z.0 w.0) w.1) one b.2 in
-    let f = bind_some (list_at d.0.1) (λ w. ended (records.Message a.0.0 b.0.0 d.0.0 w.0) w.1) one d.2 in
+    let a = bind_some (number_at octets) (λ x. octet_at x.1 >>= λ y. list_at y.1 >>= λ z. list_at z.1 >>= λ w. ended_fields (records.Message x.0 y.0 z.0 w.0) w.1) one e in
+    let b = bind_some (octet_at a.0.1) (λ y. list_at y.1 >>= λ z. list_at z.1 >>= λ w. ended_fields (records.Message a.0.0 y.0 z.0 w.0) w.1) one a.2 in
+    let d = bind_some (list_at b.0.1) (λ z. list_at z.1 >>= λ w. ended_fields (records.Message a.0.0 b.0.0 z.0 w.0) w.1) one b.2 in
+    let f = bind_some (list_at d.0.1) (λ w. ended_fields (records.Message a.0.0 b.0.0 d.0.0 w.0) w.1) one d.2 in
     let t0 = number_takes octets a.0.0 a.0.1 fits a.1 in
     let t1 = octet_takes a.0.1 b.0.0 b.0.1 t0.0.rest_fits b.1 in
     let t2 = list_takes b.0.1 d.0.0 d.0.1 t1.rest_fits d.1 in
@@ -94,8 +94,8 @@ message_again folder flags date text fits =
 flags_takes : (octets : List ℕ) (one : Record) → AreOctets octets → flags_at octets ≡ Some one → Spells 5 octets one
 unfolding flags_at
 flags_takes octets one fits e =
-    let a = bind_some (number_at octets) (λ x. octet_at x.1 >>= λ y. ended (records.Flags x.0 y.0) y.1) one e in
-    let b = bind_some (octet_at a.0.1) (λ y. ended (records.Flags a.0.0 y.0) y.1) one a.2 in
+    let a = bind_some (number_at octets) (λ x. octet_at x.1 >>= λ y. ended_fields (records.Flags x.0 y.0) y.1) one e in
+    let b = bind_some (octet_at a.0.1) (λ y. ended_fields (records.Flags a.0.0 y.0) y.1) one a.2 in
     let t0 = number_takes octets a.0.0 a.0.1 fits a.1 in
     let t1 = octet_takes a.0.1 b.0.0 b.0.1 t0.0.rest_fits b.1 in
     let t = Takes-then octets (number a.0.0) a.0.1 (b.0.0 ∷ []) b.0.1 t0.0 t1 in
@@ -111,7 +111,7 @@ flags_again message flags fits = flags_by (number message ++ flags ∷ []) (flag
 expunge_takes : (octets : List ℕ) (one : Record) → AreOctets octets → expunge_at octets ≡ Some one → Spells 6 octets one
 unfolding expunge_at
 expunge_takes octets one fits e =
-    let a = bind_some (number_at octets) (λ x. ended (records.Expunge x.0) x.1) one e in
+    let a = bind_some (number_at octets) (λ x. ended_fields (records.Expunge x.0) x.1) one e in
     let t0 = number_takes octets a.0.0 a.0.1 fits a.1 in
     last octets (number a.0.0) a.0.1 6 (records.Expunge a.0.0) one t0.0 a.2 refl t0.1
 
@@ -128,10 +128,10 @@ expunge_again message fits = expunge_by (number message) message (number_alone m
 queue_takes : (octets : List ℕ) (one : Record) → AreOctets octets → queue_at octets ≡ Some one → Spells 7 octets one
 unfolding queue_at
 queue_takes octets one fits e =
-    let a = bind_some (list_at octets) (λ x. number_at x.1 >>= λ y. lists_at y.0 y.1 >>= λ z. list_at z.1 >>= λ w. ended (records.Queue x.0 z.0 w.0) w.1) one e in
-    let b = bind_some (number_at a.0.1) (λ y. lists_at y.0 y.1 >>= λ z. list_at z.1 >>= λ w. ended (records.Queue a.0.0 z.0 w.0) w.1) one a.2 in
-    let d = bind_some (lists_at b.0.0 b.0.1) (λ z. list_at z.1 >>= λ w. ended (records.Queue a.0.0 z.0 w.0) w.1) one b.2 in
-    let f = bind_some (list_at d.0.1) (λ w. ended (records.Queue a.0.0 d.0.0 w.0) w.1) one d.2 in
+    let a = bind_some (list_at octets) (λ x. number_at x.1 >>= λ y. lists_at y.0 y.1 >>= λ z. list_at z.1 >>= λ w. ended_fields (records.Queue x.0 z.0 w.0) w.1) one e in
+    let b = bind_some (number_at a.0.1) (λ y. lists_at y.0 y.1 >>= λ z. list_at z.1 >>= λ w. ended_fields (records.Queue a.0.0 z.0 w.0) w.1) one a.2 in
+    let d = bind_some (lists_at b.0.0 b.0.1) (λ z. list_at z.1 >>= λ w. ended_fields (records.Queue a.0.0 z.0 w.0) w.1) one b.2 in
+    let f = bind_some (list_at d.0.1) (λ w. ended_fields (records.Queue a.0.0 d.0.0 w.0) w.1) one d.2 in
     let t0 = list_takes octets a.0.0 a.0.1 fits a.1 in
     let t1 = number_takes a.0.1 b.0.0 b.0.1 t0.0.rest_fits b.1 in
     let t2 = lists_take b.0.0 b.0.1 d.0 t1.0.rest_fits d.1 in
@@ -153,8 +153,8 @@ queue_again path addresses text fits =
 settle_takes : (octets : List ℕ) (one : Record) → AreOctets octets → settle_at octets ≡ Some one → Spells 8 octets one
 unfolding settle_at
 settle_takes octets one fits e =
-    let a = bind_some (number_at octets) (λ x. number_at x.1 >>= λ y. ended (records.Settle x.0 y.0) y.1) one e in
-    let b = bind_some (number_at a.0.1) (λ y. ended (records.Settle a.0.0 y.0) y.1) one a.2 in
+    let a = bind_some (number_at octets) (λ x. number_at x.1 >>= λ y. ended_fields (records.Settle x.0 y.0) y.1) one e in
+    let b = bind_some (number_at a.0.1) (λ y. ended_fields (records.Settle a.0.0 y.0) y.1) one a.2 in
     let t0 = number_takes octets a.0.0 a.0.1 fits a.1 in
     let t1 = number_takes a.0.1 b.0.0 b.0.1 t0.0.rest_fits b.1 in
     let t = Takes-then octets (number a.0.0) a.0.1 (number b.0.0) b.0.1 t0.0 t1.0 in
@@ -243,7 +243,7 @@ pub fields_once : (a b : Record) → Fits a → Fits b → fields_of a ≡ field
 fields_once a b p q e = some_is a b (sym (record_again a p) ∙ ap record_at e ∙ record_again b q)
 
 -- octets begin with one record at most
-pub record_once : (a b : Record) (x y : List ℕ) → IsWritable a → IsWritable b → record_text a ++ x ≡ record_text b ++ y → (a ≡ b) × (x ≡ y)
+pub record_once : (a b : Record) (x y : List ℕ) → IsWritableRecord a → IsWritableRecord b → record_text a ++ x ≡ record_text b ++ y → (a ≡ b) × (x ≡ y)
 record_once a b x y p q e =
     let both = list_once (fields_of a) (fields_of b) x y (omega (arith, p.1)) (omega (arith, q.1)) e in
     (fields_once a b p.0 q.0 both.0, both.1)

@@ -9,16 +9,16 @@ use Rattle.address_grammar.specs.Paths.{ComesInPath, HasPath, ReadsPaths, in_ang
 use Rattle.journal_records.specs.declared.limits.TheConstants.{TEXT_MAX}
 
 -- in angle brackets it is the path of this address
-abbrev pub IsTextOf : List ℕ → Address → Type 0
-IsTextOf text address = HasPath (in_angles text) (Some address)
+abbrev pub IsTextOfAddress : List ℕ → Address → Type 0
+IsTextOfAddress text address = HasPath (in_angles text) (Some address)
 
 -- it is the text of an address
 abbrev pub IsAddressText : List ℕ → Type 0
-IsAddressText text = (address : Address) × IsTextOf text address
+IsAddressText text = (address : Address) × IsTextOfAddress text address
 
 -- and within the limit of a text
-abbrev pub IsAddress : List ℕ → Type 0
-IsAddress text = IsAddressText text × (length text ≤ TEXT_MAX)
+abbrev pub IsKeptAddress : List ℕ → Type 0
+IsKeptAddress text = IsAddressText text × (length text ≤ TEXT_MAX)
 
 -- an address that a path may have, within its limit
 abbrev pub IsSendable : Address → Type 0

@@ -53,5 +53,5 @@ Fits (records.Queue path addresses octets) = HasLength path × (length addresses
 Fits (records.Settle entry index) = (entry < 2 ^ 32) × (index < 2 ^ 32)
 
 -- it has a spelling within the limit of a record
-abbrev pub IsWritable : Record → Type 0
-IsWritable one = Fits one × (length (fields_of one) ≤ RECORD_MAX)
+abbrev pub IsWritableRecord : Record → Type 0
+IsWritableRecord one = Fits one × (length (fields_of one) ≤ RECORD_MAX)

@@ -6,7 +6,7 @@ ghost use Rattle.ace_domains.specs.Domains.{compared_form};
 ghost use Rattle.address_grammar.specs.Addresses.{address_text};
 ghost use Rattle.address_grammar.specs.Paths.{ComesInPath};
 ghost use Rattle.address_grammar.specs.declared.Address.{Address as AddressValue};
-ghost use Rattle.journal_records.specs.Addresses.{IsTextOf, IsAddress, IsDomainText, mailbox_key, path_text as path_text_of};
+ghost use Rattle.journal_records.specs.Addresses.{IsTextOfAddress, IsKeptAddress, IsDomainText, mailbox_key, path_text as path_text_of};
 
 use crate::limits::TEXT_MAX;
 use crate::records::Texts;
@@ -20,8 +20,8 @@ use unicode_normalization::to_nfd;
 /// The address of a text such as `ann@example.com`, which in angle brackets is a path (RFC 5321, 4.1.2), or none where it is
 /// the text of no address.
 pub fn read_text(alloc: Global, text: &[u8]) -> Result<Option<Address>, Memory>
-    ensures some { IfOk result (λ found. IfSome found (IsTextOf text.now)) }
-    ensures none { IfOk result (λ found. IfNone found ((address : AddressValue) → ¬ IsTextOf text.now address)) }
+    ensures some { IfOk result (λ found. IfSome found (IsTextOfAddress text.now)) }
+    ensures none { IfOk result (λ found. IfNone found ((address : AddressValue) → ¬ IsTextOfAddress text.now address)) }
 {
     let mut path = Octets::from_slice(alloc, b"<")?;
     path.push_slice(text)?;
@@ -35,7 +35,7 @@ pub fn read_text(alloc: Global, text: &[u8]) -> Result<Option<Address>, Memory>
 
 // Whether the text is that of an address, and within its limit.
 fn is_address(alloc: Global, text: &[u8]) -> Result<bool, Memory>
-    ensures { IfOk result (λ is. IsTrue is ↔ IsAddress text.now) }
+    ensures { IfOk result (λ is. IsTrue is ↔ IsKeptAddress text.now) }
 {
     if text.len() > TEXT_MAX {
         return Ok(false);
@@ -48,7 +48,7 @@ fn is_address(alloc: Global, text: &[u8]) -> Result<bool, Memory>
 
 /// Whether each of the texts is that of an address, and within its limit.
 pub fn are_addresses(alloc: Global, texts: &[Octets]) -> Result<bool, Memory>
-    ensures { IfOk result (λ are. IsTrue are ↔ All IsAddress texts.now) }
+    ensures { IfOk result (λ are. IsTrue are ↔ All IsKeptAddress texts.now) }
 {
     for text in texts {
         if !is_address(alloc, text.as_slice())? {
@@ -60,7 +60,7 @@ pub fn are_addresses(alloc: Global, texts: &[Octets]) -> Result<bool, Memory>
 
 /// Whether the text is that of a path: none, or that of an address.
 pub fn is_path_text(alloc: Global, text: &[u8]) -> Result<bool, Memory>
-    ensures { IfOk result (λ is. IsTrue is ↔ ((text.now ≡ []) ⊎ IsAddress text.now)) }
+    ensures { IfOk result (λ is. IsTrue is ↔ ((text.now ≡ []) ⊎ IsKeptAddress text.now)) }
 {
     if text.is_empty() {
         return Ok(true);

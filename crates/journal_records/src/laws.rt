@@ -1,10 +1,10 @@
 //! A law of records.
 ghost use Rattle.std.specs.Prelude.{◌≡◌, ℕ, List, ◌++◌};
 ghost use Rattle.journal_records.specs.declared.records.Record.{Record};
-ghost use Rattle.journal_records.specs.Spelling.{Fits, IsWritable, fields_of, record_text};
+ghost use Rattle.journal_records.specs.Spelling.{Fits, IsWritableRecord, fields_of, record_text};
 
 /// No two records have the same fields, and octets begin with one record's text at most.
 pub fn records_are_told_apart()
     ensures fields { (a b : Record) → Fits a → Fits b → fields_of a ≡ fields_of b → a ≡ b }
-    ensures texts { (a b : Record) (x y : List ℕ) → IsWritable a → IsWritable b → record_text a ++ x ≡ record_text b ++ y → (a ≡ b) × (x ≡ y) }
+    ensures texts { (a b : Record) (x y : List ℕ) → IsWritableRecord a → IsWritableRecord b → record_text a ++ x ≡ record_text b ++ y → (a ≡ b) × (x ≡ y) }
 {}

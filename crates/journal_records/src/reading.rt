@@ -3,7 +3,7 @@ ghost use Rattle.std.specs.Prelude.{◌≡◌, ◌≢◌, IfOk, Err};
 ghost use Rattle.journal_records.specs.declared.reading.ReadFault.TheVariants.{Memory};
 ghost use Rattle.journal_records.specs.declared.records.Record.{Record as RecordValue};
 ghost use Rattle.journal_records.specs.Spelling.{Fits, fields_of};
-ghost use Rattle.journal_records.specs.private.Reading.{Gives, number_at, octet_at, list_at, lists_at, ended, account_at, domain_at, folder_at, message_at, flags_at, expunge_at, queue_at, settle_at, kind_at, record_at};
+ghost use Rattle.journal_records.specs.private.Reading.{ReadsInto, number_at, octet_at, list_at, lists_at, ended_fields, account_at, domain_at, folder_at, message_at, flags_at, expunge_at, queue_at, settle_at, kind_at, record_at};
 
 use crate::records::{Record, Texts};
 use mail_wire::{Memory as OutOfMemory, Octets};
@@ -42,7 +42,7 @@ impl From<OutOfMemory> for ReadFault {
 }
 
 fn number_of(octets: &[u8]) -> Result<(u32, &[u8]), ReadFault>
-    ensures { Gives (λ x. (x.0, x.1.now)) result (number_at octets.now) }
+    ensures { ReadsInto (λ x. (x.0, x.1.now)) result (number_at octets.now) }
 {
     if octets.len() < 4 {
         return Err(ReadFault::NoRecord);
@@ -53,7 +53,7 @@ fn number_of(octets: &[u8]) -> Result<(u32, &[u8]), ReadFault>
 }
 
 fn octet_of(octets: &[u8]) -> Result<(u8, &[u8]), ReadFault>
-    ensures { Gives (λ x. (x.0, x.1.now)) result (octet_at octets.now) }
+    ensures { ReadsInto (λ x. (x.0, x.1.now)) result (octet_at octets.now) }
 {
     match octets {
         [] => Err(ReadFault::NoRecord),
@@ -63,7 +63,7 @@ fn octet_of(octets: &[u8]) -> Result<(u8, &[u8]), ReadFault>
 
 #[tactic(auto, unfolding(crate::specs::private::Reading::list_at))]
 fn list_of(alloc: Global, octets: &[u8]) -> Result<(Octets, &[u8]), ReadFault>
-    ensures { Gives (λ x. (x.0, x.1.now)) result (list_at octets.now) }
+    ensures { ReadsInto (λ x. (x.0, x.1.now)) result (list_at octets.now) }
 {
     let (len, rest) = number_of(octets)?;
     let len = len as usize;
@@ -76,7 +76,7 @@ fn list_of(alloc: Global, octets: &[u8]) -> Result<(Octets, &[u8]), ReadFault>
 
 // So many texts, one after the other.
 fn lists_of(alloc: Global, count: u32, octets: &[u8]) -> Result<(Texts, &[u8]), ReadFault>
-    ensures { Gives (λ x. (x.0, x.1.now)) result (lists_at count octets.now) }
+    ensures { ReadsInto (λ x. (x.0, x.1.now)) result (lists_at count octets.now) }
 {
     let mut texts = Vec::new(alloc);
     let mut rest = octets;
@@ -89,7 +89,7 @@ fn lists_of(alloc: Global, count: u32, octets: &[u8]) -> Result<(Texts, &[u8]), 
 }
 
 fn ended(whole: Record, rest: &[u8]) -> Result<Record, ReadFault>
-    ensures { Gives (λ x. x) result (ended whole rest.now) }
+    ensures { ReadsInto (λ x. x) result (ended_fields whole rest.now) }
 {
     if rest.is_empty() {
         Ok(whole)
@@ -100,7 +100,7 @@ fn ended(whole: Record, rest: &[u8]) -> Result<Record, ReadFault>
 
 #[tactic(auto, unfolding(crate::specs::private::Reading::account_at))]
 fn account_of(alloc: Global, octets: &[u8]) -> Result<Record, ReadFault>
-    ensures { Gives (λ x. x) result (account_at octets.now) }
+    ensures { ReadsInto (λ x. x) result (account_at octets.now) }
 {
     let (address, rest) = list_of(alloc, octets)?;
     let (password, rest) = list_of(alloc, rest)?;
@@ -109,7 +109,7 @@ fn account_of(alloc: Global, octets: &[u8]) -> Result<Record, ReadFault>
 
 #[tactic(auto, unfolding(crate::specs::private::Reading::domain_at))]
 fn domain_of(alloc: Global, octets: &[u8]) -> Result<Record, ReadFault>
-    ensures { Gives (λ x. x) result (domain_at octets.now) }
+    ensures { ReadsInto (λ x. x) result (domain_at octets.now) }
 {
     let (name, rest) = list_of(alloc, octets)?;
     ended(Record::Domain { name }, rest)
@@ -117,7 +117,7 @@ fn domain_of(alloc: Global, octets: &[u8]) -> Result<Record, ReadFault>
 
 #[tactic(auto, unfolding(crate::specs::private::Reading::folder_at))]
 fn folder_of(alloc: Global, octets: &[u8]) -> Result<Record, ReadFault>
-    ensures { Gives (λ x. x) result (folder_at octets.now) }
+    ensures { ReadsInto (λ x. x) result (folder_at octets.now) }
 {
     let (account, rest) = number_of(octets)?;
     let (name, rest) = list_of(alloc, rest)?;
@@ -126,7 +126,7 @@ fn folder_of(alloc: Global, octets: &[u8]) -> Result<Record, ReadFault>
 
 #[tactic(auto, unfolding(crate::specs::private::Reading::message_at))]
 fn message_of(alloc: Global, octets: &[u8]) -> Result<Record, ReadFault>
-    ensures { Gives (λ x. x) result (message_at octets.now) }
+    ensures { ReadsInto (λ x. x) result (message_at octets.now) }
 {
     let (folder, rest) = number_of(octets)?;
     let (flags, rest) = octet_of(rest)?;
@@ -145,7 +145,7 @@ fn message_of(alloc: Global, octets: &[u8]) -> Result<Record, ReadFault>
 
 #[tactic(auto, unfolding(crate::specs::private::Reading::flags_at))]
 fn flags_of(octets: &[u8]) -> Result<Record, ReadFault>
-    ensures { Gives (λ x. x) result (flags_at octets.now) }
+    ensures { ReadsInto (λ x. x) result (flags_at octets.now) }
 {
     let (message, rest) = number_of(octets)?;
     let (flags, rest) = octet_of(rest)?;
@@ -154,7 +154,7 @@ fn flags_of(octets: &[u8]) -> Result<Record, ReadFault>
 
 #[tactic(auto, unfolding(crate::specs::private::Reading::expunge_at))]
 fn expunge_of(octets: &[u8]) -> Result<Record, ReadFault>
-    ensures { Gives (λ x. x) result (expunge_at octets.now) }
+    ensures { ReadsInto (λ x. x) result (expunge_at octets.now) }
 {
     let (message, rest) = number_of(octets)?;
     ended(Record::Expunge { message }, rest)
@@ -162,7 +162,7 @@ fn expunge_of(octets: &[u8]) -> Result<Record, ReadFault>
 
 #[tactic(auto, unfolding(crate::specs::private::Reading::queue_at))]
 fn queue_of(alloc: Global, octets: &[u8]) -> Result<Record, ReadFault>
-    ensures { Gives (λ x. x) result (queue_at octets.now) }
+    ensures { ReadsInto (λ x. x) result (queue_at octets.now) }
 {
     let (path, rest) = list_of(alloc, octets)?;
     let (count, rest) = number_of(rest)?;
@@ -180,7 +180,7 @@ fn queue_of(alloc: Global, octets: &[u8]) -> Result<Record, ReadFault>
 
 #[tactic(auto, unfolding(crate::specs::private::Reading::settle_at))]
 fn settle_of(octets: &[u8]) -> Result<Record, ReadFault>
-    ensures { Gives (λ x. x) result (settle_at octets.now) }
+    ensures { ReadsInto (λ x. x) result (settle_at octets.now) }
 {
     let (entry, rest) = number_of(octets)?;
     let (index, rest) = number_of(rest)?;
@@ -189,7 +189,7 @@ fn settle_of(octets: &[u8]) -> Result<Record, ReadFault>
 
 #[tactic(auto, unfolding(crate::specs::private::Reading::kind_at))]
 fn kind_of(alloc: Global, kind: u8, octets: &[u8]) -> Result<Record, ReadFault>
-    ensures { Gives (λ x. x) result (kind_at kind octets.now) }
+    ensures { ReadsInto (λ x. x) result (kind_at kind octets.now) }
 {
     match kind {
         1 => account_of(alloc, octets),
@@ -206,7 +206,7 @@ fn kind_of(alloc: Global, kind: u8, octets: &[u8]) -> Result<Record, ReadFault>
 
 #[tactic(auto, unfolding(crate::specs::private::Reading::record_at))]
 fn record_of(alloc: Global, fields: &[u8]) -> Result<Record, ReadFault>
-    ensures { Gives (λ x. x) result (record_at fields.now) }
+    ensures { ReadsInto (λ x. x) result (record_at fields.now) }
 {
     let (kind, rest) = octet_of(fields)?;
     kind_of(alloc, kind, rest)

@@ -5,7 +5,7 @@ ghost use Rattle.address_grammar.specs.Addresses.{address_text};
 ghost use Rattle.journal_records.specs.declared.limits.TheConstants.{RECORD_MAX, TEXT_MAX};
 ghost use Rattle.journal_records.specs.declared.records.Record.TheVariants as records;
 ghost use Rattle.journal_records.specs.Addresses.{IsSendable};
-ghost use Rattle.journal_records.specs.Spelling.{number as number_octets, octet_list, fields_of, record_text, HasLength, Fits, IsWritable};
+ghost use Rattle.journal_records.specs.Spelling.{number as number_octets, octet_list, fields_of, record_text, HasLength, Fits, IsWritableRecord};
 ghost use Rattle.journal_records.specs.Writing.{PutsText};
 
 use crate::records::Record;
@@ -285,7 +285,7 @@ pub fn queue_front(
     addresses: &[Octets],
     octets: &[u8],
 ) -> Result<Octets, Memory>
-    requires { IsWritable (records.Queue path.now addresses.now octets.now) }
+    requires { IsWritableRecord (records.Queue path.now addresses.now octets.now) }
     ensures { IfOk result (λ front. front ++ octets.now ≡ record_text (records.Queue path.now addresses.now octets.now)) }
 {
     let mut front = Octets::new(alloc);
@@ -296,7 +296,7 @@ pub fn queue_front(
 
 /// The text of one record.
 pub fn record_text(alloc: Global, one: &Record) -> Result<Octets, Memory>
-    requires { IsWritable one.now }
+    requires { IsWritableRecord one.now }
     ensures { IfOk result (λ text. text ≡ record_text one.now) }
 {
     let mut text = Octets::new(alloc);
@@ -306,7 +306,7 @@ pub fn record_text(alloc: Global, one: &Record) -> Result<Octets, Memory>
 
 /// The text of a domain's record.
 pub fn domain_text(alloc: Global, name: &[u8]) -> Result<Octets, Memory>
-    requires { IsWritable (records.Domain name.now) }
+    requires { IsWritableRecord (records.Domain name.now) }
     ensures { IfOk result (λ text. text ≡ record_text (records.Domain name.now)) }
 {
     let made = Record::Domain {

@@ -8,7 +8,7 @@ use Rattle.mail_store.specs.Kept.{Kept}
 use Rattle.mail_store.specs.declared.changing.StoreFault.{StoreFault}
 use Rattle.journal_records.specs.declared.records.Record.{Record}
 use Rattle.setup_command.specs.AddingRuns.{RunsAdding, Broken, InJournal}
-use Rattle.setup_command.specs.WordForms.{IsAccount, IsDomain}
+use Rattle.setup_command.specs.WordForms.{IsAccountCommand, IsDomainCommand}
 use Rattle.setup_command.proofs.FormLemmas.{account_once}
 use Rattle.mail_command.specs.Words.{IsNoCommand, OpensJournal, OfSession, OfAccount, OfDomain}
 
@@ -19,13 +19,13 @@ second_same : (a b : List ℕ) → codes "domain" ∷ a ∷ [] ≡ codes "domain
 second_same a b same = cc
 
 -- what holds of what the words of `account` were read as holds of whatever they say
-pub account_at : (P : Address → List ℕ → Type 0) (words : List (List ℕ)) (a b : Address) (p q : List ℕ) → IsAccount words a p → IsAccount words b q → P a p → P b q
+pub account_at : (P : Address → List ℕ → Type 0) (words : List (List ℕ)) (a b : Address) (p q : List ℕ) → IsAccountCommand words a p → IsAccountCommand words b q → P a p → P b q
 account_at P words a b p q one other holds =
     subst (λ (x : Address). P x q) (account_once words a b p q one other)
     (subst (λ (y : List ℕ). P a y) (third_same one.text other.text p q (sym one.words_are ∙ other.words_are)) holds)
 
 -- so for `domain`
-pub domain_at : (P : List ℕ → Type 0) (words : List (List ℕ)) (a b : List ℕ) → IsDomain words a → IsDomain words b → P a → P b
+pub domain_at : (P : List ℕ → Type 0) (words : List (List ℕ)) (a b : List ℕ) → IsDomainCommand words a → IsDomainCommand words b → P a → P b
 domain_at P words a b one other holds = subst P (second_same a b (sym one.words_are ∙ other.words_are)) holds
 
 -- words of no command don't open the journal

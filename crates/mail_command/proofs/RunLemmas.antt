@@ -15,7 +15,7 @@ use Rattle.mail_command.specs.Outcome.{message_max, DowngradeOutcome}
 use Rattle.mail_wire.specs.declared.traffic.TheConstants.{PIECE}
 use Rattle.session_core.specs.Serving.{IsPrefixOf}
 use Rattle.setup_command.specs.Running.{IsBrokenOff}
-use Rattle.mail_command.specs.Running.{Answers, BreaksOff, IsExact, RunsDowngrade}
+use Rattle.mail_command.specs.Running.{AnswersAll, BreaksOff, IsExact, RunsDowngrade}
 use Rattle.setup_command.specs.Statuses.{status_of}
 use Rattle.mail_wire.specs.declared.outside.Fault.{Fault}
 use Rattle.mail_wire.specs.declared.outside.Fault.TheVariants as fault
@@ -90,7 +90,7 @@ all_of : (octets taken : List ℕ) → IsEnough octets taken → length octets �
 all_of octets taken all fits = let len = ap length all.begins in sym (all.whole (omega (arith, length-append taken all.more)))
 
 -- a message was taken, and its outcome given
-pub downgrades : (a b c : Telling) (taken given : List ℕ) (status : ℕ) → TakesUpTo message_max a b taken → DowngradeOutcome taken status given → Gives b c given → Answers a c status
+pub downgrades : (a b c : Telling) (taken given : List ℕ) (status : ℕ) → TakesUpTo message_max a b taken → DowngradeOutcome taken status given → Gives b c given → AnswersAll a c status
 downgrades a b c taken given status takes outcome gives =
     let both = takes_and_gives a b c taken given takes.takes gives in
     record {
@@ -119,13 +119,13 @@ takes_partly a b taken takes few =
     (some_of a.left (λ octets. (status : ℕ) (whole : List ℕ) → DowngradeOutcome octets status whole → IsPrefixOf [] whole) (λ octets status whole outcome. (whole, refl)))
 
 -- the answer is the status of each outcome that the octets have
-pub exact_by : (a c : Telling) (status : ℕ) → Answers a c status → IsExact a status
+pub exact_by : (a c : Telling) (status : ℕ) → AnswersAll a c status → IsExact a status
 exact_by a c status answers =
     IfSome_then a.left {P = λ octets. DowngradeOutcome octets status (given_of answers.entries)} answers.whole
     (λ octets outcome other others also. inl (downgrade_once octets status other (given_of answers.entries) others outcome also).status_is)
 
 -- `downgrade`, by the answer of the function that runs it
-pub runs_downgrade : (a b : Telling) (result : Result ℕ Fault) → IfOk result (Answers a b) → IfOk result (λ status. ¬ IsBrokenOff status) → OnErr result (BreaksOff a b)
+pub runs_downgrade : (a b : Telling) (result : Result ℕ Fault) → IfOk result (AnswersAll a b) → IfOk result (λ status. ¬ IsBrokenOff status) → OnErr result (BreaksOff a b)
     → (result ≡ Err fault.Keeper → ⊥) → RunsDowngrade a b (status_of result)
 runs_downgrade a b (Ok status) answers fine breaks keeper = record {
   answers = λ _. answers;

@@ -36,7 +36,7 @@ GivesHelp before now status = (text : List ℕ) × ((Gives before now text × (s
 -- The octets that were taken, no more than a piece beyond what a message may have, came to their outcome, and it was given whole.
 -- Nothing was given before the last take. Where the wire tells what it had left, the outcome is that of all of it, and all of it
 -- was taken, if it isn't more than a message may have.
-pub record Answers (before now : Telling) (status : ℕ) : Type 0 where
+pub record AnswersAll (before now : Telling) (status : ℕ) : Type 0 where
   pub entries : List Entry
   pub moves : Moves before now entries
   pub quiet : IsLawful (λ taken. []) entries
@@ -60,7 +60,7 @@ IsExact before result =
     IfSome before.left (λ octets. (status : ℕ) (given : List ℕ) → DowngradeOutcome octets status given → (result ≡ status) ⊎ IsBrokenOff result)
 
 pub record RunsDowngrade (before now : Telling) (status : ℕ) : Type 0 where
-  pub answers : ¬ IsBrokenOff status → Answers before now status
+  pub answers : ¬ IsBrokenOff status → AnswersAll before now status
   pub broken_off : IsBrokenOff status → BreaksOff before now
   pub exact : IsExact before status
 

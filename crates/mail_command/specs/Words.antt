@@ -1,7 +1,7 @@
 -- The words of the commands.
 use Rattle.std.specs.Prelude.{◌≡◌, ℕ, List, [], ◌∷◌, codes, string_bytes, Option, Some, None}
 use Rattle.address_grammar.specs.declared.Address.{Address}
-use Rattle.setup_command.specs.WordForms.{IsAccount, IsDomain, IsHelp}
+use Rattle.setup_command.specs.WordForms.{IsAccountCommand, IsDomainCommand, IsHelpCommand}
 use Rattle.mail_command.specs.declared.command.Command.{Command}
 use Rattle.mail_command.specs.declared.command.Command.TheVariants as command
 use Rattle.mail_command.specs.declared.roles.Role.{Role}
@@ -24,21 +24,21 @@ IsSession words role = words ≡ role_word role ∷ []
 pub record IsNoCommand (words : List (List ℕ)) : Type 0 where
   pub downgrade : ¬ IsDowngrade words
   pub session : (role : Role) → ¬ IsSession words role
-  pub account : (address : Address) (password : List ℕ) → ¬ IsAccount words address password
-  pub domain : (name : List ℕ) → ¬ IsDomain words name
-  pub help : ¬ IsHelp words
+  pub account : (address : Address) (password : List ℕ) → ¬ IsAccountCommand words address password
+  pub domain : (name : List ℕ) → ¬ IsDomainCommand words name
+  pub help : ¬ IsHelpCommand words
 
 -- the words of the commands that open the journal
 pub data OpensJournal (words : List (List ℕ)) : Type 0 where
   OfSession : (role : Role) → IsSession words role → OpensJournal words
-  OfAccount : (address : Address) (password : List ℕ) → IsAccount words address password → OpensJournal words
-  OfDomain : (name : List ℕ) → IsDomain words name → OpensJournal words
+  OfAccount : (address : Address) (password : List ℕ) → IsAccountCommand words address password → OpensJournal words
+  OfDomain : (name : List ℕ) → IsDomainCommand words name → OpensJournal words
 
 -- the command that the words name
 abbrev pub Names : List (List ℕ) → Option Command → Type 0
 Names words None = IsNoCommand words
 Names words (Some command.Downgrade) = IsDowngrade words
-Names words (Some command.Help) = IsHelp words
+Names words (Some command.Help) = IsHelpCommand words
 Names words (Some (command.Session role)) = IsSession words role
-Names words (Some (command.Account said)) = IsAccount words said.address said.password
-Names words (Some (command.Domain name)) = IsDomain words (string_bytes name)
+Names words (Some (command.Account said)) = IsAccountCommand words said.address said.password
+Names words (Some (command.Domain name)) = IsDomainCommand words (string_bytes name)

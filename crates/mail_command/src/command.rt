@@ -12,7 +12,7 @@ ghost use Rattle.session_core.specs.declared.desk.TheConstants.{LIMITS};
 ghost use Rattle.setup_command.specs.AddingRuns.{RunsAdding, IsExactAdding};
 ghost use Rattle.setup_command.specs.Running.{IsExactJournal, HasStatusCause};
 ghost use Rattle.setup_command.specs.Statuses.{status_of};
-ghost use Rattle.setup_command.specs.WordForms.{IsAccount, IsDomain, IsHelp};
+ghost use Rattle.setup_command.specs.WordForms.{IsAccountCommand, IsDomainCommand, IsHelpCommand};
 ghost use Rattle.mail_command.specs.Protocols.{protocol_for};
 ghost use Rattle.mail_command.specs.Words.{Names, IsNoCommand, IsDowngrade, IsSession, OpensJournal};
 ghost use Rattle.mail_command.specs.Running.{RefusesWords, RunsDowngrade, RunsSession, GivesHelp};
@@ -99,16 +99,16 @@ fn work<W: Wire, J: Keeper, C: Clock>(
     ensures downgrade { IsDowngrade words.now → RunsDowngrade (W.tells wire.old) (W.tells wire.new) (status_of result) }
     ensures session { (role : RoleValue) → IsSession words.now role → OfCourse (protocol_for role) (C.tells clock.old) (λ course. RunsSession course LIMITS
         (J.tells keeper.old).octets (J.tells keeper.new).octets (W.tells wire.old) (W.tells wire.new) (status_of result)) }
-    ensures account { (address : AddressValue) (password : List ℕ) → IsAccount words.now address password → WithPaths (λ path_of.
+    ensures account { (address : AddressValue) (password : List ℕ) → IsAccountCommand words.now address password → WithPaths (λ path_of.
         RunsAdding (λ kept. account_refusal path_of kept address) (records.Account (address_text address) password)
         (J.tells keeper.old).octets (J.tells keeper.new).octets (W.tells wire.old) (W.tells wire.new) (status_of result)) }
-    ensures account_exact { (address : AddressValue) (password : List ℕ) → IsAccount words.now address password → WithPaths (λ path_of.
+    ensures account_exact { (address : AddressValue) (password : List ℕ) → IsAccountCommand words.now address password → WithPaths (λ path_of.
         IfSome (J.tells keeper.old).octets (λ octets. IsExactAdding (λ kept. account_refusal path_of kept address) octets (status_of result))) }
-    ensures domain { (name : List ℕ) → IsDomain words.now name → RunsAdding (λ kept. domain_refusal kept name) (records.Domain (compared_form name))
+    ensures domain { (name : List ℕ) → IsDomainCommand words.now name → RunsAdding (λ kept. domain_refusal kept name) (records.Domain (compared_form name))
         (J.tells keeper.old).octets (J.tells keeper.new).octets (W.tells wire.old) (W.tells wire.new) (status_of result) }
-    ensures domain_exact { (name : List ℕ) → IsDomain words.now name
+    ensures domain_exact { (name : List ℕ) → IsDomainCommand words.now name
         → IfSome (J.tells keeper.old).octets (λ octets. IsExactAdding (λ kept. domain_refusal kept name) octets (status_of result)) }
-    ensures help { IsHelp words.now → GivesHelp (W.tells wire.old) (W.tells wire.new) (status_of result) }
+    ensures help { IsHelpCommand words.now → GivesHelp (W.tells wire.old) (W.tells wire.new) (status_of result) }
     ensures journal { OpensJournal words.now → IfSome (J.tells keeper.old).octets (λ octets. IsExactJournal octets (status_of result)) }
     ensures untouched { ¬ OpensJournal words.now → J.tells keeper.new ≡ J.tells keeper.old }
     ensures cause { HasStatusCause (W.tells wire.old) (W.tells wire.new) (J.tells keeper.old) (J.tells keeper.new) (status_of result) }
@@ -144,16 +144,16 @@ pub fn run<W: Wire, J: Keeper, C: Clock>(
     ensures downgrade { IsDowngrade words.now → RunsDowngrade (W.tells wire.old) (W.tells wire.new) result }
     ensures session { (role : RoleValue) → IsSession words.now role → OfCourse (protocol_for role) (C.tells clock.old) (λ course. RunsSession course LIMITS
         (J.tells keeper.old).octets (J.tells keeper.new).octets (W.tells wire.old) (W.tells wire.new) result) }
-    ensures account { (address : AddressValue) (password : List ℕ) → IsAccount words.now address password → WithPaths (λ path_of.
+    ensures account { (address : AddressValue) (password : List ℕ) → IsAccountCommand words.now address password → WithPaths (λ path_of.
         RunsAdding (λ kept. account_refusal path_of kept address) (records.Account (address_text address) password)
         (J.tells keeper.old).octets (J.tells keeper.new).octets (W.tells wire.old) (W.tells wire.new) result) }
-    ensures account_exact { (address : AddressValue) (password : List ℕ) → IsAccount words.now address password → WithPaths (λ path_of.
+    ensures account_exact { (address : AddressValue) (password : List ℕ) → IsAccountCommand words.now address password → WithPaths (λ path_of.
         IfSome (J.tells keeper.old).octets (λ octets. IsExactAdding (λ kept. account_refusal path_of kept address) octets result)) }
-    ensures domain { (name : List ℕ) → IsDomain words.now name → RunsAdding (λ kept. domain_refusal kept name) (records.Domain (compared_form name))
+    ensures domain { (name : List ℕ) → IsDomainCommand words.now name → RunsAdding (λ kept. domain_refusal kept name) (records.Domain (compared_form name))
         (J.tells keeper.old).octets (J.tells keeper.new).octets (W.tells wire.old) (W.tells wire.new) result }
-    ensures domain_exact { (name : List ℕ) → IsDomain words.now name
+    ensures domain_exact { (name : List ℕ) → IsDomainCommand words.now name
         → IfSome (J.tells keeper.old).octets (λ octets. IsExactAdding (λ kept. domain_refusal kept name) octets result) }
-    ensures help { IsHelp words.now → GivesHelp (W.tells wire.old) (W.tells wire.new) result }
+    ensures help { IsHelpCommand words.now → GivesHelp (W.tells wire.old) (W.tells wire.new) result }
     // A bad journal is told.
     ensures journal { OpensJournal words.now → IfSome (J.tells keeper.old).octets (λ octets. IsExactJournal octets result) }
     // Other words leave the journal.

@@ -4,7 +4,7 @@ ghost use Rattle.mail_wire.specs.Moves.{HasWireCause};
 ghost use Rattle.surrogate_rope.specs.Ropes.{IsRopeOf, octets_of};
 ghost use Rattle.mail_command.specs.Outcome.{DowngradeOutcome, refusal_line, fault_line};
 ghost use Rattle.setup_command.specs.Running.{IsBrokenOff};
-ghost use Rattle.mail_command.specs.Running.{Answers, BreaksOff};
+ghost use Rattle.mail_command.specs.Running.{AnswersAll, BreaksOff};
 
 use crate::lines::{Reply, refusal_line};
 use crate::taking::take_up_to;
@@ -75,7 +75,7 @@ pub fn downgrade(alloc: Global, octets: Octets) -> Result<Reply, Memory>
 
 /// Takes one message, and gives its surrogate or why there is none.
 pub fn run_downgrade<W: Wire>(alloc: Global, wire: &mut W) -> Result<u8, Fault>
-    ensures answers { IfOk result (Answers (W.tells wire.old) (W.tells wire.new)) }
+    ensures answers { IfOk result (AnswersAll (W.tells wire.old) (W.tells wire.new)) }
     ensures fine { IfOk result (λ status. ¬ IsBrokenOff status) }
     ensures broken_off { OnErr result (BreaksOff (W.tells wire.old) (W.tells wire.new)) }
     ensures cause { HasWireCause (W.tells wire.old) (W.tells wire.new) result Fault.Wire }

@@ -9,7 +9,7 @@ use Rattle.journal_records.specs.declared.records.Record.{Record}
 use Rattle.mail_store.specs.declared.changing.StoreFault.{StoreFault}
 use Rattle.mail_store.specs.declared.changing.StoreFault.TheVariants as faults
 use Rattle.mail_store.specs.Changing.{Writes, Changes, IsRefusedAs, are_too_many}
-use Rattle.mail_store.specs.Kept.{Kept, after, after_all}
+use Rattle.mail_store.specs.Kept.{Kept, after_record, after_all}
 use Rattle.mail_store.specs.Records.{AreRecords}
 use Rattle.journal_records.specs.Spelling.{record_text}
 use Rattle.mail_store.specs.StoreState.{StoreState, with_records}
@@ -26,13 +26,13 @@ pub and_both : (a b : Bool) → a ≡ true → b ≡ true → (a && b) ≡ true
 and_both true b e f = f
 and_both false b e f = absurd cc
 
-pub after_all-push : (kept : Kept) (all : List Record) (one : Record) → after_all kept (all ++ one ∷ []) ≡ after (after_all kept all) one
+pub after_all-push : (kept : Kept) (all : List Record) (one : Record) → after_all kept (all ++ one ∷ []) ≡ after_record (after_all kept all) one
 after_all-push kept [] one = refl
-after_all-push kept (x ∷ all) one = after_all-push (after kept x) all one
+after_all-push kept (x ∷ all) one = after_all-push (after_record kept x) all one
 
 pub after_all-append : (kept : Kept) (all more : List Record) → after_all kept (all ++ more) ≡ after_all (after_all kept all) more
 after_all-append kept [] more = refl
-after_all-append kept (x ∷ all) more = after_all-append (after kept x) all more
+after_all-append kept (x ∷ all) more = after_all-append (after_record kept x) all more
 
 -- a place where something stands
 pub slice_get_within : {T : Type 0} (xs : List T) (i : ℕ) → slice_get xs i ≢ None → i < length xs

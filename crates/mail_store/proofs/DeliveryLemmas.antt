@@ -14,12 +14,12 @@ use Rattle.address_grammar.proofs.WritingLemmas.{path_again}
 use Rattle.mail_store.specs.declared.kept.Message.{Message}
 use Rattle.journal_records.specs.declared.records.Record.{Record}
 use Rattle.journal_records.specs.declared.records.Record.TheVariants as records
-use Rattle.journal_records.specs.Addresses.{IsSendable, path_text, IsAddress}
-use Rattle.journal_records.specs.Spelling.{IsWritable, record_text, octet_list, HasLength, number}
+use Rattle.journal_records.specs.Addresses.{IsSendable, path_text, IsKeptAddress}
+use Rattle.journal_records.specs.Spelling.{IsWritableRecord, record_text, octet_list, HasLength, number}
 use Rattle.mail_store.specs.Changing.{IsDeliverable, delivered, queued, copy_for, inboxes_of, has_large_octets, has_many_things, are_too_many, delivery_refusal}
 use Rattle.mail_store.specs.declared.changing.StoreFault.TheVariants as faults
 use Rattle.mail_store.specs.private.Delivering.{copied, IsFrontOf, HasShortCopies, fronts_text, delivery_text}
-use Rattle.mail_store.specs.Kept.{Kept, after, after_all, inbox_of}
+use Rattle.mail_store.specs.Kept.{Kept, after_record, after_all, inbox_of}
 use Rattle.journal_records.specs.Grammar.{IsDate}
 use Rattle.mail_store.specs.Records.{AreRecords, recipient_count}
 use Rattle.journal_records.specs.Stored.{IsStored}
@@ -61,14 +61,14 @@ copies-text-step date octets kept accounts i account folder fronts front within 
 
 pub AreRecords-append : (kept : Kept) (all more : List Record) → AreRecords kept all → AreRecords (after_all kept all) more → AreRecords kept (all ++ more)
 AreRecords-append kept [] more a b = b
-AreRecords-append kept (x ∷ all) more a b = (a.0, AreRecords-append (after kept x) all more a.1 b)
+AreRecords-append kept (x ∷ all) more a b = (a.0, AreRecords-append (after_record kept x) all more a.1 b)
 
 -- copies are put behind the messages
 pub after-copies : (kept : Kept) (date octets folders : List ℕ) → after_all kept (map (copy_for date octets) folders)
     ≡ (let new : Kept = record kept { messages = kept.messages ++ map (copied date octets) folders } in new)
 after-copies kept date octets [] = ap (λ ms. let new : Kept = record kept { messages = ms } in new) (sym (append-nil kept.messages))
 after-copies kept date octets (folder ∷ folders) =
-    after-copies (after kept (copy_for date octets folder)) date octets folders
+    after-copies (after_record kept (copy_for date octets folder)) date octets folders
     ∙ ap (λ ms. let new : Kept = record kept { messages = ms } in new) (append_assoc kept.messages (copied date octets folder ∷ []) (map (copied date octets) folders))
 
 pub AreRecords-copies : (kept : Kept) (date octets folders : List ℕ) → IsDate date → IsStored octets → length octets + 40 ≤ RECORD_MAX
@@ -85,7 +85,7 @@ AreRecords-copies kept date octets (folder ∷ folders) dated stored small known
         short = omega (arith, len, small, dated.len);
         in_order = (there, omega arith, dated, stored, omega (arith, room));
       },
-      AreRecords-copies (after kept (copy_for date octets folder)) date octets folders dated stored small (All-tail (λ x. x < length kept.folders) folder folders known) few
+      AreRecords-copies (after_record kept (copy_for date octets folder)) date octets folders dated stored small (All-tail (λ x. x < length kept.folders) folder folders known) few
           (omega (arith, room, count)),
     )
 
@@ -141,7 +141,7 @@ path-short None sendable = omega arith
 path-short (Some address) sendable = sendable.1
 
 pub queue-writable : (path : Option Address) (remote : List Address) (octets : List ℕ) → IfSome path IsSendable → All IsSendable remote → length remote ≤ RECIPIENTS_MAX
-    → length octets ≤ 33554432 → IsWritable (records.Queue (path_text path) (map address_text remote) octets)
+    → length octets ≤ 33554432 → IsWritableRecord (records.Queue (path_text path) (map address_text remote) octets)
 queue-writable path remote octets from to few small =
     let texts = map address_text remote in
     let count = length-map remote address_text in
@@ -161,10 +161,10 @@ local-small max delivery small some = ltb-false max (length delivery.local_octet
 remote-small : (max : ℕ) (delivery : Delivery) → has_large_octets max delivery ≡ false → eqb (length delivery.remote) 0 ≡ false → length delivery.remote_octets ≤ max
 remote-small max delivery small some = ltb-false max (length delivery.remote_octets) (where_some _ _ (or_parts _ _ small).1 some)
 
-address-again : (address : Address) → IsSendable address → IsAddress (address_text address)
+address-again : (address : Address) → IsSendable address → IsKeptAddress (address_text address)
 address-again address sendable = ((address, path_again address sendable.0), sendable.1)
 
-path-again : (path : Option Address) → IfSome path IsSendable → (path_text path ≡ []) ⊎ IsAddress (path_text path)
+path-again : (path : Option Address) → IfSome path IsSendable → (path_text path ≡ []) ⊎ IsKeptAddress (path_text path)
 path-again None sendable = inl refl
 path-again (Some address) sendable = inr (address-again address sendable)
 
@@ -204,7 +204,7 @@ queue-is kept store delivery same d bound small many =
               short = writable.1;
               in_order = (
                 path-again delivery.path d.path,
-                All-map IsAddress address_text delivery.remote (λ k a l. address-again _ (d.addresses k a l)),
+                All-map IsKeptAddress address_text delivery.remote (λ k a l. address-again _ (d.addresses k a l)),
                 d.remote_tree,
                 omega (arith, rooms.0, ap length same),
                 omega (arith, rooms.1, count, ap recipient_count same),
@@ -231,7 +231,7 @@ one_is a b e = cc
 
 -- the waiting message's record, where there is one, can be written
 pub queued-writable : (store : StoreState) (delivery : Delivery) → IsDeliverable store delivery → store.message_max ≤ MESSAGE_MAX
-    → (has_large_octets store.message_max delivery || has_many_things store.kept delivery) ≡ false → AllByRecursion IsWritable (queued delivery)
+    → (has_large_octets store.message_max delivery || has_many_things store.kept delivery) ≡ false → AllByRecursion IsWritableRecord (queued delivery)
 queued-writable store delivery d bound small =
     elim (cases_Bool (eqb (length delivery.remote) 0)) [
       | inl none ↦ rw none tt
@@ -240,9 +240,9 @@ queued-writable store delivery d bound small =
           rw some (queue-writable delivery.path delivery.remote delivery.remote_octets d.path d.addresses d.few (omega (arith, octets, bound)), tt)
     ]
 
-pub writable-some : (waiting : Option Record) (all : List Record) → option_to_list waiting ≡ all → AllByRecursion IsWritable all → IfSome waiting IsWritable
+pub writable-some : (waiting : Option Record) (all : List Record) → option_to_list waiting ≡ all → AllByRecursion IsWritableRecord all → IfSome waiting IsWritableRecord
 writable-some None all is writable = tt
-writable-some (Some one) all is writable = (subst (AllByRecursion IsWritable) (sym is) writable).0
+writable-some (Some one) all is writable = (subst (AllByRecursion IsWritableRecord) (sym is) writable).0
 
 -- where there are copies, their records are within the limit
 pub copies-short : (store : StoreState) (delivery : Delivery) → IsDeliverable store delivery → store.message_max ≤ MESSAGE_MAX

@@ -10,7 +10,7 @@ use Rattle.mail_store.specs.declared.changing.StoreFault.TheVariants as faults
 use Rattle.mail_store.specs.declared.limits.TheConstants.{THINGS_MAX}
 use Rattle.journal_records.specs.declared.records.Record.TheVariants as records
 use Rattle.journal_records.specs.Addresses.{IsDomainText}
-use Rattle.journal_records.specs.Spelling.{IsWritable}
+use Rattle.journal_records.specs.Spelling.{IsWritableRecord}
 use Rattle.mail_store.specs.Changing.{are_too_many, domain_refusal}
 use Rattle.mail_store.specs.Kept.{Kept, is_local}
 use Rattle.mail_store.specs.private.Names.{first_name, PutsName}
@@ -31,7 +31,7 @@ form_text domain some = form_own domain (compared_form domain) (form_is domain (
 form_short : (domain : List ℕ) → normal_form domain ≢ None → length (compared_form domain) ≤ 253
 form_short domain some = (form_name domain (compared_form domain) (form_is domain (normal_form domain) refl some)).short
 
-pub writable-domain : (domain name : List ℕ) → normal_form domain ≢ None → name ≡ compared_form domain → IsWritable (records.Domain name)
+pub writable-domain : (domain name : List ℕ) → normal_form domain ≢ None → name ≡ compared_form domain → IsWritableRecord (records.Domain name)
 writable-domain domain name some is =
     let short : length name ≤ 253 = subst (λ l. length l ≤ 253) (sym is) (form_short domain some) in
     (omega (arith, short), omega (arith, short))

@@ -10,7 +10,7 @@ use Rattle.mail_store.specs.declared.kept.Message.{Message}
 use Rattle.mail_store.specs.declared.limits.TheConstants.{THINGS_MAX}
 use Rattle.journal_records.specs.declared.records.Record.TheVariants as records
 use Rattle.mail_store.specs.Changing.{is_live, expunged}
-use Rattle.mail_store.specs.Kept.{Kept, change_at, gone, after, after_all}
+use Rattle.mail_store.specs.Kept.{Kept, change_at, gone, after_record, after_all}
 use Rattle.mail_store.specs.Records.{IsLive, AreRecords}
 use Rattle.mail_store.specs.StoreState.{StoreState, with_record, with_records}
 use Rattle.mail_store.proofs.SameMessages.{length-change_at}
@@ -36,12 +36,12 @@ live_within kept id e = slice_get_within kept.messages id (λ none. (let dead : 
 
 -- the others live on when one goes
 others_live : (kept : Kept) (id : ℕ) (ids : List ℕ) → AllByRecursion (λ other. eqb id other ≡ false) ids → list_all (is_live kept) ids ≡ true
-    → list_all (is_live (after kept (records.Expunge id))) ids ≡ true
+    → list_all (is_live (after_record kept (records.Expunge id))) ids ≡ true
 others_live kept id [] apart live = refl
 others_live kept id (other ∷ ids) apart live =
     let differ : other ≢ id = λ e. eqb-false id other apart.0 (sym e) in
     let same = ap lives (slice_get-change_other gone kept.messages id other differ) in
-    and_both (is_live (after kept (records.Expunge id)) other) (list_all (is_live (after kept (records.Expunge id))) ids)
+    and_both (is_live (after_record kept (records.Expunge id)) other) (list_all (is_live (after_record kept (records.Expunge id))) ids)
     (same ∙ and_left (is_live kept other) (list_all (is_live kept) ids) live)
     (others_live kept id ids apart.1 (and_right (is_live kept other) (list_all (is_live kept) ids) live))
 
@@ -55,13 +55,13 @@ AreRecords-expunged kept (id ∷ ids) few distinct live =
     let within = live_within kept id first in
     let len = length-change_at gone kept.messages id in (
       record { fits = omega (arith, within, few); short = omega arith; in_order = live_of (slice_get kept.messages id) first },
-      AreRecords-expunged (after kept (records.Expunge id)) ids (omega (arith, len, few)) distinct.1
+      AreRecords-expunged (after_record kept (records.Expunge id)) ids (omega (arith, len, few)) distinct.1
           (others_live kept id ids distinct.0 (and_right (is_live kept id) (list_all (is_live kept) ids) live)),
     )
 
 pub length-expunged : (kept : Kept) (ids : List ℕ) → length (after_all kept (expunged ids)).messages ≡ length kept.messages
 length-expunged kept [] = refl
-length-expunged kept (id ∷ ids) = length-expunged (after kept (records.Expunge id)) ids ∙ length-change_at gone kept.messages id
+length-expunged kept (id ∷ ids) = length-expunged (after_record kept (records.Expunge id)) ids ∙ length-change_at gone kept.messages id
 
 expunged-push : (ids : List ℕ) (id : ℕ) → expunged (ids ++ id ∷ []) ≡ expunged ids ++ records.Expunge id ∷ []
 expunged-push [] id = refl

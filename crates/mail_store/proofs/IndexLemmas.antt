@@ -17,7 +17,7 @@ use Rattle.mail_store.specs.declared.kept.Folder.{Folder}
 use Rattle.mail_store.specs.declared.kept.Message.{Message}
 use Rattle.mail_store.specs.declared.kept.Account.{Account}
 use Rattle.mail_store.specs.declared.kept.Entry.{Entry}
-use Rattle.journal_records.specs.Addresses.{IsTextOf, IsDomainText, address_of, mailbox_key}
+use Rattle.journal_records.specs.Addresses.{IsTextOfAddress, IsDomainText, address_of, mailbox_key}
 use Rattle.mail_store.specs.private.Chains.{empty_content, AreChained}
 use Rattle.mail_store.specs.Kept.{Kept, first_folder, change_at, settled, without}
 use Rattle.mail_store.specs.private.Names.{kept_first, PutsName, first_name, has_key, first_mailbox}
@@ -155,7 +155,7 @@ reading_is text answer None none h = absurd (none answer h)
 reading_is text answer (Some found) is h = ap (λ (a : Option Address). let o : Option (Option Address) = Some a in o) (HasPath-once text found answer is h)
 
 -- what a function that reads paths gives for the text of an address
-pub address_is : (path_of : List ℕ → Option (Option Address)) → ReadsPaths path_of → (text : List ℕ) (own : Address) → IsTextOf text own → address_of path_of text ≡ Some own
+pub address_is : (path_of : List ℕ → Option (Option Address)) → ReadsPaths path_of → (text : List ℕ) (own : Address) → IsTextOfAddress text own → address_of path_of text ≡ Some own
 address_is path_of reads text own is = rw (reading_is (in_angles text) (Some own) (path_of (in_angles text)) (reads (in_angles text)) is) refl
 
 pub first_mailbox-push : (path_of : List ℕ → Option (Option Address)) (key : List ℕ) (at : ℕ) (accounts : List Account) (a : Account) (own : Address) → address_of path_of a.address ≡ Some own
@@ -188,7 +188,7 @@ inboxes_push accounts folders inboxes x count is its account =
           slice_get-push_other inboxes (length folders) account other ∙ is account ∙ sym (first_folder-push_other account 0 folders x (ne_eqb x.account account differ))
     ]
 
-pub AreIndexes-account : (kept : Kept) (i : Indexes) (after : List ℕ → Option ℕ) (a : Account) (own : Address) (name : List ℕ) → AreIndexes kept i → IsTextOf a.address own
+pub AreIndexes-account : (kept : Kept) (i : Indexes) (after : List ℕ → Option ℕ) (a : Account) (own : Address) (name : List ℕ) → AreIndexes kept i → IsTextOfAddress a.address own
     → length kept.accounts < THINGS_MAX → length kept.folders < THINGS_MAX → PutsName i.mailboxes after (mailbox_key own) (length kept.accounts)
     → AreIndexes (record kept { accounts = kept.accounts ++ a ∷ []; folders = kept.folders ++ record { account = length kept.accounts; name = name } ∷ [] })
     (record i { contents = i.contents ++ empty_content ∷ []; inboxes = i.inboxes ++ length kept.folders ∷ []; mailboxes = after })

@@ -9,7 +9,7 @@ use Rattle.std.proofs.lemmas.Bool.{cases_lt}
 use Rattle.mail_wire.specs.Keeping.{with_last}
 use Rattle.journal_records.specs.declared.records.Record.{Record}
 use Rattle.mail_store.specs.Changing.{IsStoreOf, Changes, HoldsFirst}
-use Rattle.mail_store.specs.Kept.{Kept, nothing, after, after_all, store_of}
+use Rattle.mail_store.specs.Kept.{Kept, nothing, after_record, after_all, store_of}
 use Rattle.journal_records.specs.Frames.{IsCutShort}
 use Rattle.mail_store.specs.Records.{IsRecord, AreRecords}
 use Rattle.journal_records.specs.Spelling.{number, fields_of, record_text, journal, first_octets}
@@ -62,7 +62,7 @@ first_octets_of kept n (x ∷ more) p =
         cut_short = subst IsCutShort (ap (take n) (sym whole)) (cut_one kept x (flat_map record_text more) n p.0 less);
       }
       | inr enough ↦
-          let f = first_octets_of (after kept x) (n - length (record_text x)) more p.1 in
+          let f = first_octets_of (after_record kept x) (n - length (record_text x)) more p.1 in
           record {
             count = suc f.count;
             rest = f.rest;

@@ -11,7 +11,7 @@ use Rattle.address_grammar.specs.declared.Address.{Address}
 use Rattle.address_grammar.specs.Paths.{ComesInPath, HasPath, IsReading, ReadsPaths, in_angles}
 use Rattle.address_lists.proofs.PathPiecesLemmas.{paths_read}
 use Rattle.address_grammar.proofs.PathLemmas.{HasPath-once}
-use Rattle.journal_records.specs.Addresses.{IsTextOf, IsDomainText, is_same_domain, is_same_mailbox, address_of, WithPaths, mailbox_key}
+use Rattle.journal_records.specs.Addresses.{IsTextOfAddress, IsDomainText, is_same_domain, is_same_mailbox, address_of, WithPaths, mailbox_key}
 use Rattle.journal_records.proofs.KeyLemmas.{domain_text_utf8, key_decides}
 use Rattle.mail_store.specs.declared.kept.Account.{Account}
 use Rattle.mail_store.specs.Kept.{Kept, is_account_of, first_account, find_account, is_local, has_password, admitted, logged_in}
@@ -114,14 +114,14 @@ reads_address : (text : List ℕ) (answer : Option (Option Address)) → IsReadi
 reads_address text None reads address has = absurd (reads (Some address) has)
 reads_address text (Some answer) reads address has = HasPath-once text answer (Some address) reads has
 
-admits : (kept : Kept) (name password : List ℕ) (address : Address) (found : Option ℕ) → IsTextOf name address
+admits : (kept : Kept) (name password : List ℕ) (address : Address) (found : Option ℕ) → IsTextOfAddress name address
     → WithPaths (λ path_of. found ≡ find_account path_of kept address) → WithPaths (λ path_of. admitted kept found password ≡ logged_in path_of kept name password)
 admits kept name password address found has is = λ path_of reads.
     let own : address_of path_of name ≡ Some address = reads_address (in_angles name) (path_of (in_angles name)) (reads (in_angles name)) address has in
     ap (λ (o : Option ℕ). admitted kept o password) (is path_of reads ∙ ap (λ (o : Option Address). option_and_then (find_account path_of kept) o) (sym own))
 
 -- an account that was found is logged in where the password is its own
-pub login_some : (kept : Kept) (name password : List ℕ) (address : Address) (found : Option ℕ) (account : ℕ) (own : Bool) → IsTextOf name address
+pub login_some : (kept : Kept) (name password : List ℕ) (address : Address) (found : Option ℕ) (account : ℕ) (own : Bool) → IsTextOfAddress name address
     → WithPaths (λ path_of. found ≡ find_account path_of kept address) → found ≡ Some account → own ≡ has_password (slice_get kept.accounts account) password
     → WithPaths (λ path_of. cond own (Some account) None ≡ logged_in path_of kept name password)
 login_some kept name password address found account own has is some e = λ path_of reads.
@@ -129,7 +129,7 @@ login_some kept name password address found account own has is some e = λ path_
     given ∙ ap (λ (o : Option ℕ). admitted kept o password) (sym some) ∙ admits kept name password address found has is path_of reads
 
 -- and nobody where none was found
-pub login_none : (kept : Kept) (name password : List ℕ) (address : Address) (found : Option ℕ) → IsTextOf name address
+pub login_none : (kept : Kept) (name password : List ℕ) (address : Address) (found : Option ℕ) → IsTextOfAddress name address
     → WithPaths (λ path_of. found ≡ find_account path_of kept address) → found ≡ None → WithPaths (λ path_of. None ≡ logged_in path_of kept name password)
 login_none kept name password address found has is none = λ path_of reads.
     ap (λ (o : Option ℕ). admitted kept o password) (sym none) ∙ admits kept name password address found has is path_of reads

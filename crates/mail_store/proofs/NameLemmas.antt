@@ -11,7 +11,7 @@ use Rattle.std.specs.Map.{lookup, IsKeyTest, AreApart, KeepsOthers}
 use Rattle.std.proofs.lemmas.Bool.{cases_Bool}
 use Rattle.std.proofs.lemmas.Map.Text.{is_eq-slice_cmp}
 use Rattle.std.proofs.lemmas.Slice.Eq.{bytes_eq-Decides}
-use Rattle.mail_store.specs.private.Names.{number_of, kept_first}
+use Rattle.mail_store.specs.private.Names.{number_named, kept_first}
 
 apart : (key name other : List ℕ) → bytes_eq key name ≡ false → is_eq (slice_cmp nat_cmp key other) ≡ true → is_eq (slice_cmp nat_cmp name other) ≡ false
 apart key name other n y =
@@ -34,30 +34,30 @@ kept_other (Some m) key name n e = refl
 -- what was put at a key, or taken away there, leaves the other names
 pub keeps_others : (old new : BTreeMap (Vec ℕ) ℕ) (key : List ℕ) (there : Option ℕ)
     → UpdatesBy (λ x y. slice_cmp nat_cmp x.items y.items) (λ k. slice_cmp nat_cmp key k.items) old new there
-    → (name : List ℕ) → bytes_eq key name ≡ false → number_of new name ≡ number_of old name
+    → (name : List ℕ) → bytes_eq key name ≡ false → number_named new name ≡ number_named old name
 keeps_others old new key there h name other =
     other_entries _ _ _ _ h.3 _ (λ x y. (eq_by_cmp_equiv nat_list_cmp_total).congr name x.items y.items) (λ k. apart key name k.items other)
 
 -- a number put at a key that had none
-pub puts_first : (old new : BTreeMap (Vec ℕ) ℕ) (key : List ℕ) (n : ℕ) → is_some (number_of old key) ≡ false
+pub puts_first : (old new : BTreeMap (Vec ℕ) ℕ) (key : List ℕ) (n : ℕ) → is_some (number_named old key) ≡ false
     → UpdatesBy (λ x y. slice_cmp nat_cmp x.items y.items) (λ k. slice_cmp nat_cmp key k.items) old new (Some n)
-    → (name : List ℕ) → number_of new name ≡ kept_first (number_of old name) key name n
+    → (name : List ℕ) → number_named new name ≡ kept_first (number_named old name) key name n
 puts_first old new key n none h name =
     elim (cases_Bool (bytes_eq key name)) [
       | inl same ↦
           let is : key ≡ name = (bytes_eq-Decides key name).0 same in
-          let gone : number_of old name ≡ None = ap (number_of old) (sym is) ∙ none_of _ none in
-          let here : number_of new name ≡ Some n = ap (number_of new) (sym is) ∙ h.1 in
+          let gone : number_named old name ≡ None = ap (number_named old) (sym is) ∙ none_of _ none in
+          let here : number_named new name ≡ Some n = ap (number_named new) (sym is) ∙ h.1 in
           rw (gone, same) here
       | inr other ↦
-          let kept : number_of new name ≡ number_of old name = keeps_others old new key (Some n) h name other in
-          kept ∙ kept_other (number_of old name) key name n other
+          let kept : number_named new name ≡ number_named old name = keeps_others old new key (Some n) h name other in
+          kept ∙ kept_other (number_named old name) key name n other
     ]
 
 -- a number taken away from a key
 pub takes_others : (old new : BTreeMap (Vec ℕ) ℕ) (key : List ℕ)
     → UpdatesBy (λ x y. slice_cmp nat_cmp x.items y.items) (λ k. slice_cmp nat_cmp key k.items) old new None
-    → (name : List ℕ) → ¬ (name ≡ key) → number_of new name ≡ number_of old name
+    → (name : List ℕ) → ¬ (name ≡ key) → number_named new name ≡ number_named old name
 takes_others old new key h name differs =
     elim (cases_Bool (bytes_eq key name)) [
       | inl same ↦ absurd (differs (sym ((bytes_eq-Decides key name).0 same)))

@@ -6,7 +6,7 @@ use Rattle.std.proofs.lemmas.Bool.{cases_lt, ltb-false}
 use Rattle.std.proofs.lemmas.Option.{slice_get-get_or, slice_get_past}
 use Rattle.mail_wire.specs.declared.values.Memory.{Memory}
 use Rattle.journal_records.specs.declared.records.Record.TheVariants as records
-use Rattle.journal_records.specs.Addresses.{IsAddress}
+use Rattle.journal_records.specs.Addresses.{IsKeptAddress}
 use Rattle.journal_records.specs.Stored.{IsStored}
 use Rattle.mail_store.specs.declared.limits.TheConstants.{THINGS_MAX}
 use Rattle.mail_store.specs.declared.kept.Recipient.{Recipient}
@@ -45,7 +45,7 @@ few_enough b count more is e = ltb-false THINGS_MAX (count + more) (sym is ∙ e
 
 -- ---- the record of a message that waits
 
-pub waits : (result : Result Bool Memory) (kept : Kept) (path : List ℕ) (addresses : List (List ℕ)) (octets : List ℕ) → (path ≡ []) ⊎ IsAddress path → All IsAddress addresses
+pub waits : (result : Result Bool Memory) (kept : Kept) (path : List ℕ) (addresses : List (List ℕ)) (octets : List ℕ) → (path ≡ []) ⊎ IsKeptAddress path → All IsKeptAddress addresses
     → length kept.entries < THINGS_MAX → recipient_count kept.entries + length addresses ≤ THINGS_MAX → IfOk result (λ is. IsTrue is ↔ IsStored octets)
     → IfOk result (λ can. IsTrue can ↔ IsInOrder kept (records.Queue path addresses octets))
 waits (Ok is) kept path addresses octets is_path are room few stored = (λ t. (is_path, are, stored.0 t, room, few), λ h. stored.1 h.2)

@@ -3,11 +3,11 @@ use Rattle.std.proofs.Common.{◌≡◌, ℕ, List, [], ◌∷◌, ◌++◌, len
 use Rattle.std.specs.List.{flat_map}
 use Rattle.std.proofs.lemmas.List.Concat.{flat_map-cons}
 use Rattle.journal_records.specs.declared.records.Record.{Record}
-use Rattle.mail_store.specs.Kept.{Kept, nothing, after, after_all, store_of}
+use Rattle.mail_store.specs.Kept.{Kept, nothing, after_record, after_all, store_of}
 use Rattle.mail_store.specs.Records.{AreRecords}
 use Rattle.journal_records.specs.Spelling.{fields_of, record_text, journal, first_octets}
 use Rattle.journal_records.specs.Frames.{IsCutShort, IsBeginning}
-use Rattle.mail_store.specs.Opening.{BeginsWith, HasRecords, HasNoRecord, IsBadAt}
+use Rattle.mail_store.specs.Opening.{BeginsJournal, HasRecords, HasNoRecord, IsBadAt}
 use Rattle.journal_records.proofs.FrameLemmas.{list_no_prefix}
 use Rattle.journal_records.proofs.RecordLaws.{record_once}
 
@@ -29,8 +29,8 @@ two_readings kept [] b r s p q e = inl (record { more = b; is = refl; records = 
 two_readings kept (x ∷ a) [] r s p q e = inr (record { more = x ∷ a; is = refl; records = p; rest = sym e })
 two_readings kept (x ∷ a) (y ∷ b) r s p q e =
     let one = record_once x y (flat_map record_text a ++ r) (flat_map record_text b ++ s) (p.0.fits, p.0.short) (q.0.fits, q.0.short) (sym (first_of x a r) ∙ e ∙ first_of y b s) in
-    let later = subst (λ (z : Record). AreRecords (after kept z) b) (sym one.0) q.1 in
-    elim (two_readings (after kept x) a b r s p.1 later one.1) [
+    let later = subst (λ (z : Record). AreRecords (after_record kept z) b) (sym one.0) q.1 in
+    elim (two_readings (after_record kept x) a b r s p.1 later one.1) [
       | inl f ↦ inl (record {
         more = f.more;
         is = ap (λ (l : List Record). y ∷ l) f.is ∙ ap (λ (z : Record). z ∷ (a ++ f.more)) (sym one.0);
@@ -40,7 +40,7 @@ two_readings kept (x ∷ a) (y ∷ b) r s p q e =
       | inr f ↦ inr (record {
         more = f.more;
         is = ap (λ (l : List Record). x ∷ l) f.is ∙ ap (λ (z : Record). z ∷ (b ++ f.more)) one.0;
-        records = subst (λ (z : Record). AreRecords (after_all (after kept z) b) f.more) one.0 f.records;
+        records = subst (λ (z : Record). AreRecords (after_all (after_record kept z) b) f.more) one.0 f.records;
         rest = f.rest;
       })
     ]
@@ -69,11 +69,11 @@ cut_has_none kept octets cut one rest is text = list_no_prefix (fields_of one) r
 -- ---- the laws
 
 -- a journal isn't shorter than its beginning
-long : (octets rest : List ℕ) (all : List Record) → BeginsWith octets all rest → IsBeginning octets → ⊥
+long : (octets rest : List ℕ) (all : List Record) → BeginsJournal octets all rest → IsBeginning octets → ⊥
 long octets rest all w b = omega (arith, b.shorter, ap length w.text, length-append (journal all) rest, length-append first_octets (flat_map record_text all))
 
 -- a journal has the first octets
-no_first : (octets rest : List ℕ) (all : List Record) → BeginsWith octets all rest → ((behind : List ℕ) → octets ≡ first_octets ++ behind → ⊥) → ⊥
+no_first : (octets rest : List ℕ) (all : List Record) → BeginsJournal octets all rest → ((behind : List ℕ) → octets ≡ first_octets ++ behind → ⊥) → ⊥
 no_first octets rest all w none = none (flat_map record_text all ++ rest) (w.text ∙ append_assoc first_octets (flat_map record_text all) rest)
 
 -- octets have their records in one way

@@ -10,15 +10,15 @@ use Rattle.journal_records.specs.declared.limits.TheConstants.{RECORD_MAX}
 use Rattle.mail_store.specs.declared.opening.OpenFault.{OpenFault}
 use Rattle.mail_store.specs.declared.opening.OpenFault.TheVariants as faults
 use Rattle.journal_records.specs.declared.records.Record.{Record}
-use Rattle.mail_store.specs.Kept.{Kept, nothing, after, after_all, store_of}
+use Rattle.mail_store.specs.Kept.{Kept, nothing, after_record, after_all, store_of}
 use Rattle.mail_store.specs.Records.{IsRecord, AreRecords}
 use Rattle.journal_records.specs.Spelling.{octet_list, fields_of, record_text, journal, first_octets}
 use Rattle.mail_store.specs.StoreState.{StoreState}
 use Rattle.journal_records.specs.Frames.{IsCutShort, IsWhole, IsNoFrame}
-use Rattle.mail_store.specs.Opening.{BeginsWith, HasRecords}
+use Rattle.mail_store.specs.Opening.{BeginsJournal, HasRecords}
 use Rattle.mail_store.specs.private.Adding.{Added, NotAdded}
 use Rattle.mail_store.specs.Answers.{LeavesRecords}
-use Rattle.mail_store.specs.private.Replaying.{IsFieldsFault, Stays, IsSoFar, EndsAt, IsReadingFault, IsHalfRepaired, HalfRepairs, fields_at}
+use Rattle.mail_store.specs.private.Replaying.{IsFieldsFault, KeeperStays, IsSoFar, EndsJournalAt, IsReadingFault, IsHalfRepaired, HalfRepairs, fields_at}
 use Rattle.mail_store.proofs.ChangeLemmas.{after_all-push}
 use Rattle.journal_records.proofs.FrameLemmas.{list_once, list_no_prefix}
 use Rattle.journal_records.proofs.RecordLaws.{some_fields}
@@ -27,7 +27,7 @@ use Rattle.journal_records.proofs.RecordLaws.{some_fields}
 
 AreRecords-push : (kept : Kept) (all : List Record) (one : Record) → AreRecords kept all → IsRecord (after_all kept all) one → AreRecords kept (all ++ one ∷ [])
 AreRecords-push kept [] one h is = (is, tt)
-AreRecords-push kept (x ∷ all) one h is = (h.0, AreRecords-push (after kept x) all one h.1 is)
+AreRecords-push kept (x ∷ all) one h is = (h.0, AreRecords-push (after_record kept x) all one h.1 is)
 
 flat_map-push : (all : List Record) (one : Record) → flat_map record_text (all ++ one ∷ []) ≡ flat_map record_text all ++ record_text one
 flat_map-push [] one = flat_map-cons record_text one [] ∙ append-nil (record_text one)
@@ -55,7 +55,7 @@ IsSoFar-next told at n first old new fields s w a len f =
     record {
       all = s.all ++ a.one ∷ [];
       records = AreRecords-push nothing s.all a.one s.records (subst (λ (k : Kept). IsRecord k a.one) s.kept_is a.is_record);
-      kept_is = ap (λ (x : StoreState). x.kept) a.new_is ∙ ap (λ (k : Kept). after k a.one) s.kept_is ∙ sym (after_all-push nothing s.all a.one);
+      kept_is = ap (λ (x : StoreState). x.kept) a.new_is ∙ ap (λ (k : Kept). after_record k a.one) s.kept_is ∙ sym (after_all-push nothing s.all a.one);
       at_is = omega (arith, s.at_is, ap length pushed, length-append (journal s.all) (octet_list fields), len);
       text = texts told s.text w f pushed;
       message_max = ap (λ (x : StoreState). x.message_max) a.new_is ∙ s.message_max;
@@ -69,7 +69,7 @@ IsSoFar-next told at n first old new fields s w a len f =
 
 bad_frame : (octets : List ℕ) (at : ℕ) (first store : StoreState) → IsSoFar (Some octets) at first store → IsNoFrame (drop at octets) → IsReadingFault octets (faults.BadJournal at)
 bad_frame octets at first store s none =
-    let whole : BeginsWith octets s.all (drop at octets) = record { text = s.text; records = s.records } in
+    let whole : BeginsJournal octets s.all (drop at octets) = record { text = s.text; records = s.records } in
     let no_record = λ (one : Record) (rest : List ℕ) (is : IsRecord (store_of s.all) one) (e : drop at octets ≡ record_text one ++ rest). none.no_list (fields_of one) rest (some_fields one) is.short e in
     inr (s.all, drop at octets, s.at_is, record { whole = whole; no_prefix = none.no_prefix; no_record = no_record })
 
@@ -86,7 +86,7 @@ bad_fields octets at n first store s w a =
     let its : fields_at octets at n ≡ fields = sym (ap (take n) (drop-drop 4 at octets)) in
     let short : length fields ≤ RECORD_MAX = omega (arith, w.short, length-take n (drop 4 rest)) in
     let none : NotAdded store fields = subst (NotAdded store) its a in
-    let whole : BeginsWith octets s.all rest = record { text = s.text; records = s.records } in
+    let whole : BeginsJournal octets s.all rest = record { text = s.text; records = s.records } in
     let no_record = λ (one : Record) (after_it : List ℕ) (is : IsRecord (store_of s.all) one) (e : rest ≡ record_text one ++ after_it).
     none one (subst (λ (k : Kept). IsRecord k one) (sym s.kept_is) is) (list_once fields (fields_of one) behind after_it (omega (arith, short)) (omega (arith, is.short)) (sym w.text ∙ e)).0 in
     inr (s.all, rest, s.at_is, record { whole = whole; no_prefix = λ cut. list_no_prefix fields behind short (subst IsCutShort w.text cut); no_record = no_record })
@@ -113,19 +113,19 @@ begun_journal octets n e =
       | inr more ↦ subst (λ (l : List ℕ). HasRecords l []) (sym (e ∙ take_all n first_octets (omega (arith, more)))) (whole_journal [] tt)
     ]
 
-half_left : (old : List ℕ) (end : ℕ) (kept : Kept) (new : List ℕ) → EndsAt old end kept → IsHalfRepaired end old new → (new ≡ old) ⊎ ((all : List Record) × HasRecords old all × HasRecords new all)
+half_left : (old : List ℕ) (end : ℕ) (kept : Kept) (new : List ℕ) → EndsJournalAt old end kept → IsHalfRepaired end old new → (new ≡ old) ⊎ ((all : List Record) × HasRecords old all × HasRecords new all)
 half_left old end kept new e (inl same) = inl same
 half_left old end kept new e (inr (inl cut)) = inr (e.all, e.had, subst (λ (l : List ℕ). HasRecords l e.all) (sym cut) e.left)
 half_left old end kept new e (inr (inr (zero_end, n, begun))) =
     let none = e.begun zero_end in
     inr (e.all, e.had, subst (HasRecords new) (sym none) (begun_journal new n begun))
 
-pub leaves_half : (told new : Option (List ℕ)) (end : ℕ) (kept : Kept) → IfSome told (λ octets. EndsAt octets end kept) → HalfRepairs end told new → LeavesRecords told new
+pub leaves_half : (told new : Option (List ℕ)) (end : ℕ) (kept : Kept) → IfSome told (λ octets. EndsJournalAt octets end kept) → HalfRepairs end told new → LeavesRecords told new
 leaves_half None new end kept e h = h
 leaves_half (Some old) None end kept e h = absurd h
 leaves_half (Some old) (Some new) end kept e h = half_left old end kept new e h
 
 -- ---- calls of the keeper, one after the other
 
-pub Stays-then : (before between now : KeeperTelling) → Stays before between → Stays between now → Stays before now
+pub Stays-then : (before between now : KeeperTelling) → KeeperStays before between → KeeperStays between now → KeeperStays before now
 Stays-then before between now a b = record { same = b.same ∙ a.same; later = omega (arith, a.later, b.later); sure = λ h. b.sure (a.sure h) }

@@ -8,7 +8,7 @@ use Rattle.mail_store.specs.declared.kept.Message.{Message}
 use Rattle.mail_store.specs.declared.kept.Listed.{Listed}
 use Rattle.journal_records.specs.declared.records.Record.{Record}
 use Rattle.journal_records.specs.declared.records.Record.TheVariants as records
-use Rattle.mail_store.specs.Kept.{Kept, change_at, with_flags, gone, after, after_all, uid_next, listed_from, listed, IsListedOrNew}
+use Rattle.mail_store.specs.Kept.{Kept, change_at, with_flags, gone, after_record, after_all, uid_next, listed_from, listed, IsListedOrNew}
 use Rattle.mail_store.proofs.ListedLemmas.{put, all_put}
 
 abbrev uid_of : Listed → ℕ
@@ -116,7 +116,7 @@ kept_on (x ∷ a) [] c first more = absurd first
 kept_on (x ∷ a) (y ∷ b) [] first more = absurd more
 kept_on (x ∷ a) (y ∷ b) (z ∷ c) first more = (more.0 ∙ first.0, λ lives. first.1 (more.1 lives), kept_on a b c first.2 more.2)
 
-kept_after : (kept : Kept) (one : Record) → AreKept kept.messages (after kept one).messages
+kept_after : (kept : Kept) (one : Record) → AreKept kept.messages (after_record kept one).messages
 kept_after kept (records.Account address password) = kept_same kept.messages
 kept_after kept (records.Domain name) = kept_same kept.messages
 kept_after kept (records.Folder account name) = kept_same kept.messages
@@ -128,7 +128,7 @@ kept_after kept (records.Settle entry index) = kept_same kept.messages
 
 kept_after_all : (kept : Kept) (more : List Record) → AreKept kept.messages (after_all kept more).messages
 kept_after_all kept [] = kept_same kept.messages
-kept_after_all kept (one ∷ others) = kept_on kept.messages (after kept one).messages (after_all (after kept one) others).messages (kept_after kept one) (kept_after_all (after kept one) others)
+kept_after_all kept (one ∷ others) = kept_on kept.messages (after_record kept one).messages (after_all (after_record kept one) others).messages (kept_after kept one) (kept_after_all (after_record kept one) others)
 
 -- ---- the next UID doesn't fall
 

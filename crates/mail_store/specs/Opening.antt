@@ -7,13 +7,13 @@ use Rattle.journal_records.specs.Frames.{IsBeginning, IsCutShort}
 use Rattle.journal_records.specs.Spelling.{record_text, journal, first_octets}
 
 -- the octets are a journal of these records and a rest
-pub record BeginsWith (octets : List ℕ) (all : List Record) (rest : List ℕ) : Type 0 where
+pub record BeginsJournal (octets : List ℕ) (all : List Record) (rest : List ℕ) : Type 0 where
   pub text : octets ≡ journal all ++ rest
   pub records : AreRecords nothing all
 
 -- these are the whole records of the octets, which go on with a prefix of a record, or are a prefix of an empty journal
 abbrev pub HasRecords : List ℕ → List Record → Type 0
-HasRecords octets all = (IsBeginning octets × (all ≡ [])) ⊎ ((rest : List ℕ) × BeginsWith octets all rest × IsCutShort rest)
+HasRecords octets all = (IsBeginning octets × (all ≡ [])) ⊎ ((rest : List ℕ) × BeginsJournal octets all rest × IsCutShort rest)
 
 -- no record begins the octets, where this is kept
 abbrev pub HasNoRecord : Kept → List ℕ → Type 0
@@ -21,7 +21,7 @@ HasNoRecord kept octets = (one : Record) (rest : List ℕ) → IsRecord kept one
 
 -- whole records end here, and the octets from here on are no record and no prefix of one
 pub record IsBadBehind (octets : List ℕ) (all : List Record) (rest : List ℕ) : Type 0 where
-  pub whole : BeginsWith octets all rest
+  pub whole : BeginsJournal octets all rest
   pub no_prefix : IsCutShort rest → ⊥
   pub no_record : HasNoRecord (store_of all) rest
 

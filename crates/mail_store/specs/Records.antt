@@ -8,10 +8,10 @@ use Rattle.journal_records.specs.declared.records.Record.TheVariants as records
 use Rattle.mail_store.specs.declared.kept.Message.{Message}
 use Rattle.mail_store.specs.declared.kept.Recipient.{Recipient}
 use Rattle.mail_store.specs.declared.kept.Entry.{Entry}
-use Rattle.journal_records.specs.Addresses.{IsAddress, IsDomainText}
+use Rattle.journal_records.specs.Addresses.{IsKeptAddress, IsDomainText}
 use Rattle.journal_records.specs.Grammar.{IsDate, IsFolderName}
 use Rattle.journal_records.specs.Stored.{IsStored}
-use Rattle.mail_store.specs.Kept.{Kept, after}
+use Rattle.mail_store.specs.Kept.{Kept, after_record}
 use Rattle.journal_records.specs.Spelling.{fields_of, Fits}
 
 -- the message is there and isn't expunged
@@ -40,7 +40,7 @@ HasRoom count = count < THINGS_MAX
 -- kind of things passes its limit
 abbrev pub IsInOrder : Kept → Record → Type 0
 IsInOrder kept (records.Account address password) =
-    IsAddress address × (length password ≤ TEXT_MAX) × HasRoom (length kept.accounts) × HasRoom (length kept.folders)
+    IsKeptAddress address × (length password ≤ TEXT_MAX) × HasRoom (length kept.accounts) × HasRoom (length kept.folders)
 IsInOrder kept (records.Domain name) = IsDomainText name × HasRoom (length kept.domains)
 IsInOrder kept (records.Folder account name) = (account < length kept.accounts) × IsFolderName name × HasRoom (length kept.folders)
 IsInOrder kept (records.Message folder flags date octets) =
@@ -48,7 +48,7 @@ IsInOrder kept (records.Message folder flags date octets) =
 IsInOrder kept (records.Flags message flags) = IsLive (slice_get kept.messages message) × (flags < 32)
 IsInOrder kept (records.Expunge message) = IsLive (slice_get kept.messages message)
 IsInOrder kept (records.Queue path addresses octets) =
-    ((path ≡ []) ⊎ IsAddress path) × All IsAddress addresses × IsStored octets × HasRoom (length kept.entries)
+    ((path ≡ []) ⊎ IsKeptAddress path) × All IsKeptAddress addresses × IsStored octets × HasRoom (length kept.entries)
     × (recipient_count kept.entries + length addresses ≤ THINGS_MAX)
 IsInOrder kept (records.Settle entry index) = IsUnsettled (slice_get kept.entries entry) index
 
@@ -61,4 +61,4 @@ pub record IsRecord (kept : Kept) (one : Record) : Type 0 where
 -- each is a record where those before it are kept
 abbrev pub AreRecords : Kept → List Record → Type 0
 AreRecords kept [] = Unit {0}
-AreRecords kept (one ∷ others) = IsRecord kept one × AreRecords (after kept one) others
+AreRecords kept (one ∷ others) = IsRecord kept one × AreRecords (after_record kept one) others

@@ -7,7 +7,7 @@ use Rattle.journal_records.specs.declared.records.Record.{Record}
 use Rattle.mail_store.specs.declared.kept.Message.{Message}
 use Rattle.journal_records.specs.Addresses.{WithPaths, IsDomainText}
 use Rattle.mail_store.specs.private.Chains.{AreChained}
-use Rattle.mail_store.specs.Kept.{Kept, after, after_all, inbox_of}
+use Rattle.mail_store.specs.Kept.{Kept, after_record, after_all, inbox_of}
 use Rattle.mail_store.specs.private.Names.{first_name, first_mailbox}
 use Rattle.mail_store.specs.Records.{recipient_count}
 use Rattle.journal_records.specs.Stored.{IsStored}
@@ -21,7 +21,7 @@ pub record StoreState : Type 0 where
   pub failed : Bool
 
 abbrev pub with_record : StoreState → Record → StoreState
-with_record store one = record store { kept = after store.kept one }
+with_record store one = record store { kept = after_record store.kept one }
 
 abbrev pub with_records : StoreState → List Record → StoreState
 with_records store all = record store { kept = after_all store.kept all }

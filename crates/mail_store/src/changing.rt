@@ -5,7 +5,7 @@ ghost use Rattle.mail_wire.specs.Keeping.{HasKeeperCause};
 ghost use Rattle.std.specs.Option.{option_map_or, option_to_list};
 ghost use Rattle.ace_domains.specs.Domains.{normal_form, compared_form};
 ghost use Rattle.mail_store.specs.Kept.{inbox, is_local};
-ghost use Rattle.mail_store.specs.private.Names.{PutsName, number_of as number_of_name};
+ghost use Rattle.mail_store.specs.private.Names.{PutsName, number_named as number_of_name};
 ghost use Rattle.mail_store.specs.private.Chains.{empty_content};
 ghost use Rattle.mail_store.specs.private.Delivering.{copied, IsEntryOf, IsNewAccount, fronts_text, delivery_text, HasShortCopies, room_refusal};
 ghost use Rattle.mail_store.specs.StoreState.{with_record, with_records};
@@ -16,7 +16,7 @@ ghost use Rattle.journal_records.specs.declared.limits.TheConstants.{TEXT_MAX};
 ghost use Rattle.mail_store.specs.declared.limits.TheConstants.{THINGS_MAX};
 ghost use Rattle.journal_records.specs.declared.records.Record.TheVariants as records;
 ghost use Rattle.journal_records.specs.Addresses.{WithPaths, IsSendable, mailbox_key as mailbox_key_of};
-ghost use Rattle.journal_records.specs.Spelling.{IsWritable, record_text};
+ghost use Rattle.journal_records.specs.Spelling.{IsWritableRecord, record_text};
 ghost use Rattle.mail_store.specs.Changing.{Writes, Changes, LeavesAll, IsRefusedAs, IsDeliverable, queued as queued_of, copy_for, inboxes_of, has_many_things, domain_refusal, account_refusal, delivery_refusal, delivered, expunge_refusal, expunged, has_large_octets as has_large_octets_of};
 ghost use Rattle.mail_store.specs.declared.changing.StoreFault.TheVariants as faults;
 

@@ -1,6 +1,6 @@
 //! The first number of each name.
 ghost use Rattle.std.specs.Prelude.{◌≡◌, ℕ, List, OnOk, OnErr, None};
-ghost use Rattle.mail_store.specs.private.Names.{number_of, PutsName};
+ghost use Rattle.mail_store.specs.private.Names.{number_named, PutsName};
 
 use mail_wire::Memory;
 use std::alloc::Global;
@@ -13,8 +13,8 @@ pub fn put_first(
     name: &[u8],
     number: u32,
 ) -> Result<(), Memory>
-    ensures ok { OnOk result (PutsName (number_of numbers.old) (number_of numbers.new) name.now number) }
-    ensures err { OnErr result ((q : List ℕ) → number_of numbers.new q ≡ number_of numbers.old q) }
+    ensures ok { OnOk result (PutsName (number_named numbers.old) (number_named numbers.new) name.now number) }
+    ensures err { OnErr result ((q : List ℕ) → number_named numbers.new q ≡ number_named numbers.old q) }
 {
     if numbers.contains_key(name) {
         return Ok(());
@@ -26,15 +26,15 @@ pub fn put_first(
 
 /// Takes the number at a name away.
 pub fn take_back(numbers: &mut BTreeMap<Vec<u8>, u32>, name: &[u8])
-    ensures gone { number_of numbers.new name.now ≡ None }
-    ensures others { (q : List ℕ) → ¬ (q ≡ name.now) → number_of numbers.new q ≡ number_of numbers.old q }
+    ensures gone { number_named numbers.new name.now ≡ None }
+    ensures others { (q : List ℕ) → ¬ (q ≡ name.now) → number_named numbers.new q ≡ number_named numbers.old q }
 {
     let _number = numbers.remove(name);
 }
 
 /// The number at a name.
 pub fn number_of(numbers: &BTreeMap<Vec<u8>, u32>, name: &[u8]) -> Option<u32>
-    ensures { result ≡ number_of numbers.now name.now }
+    ensures { result ≡ number_named numbers.now name.now }
 {
     numbers.get(name).copied()
 }

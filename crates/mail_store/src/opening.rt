@@ -5,7 +5,7 @@ ghost use Rattle.mail_store.specs.private.Adding.{AddsNext, Added};
 ghost use Rattle.mail_store.specs.Answers.{open_fault, IsFold, OpensTo, IsJournalFault, LeavesRecords};
 ghost use Rattle.mail_store.specs.Kept.{nothing};
 ghost use Rattle.journal_records.specs.Frames.{IsBeginningOf};
-ghost use Rattle.mail_store.specs.private.Replaying.{IsOutside, IsFieldsFault, fields_at, EndsAt, IsReadingFault, repaired, HalfRepairs};
+ghost use Rattle.mail_store.specs.private.Replaying.{IsOutside, IsFieldsFault, fields_at, EndsJournalAt, IsReadingFault, repaired, HalfRepairs};
 ghost use Rattle.journal_records.specs.declared.frames.Beginning.TheVariants as beginnings;
 
 use crate::frames::{fill, frame_at, read_beginning};
@@ -105,7 +105,7 @@ fn replay<J: Keeper>(
     requires had { IfSome (J.tells keeper.old).octets (λ octets. had ≡ length octets) }
     requires long { 8 ≤ had }
     requires first { IfSome (J.tells keeper.old).octets (IsBeginningOf beginnings.Journal) }
-    ensures ends { IfOk result (λ end. IfSome (J.tells keeper.old).octets (λ octets. EndsAt octets end store.new.kept)) }
+    ensures ends { IfOk result (λ end. IfSome (J.tells keeper.old).octets (λ octets. EndsJournalAt octets end store.new.kept)) }
     ensures fold { OnOk result (IsFold store.new.kept) }
     ensures within { IfOk result (λ end. end ≤ had) }
     ensures message_max { OnOk result (store.new.message_max ≡ store.old.message_max) }
@@ -135,7 +135,7 @@ fn read_all<J: Keeper>(
 ) -> Result<u64, OpenFault>
     requires start { store.old.kept ≡ nothing }
     requires had { IfSome (J.tells keeper.old).octets (λ octets. had ≡ length octets) }
-    ensures ends { IfOk result (λ end. IfSome (J.tells keeper.old).octets (λ octets. EndsAt octets end store.new.kept)) }
+    ensures ends { IfOk result (λ end. IfSome (J.tells keeper.old).octets (λ octets. EndsJournalAt octets end store.new.kept)) }
     ensures fold { OnOk result (IsFold store.new.kept) }
     ensures within { IfOk result (λ end. end ≤ had) }
     ensures message_max { OnOk result (store.new.message_max ≡ store.old.message_max) }

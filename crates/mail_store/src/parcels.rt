@@ -3,7 +3,7 @@ ghost use Rattle.std.specs.Prelude.{◌≡◌, ◌≤◌, ◌<◌, ◌+◌, ◌=
 ghost use Rattle.std.specs.List.{All, AllByRecursion, flat_map};
 ghost use Rattle.std.specs.Option.{option_to_list};
 ghost use Rattle.address_grammar.specs.Paths.{ComesInPath};
-ghost use Rattle.journal_records.specs.Spelling.{IsWritable, record_text};
+ghost use Rattle.journal_records.specs.Spelling.{IsWritableRecord, record_text};
 ghost use Rattle.mail_store.specs.declared.limits.TheConstants.{THINGS_MAX};
 ghost use Rattle.mail_store.specs.Changing.{queued as queued_of};
 ghost use Rattle.mail_store.specs.Records.{recipient_count};
@@ -51,7 +51,7 @@ fn entry_of(alloc: Global, queued: Option<Record>) -> Result<Option<Entry>, OutO
 
 // What stands before the octets of a record of the queue.
 fn queued_front(alloc: Global, queued: &Option<Record>) -> Result<Option<Octets>, OutOfMemory>
-    requires { IfSome queued.now IsWritable }
+    requires { IfSome queued.now IsWritableRecord }
     ensures { IfOk result (λ front. IsFrontOf front queued.now) }
 {
     match queued {
@@ -83,7 +83,7 @@ pub struct Waiting {
 pub fn waiting_of(alloc: Global, delivery: &Delivery) -> Result<Waiting, OutOfMemory>
     requires path { IfSome delivery.now.path ComesInPath }
     requires addresses { All ComesInPath delivery.now.remote }
-    requires writable { AllByRecursion IsWritable (queued_of delivery.now) }
+    requires writable { AllByRecursion IsWritableRecord (queued_of delivery.now) }
     ensures front { IfOk result (λ waiting. fronts_text (option_to_list waiting.front) delivery.now.remote_octets ≡ flat_map record_text (queued_of delivery.now)) }
     ensures entry { IfOk result (λ waiting. IsEntryOf waiting.entry (queued_of delivery.now)) }
 {

@@ -6,13 +6,13 @@ use Rattle.std.proofs.lemmas.List.{get_or-drop}
 use Rattle.std.proofs.lemmas.Option.{get_or_from_slice_get, slice_get-get_or, slice_get_within}
 use Rattle.std.specs.List.{slice_get}
 use Rattle.memchr.specs.Find.{IsFirstByte, is_byte3}
-use Rattle.mail_wire.specs.Message.{Stands, IsFaulty, IsFirstFaulty, IsSound, IsSoundBelow, BeginsCrlf}
+use Rattle.mail_wire.specs.Message.{StandsAt, IsFaulty, IsFirstFaulty, IsSound, IsSoundBelow, BeginsCrlf}
 
 -- The octets before `at` are sound, and an LF stands before it, if anything does.
 pub record HasScanned (octets : List ℕ) (at : ℕ) : Type 0 where
   pub below : IsSoundBelow octets at
   pub fits : at ≤ length octets
-  pub after : (before : ℕ) → at ≡ before + 1 → Stands octets before 10
+  pub after : (before : ℕ) → at ≡ before + 1 → StandsAt octets before 10
 
 -- NUL, CR or LF
 abbrev IsStop : ℕ → Type 0
@@ -35,17 +35,17 @@ slice_get-drop (suc n) (x ∷ octets) k zero at = absurd (omega arith)
 slice_get-drop (suc n) (x ∷ octets) k (suc i) at = slice_get-drop n octets k i (omega arith)
 
 -- one octet stands at a place
-pub one_octet : (octets : List ℕ) (at x y : ℕ) → Stands octets at x → Stands octets at y → x ≡ y
+pub one_octet : (octets : List ℕ) (at x y : ℕ) → StandsAt octets at x → StandsAt octets at y → x ≡ y
 one_octet octets at x y first second = unsome x y (sym first ∙ second)
   where
     unsome : (x y : ℕ) → Some x ≡ Some y → x ≡ y
     unsome x y h = cc
 
 -- a CRLF at this place
-crlf_at : (octets : List ℕ) (at : ℕ) → BeginsCrlf (drop at octets) → Stands octets at 13 × Stands octets (at + 1) 10
+crlf_at : (octets : List ℕ) (at : ℕ) → BeginsCrlf (drop at octets) → StandsAt octets at 13 × StandsAt octets (at + 1) 10
 crlf_at octets at begins = (sym (slice_get-drop at octets 0 at (omega arith)) ∙ begins.0, sym (slice_get-drop at octets 1 (at + 1) refl) ∙ begins.1)
 
-at_crlf : (octets : List ℕ) (at : ℕ) → Stands octets at 13 → Stands octets (at + 1) 10 → BeginsCrlf (drop at octets)
+at_crlf : (octets : List ℕ) (at : ℕ) → StandsAt octets at 13 → StandsAt octets (at + 1) 10 → BeginsCrlf (drop at octets)
 at_crlf octets at cr lf = (slice_get-drop at octets 0 at (omega arith) ∙ cr, slice_get-drop at octets 1 (at + 1) refl ∙ lf)
 
 -- what the scan finds
@@ -71,7 +71,7 @@ found_stands octets at passed so_far first =
     (omega arith, rw get_or-drop at first.1)
 
 -- the octet before the one that was found is no CR
-not_behind_cr : (octets : List ℕ) (at passed : ℕ) → HasScanned octets at → Finds octets at passed → (before : ℕ) → at + passed ≡ before + 1 → Stands octets before 13 → ⊥
+not_behind_cr : (octets : List ℕ) (at passed : ℕ) → HasScanned octets at → Finds octets at passed → (before : ℕ) → at + passed ≡ before + 1 → StandsAt octets before 13 → ⊥
 not_behind_cr octets at passed so_far first before next cr = elim (cases_lt before at) [
   | inl early ↦
       let zero_passed : at ≡ before + 1 = omega arith in
@@ -115,7 +115,7 @@ scanned_crlf octets at passed so_far first begins =
       after = λ before next. let same : before ≡ at + passed + 1 = omega arith in rw same stand.1;
     }
   where
-    stand : Stands octets (at + passed) 13 × Stands octets (at + passed + 1) 10
+    stand : StandsAt octets (at + passed) 13 × StandsAt octets (at + passed + 1) 10
     stand = crlf_at octets (at + passed) begins
 
     on_cr : IsFaulty octets (at + passed) → ⊥

@@ -22,13 +22,13 @@ line_or_too_long cut octets = if nat_le (length cut.line) LINE_MAX then whole cu
 abbrev pub waiting_or_too_long : List ℕ → Framed
 waiting_or_too_long octets = if nat_le (length octets) LINE_MAX then waiting else too_long (drop LINE_MAX octets)
 
-abbrev pub framed_by : Option Cut → List ℕ → Framed
-framed_by None octets = waiting_or_too_long octets
-framed_by (Some cut) octets = line_or_too_long cut octets
+abbrev pub framed_at : Option Cut → List ℕ → Framed
+framed_at None octets = waiting_or_too_long octets
+framed_at (Some cut) octets = line_or_too_long cut octets
 
 -- A line goes up to the first CRLF. It is too long as soon as an octet is there that it has no room for.
 abbrev pub next_line : List ℕ → Framed
-next_line octets = framed_by (first_line octets) octets
+next_line octets = framed_at (first_line octets) octets
 
 -- what the octets that were kept and a piece begin with
 abbrev pub framed_as : FoundLine → (kept piece : List ℕ) → Framed

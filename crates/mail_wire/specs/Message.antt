@@ -3,19 +3,19 @@ use Rattle.std.specs.Prelude.{◌≡◌, ℕ, ◌+◌, ◌<◌, ◌⊎◌, List,
 use Rattle.mail_wire.specs.Lines.{crlf}
 
 -- this octet stands at this place
-abbrev pub Stands : List ℕ → ℕ → ℕ → Type 0
-Stands octets at x = slice_get octets at ≡ Some x
+abbrev pub StandsAt : List ℕ → ℕ → ℕ → Type 0
+StandsAt octets at x = slice_get octets at ≡ Some x
 
 abbrev pub IsNul : List ℕ → ℕ → Type 0
-IsNul octets at = Stands octets at 0
+IsNul octets at = StandsAt octets at 0
 
 -- a CR that LF doesn't follow
 abbrev pub IsBareCr : List ℕ → ℕ → Type 0
-IsBareCr octets at = Stands octets at 13 × ¬ Stands octets (at + 1) 10
+IsBareCr octets at = StandsAt octets at 13 × ¬ StandsAt octets (at + 1) 10
 
 -- an LF that CR doesn't precede
 abbrev pub IsBareLf : List ℕ → ℕ → Type 0
-IsBareLf octets at = Stands octets at 10 × ((before : ℕ) → at ≡ before + 1 → ¬ Stands octets before 13)
+IsBareLf octets at = StandsAt octets at 10 × ((before : ℕ) → at ≡ before + 1 → ¬ StandsAt octets before 13)
 
 abbrev pub IsFaulty : List ℕ → ℕ → Type 0
 IsFaulty octets at = IsNul octets at ⊎ IsBareCr octets at ⊎ IsBareLf octets at
@@ -34,7 +34,7 @@ IsFirstFaulty octets at = IsFaulty octets at × IsSoundBelow octets at
 
 -- CRLF comes first
 abbrev pub BeginsCrlf : List ℕ → Type 0
-BeginsCrlf octets = Stands octets 0 13 × Stands octets 1 10
+BeginsCrlf octets = StandsAt octets 0 13 × StandsAt octets 1 10
 
 -- there are no octets, or CRLF stands at their end
 abbrev pub IsEnded : List ℕ → Type 0

@@ -1,5 +1,5 @@
 -- Kinds of octets, and names that are the same whatever the ASCII case.
-use Rattle.std.specs.Prelude.{ℕ, Bool, ◌||◌, ◌==◌, not, nat_lt, List}
+use Rattle.std.specs.Prelude.{ℕ, Bool, ◌||◌, ◌&&◌, ◌==◌, not, nat_lt, nat_le, nat_eq, List}
 use Rattle.std.specs.Str.{bytes_eq, str_to_ascii_lowercase}
 use Rattle.std.specs.List.{list_all}
 
@@ -22,6 +22,10 @@ is_ascii x = nat_lt x 128
 -- an octet above 127 is among them
 abbrev pub is_high : List ℕ → Bool
 is_high octets = not (list_all is_ascii octets)
+
+-- an octet of a field's name: 33 to 126, and no colon (RFC 5322, 3.6.8)
+abbrev pub is_field_name_octet : ℕ → Bool
+is_field_name_octet x = nat_le 33 x && nat_le x 126 && not (nat_eq x 58)
 
 -- the same, whatever the case of ASCII letters
 unfoldable pub same_name : List ℕ → List ℕ → Bool

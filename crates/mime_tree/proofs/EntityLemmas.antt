@@ -17,7 +17,7 @@ use Rattle.mime_tree.specs.Openings.{Opens}
 use Rattle.mime_tree.specs.private.Open.{begins_marked, region, after, lines_at, IsStop, IsStart, end_place}
 use Rattle.mime_tree.specs.Tree.{IsWithInner, IsEntity, raws_of}
 use Rattle.mime_tree.specs.Faults.{IsFaultOf}
-use Rattle.mime_tree.specs.private.Reading.{region_at, IsHeadRead, IsInside, IsFaultWithin, IsInsideRead, IsEntityRead}
+use Rattle.mime_tree.specs.private.Reading.{region_at, IsHeadRead, IsWithinEntity, IsFaultWithin, IsInsideRead, IsEntityRead}
 use Rattle.mime_tree.proofs.Texts.{lines_of-are}
 use Rattle.mime_tree.proofs.Regions.{region-begins, region-end, region-all, after-begins, after-none}
 use Rattle.mime_tree.proofs.LinesAt.{size_at}
@@ -87,7 +87,7 @@ stop_from s octets start head stop is stops =
     record { lines = stops.lines ∙ is.after_is; marked = stops.marked; onward = omega arith; fits = stops.fits }
 
 pub entity_of : (levels : ℕ) (octets : List ℕ) (parent : Option ℕ) (digest : Bool) (number at : ℕ) (lines : List (List ℕ)) (entities : List Entity) → levels ≤ 32 → (is : IsWithInner parent (33 - levels) at lines entities)
-    → (opening : Opening) → Opens digest (raws_of octets is.entity.block) opening → IsInside levels octets opening number is.entity.body is.content is.entity.shape is.inner → IsEntity levels octets parent digest number at lines entities
+    → (opening : Opening) → Opens digest (raws_of octets is.entity.block) opening → IsWithinEntity levels octets opening number is.entity.body is.content is.entity.shape is.inner → IsEntity levels octets parent digest number at lines entities
 unfolding IsEntity
 entity_of zero octets parent digest number at lines entities small is opening opens inside = (is, inside.0, inside.1)
 entity_of (suc levels) octets parent digest number at lines entities small is opening opens inside =

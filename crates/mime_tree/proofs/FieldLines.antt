@@ -8,13 +8,13 @@ use Rattle.std.proofs.lemmas.List.{take_at}
 use Rattle.std.proofs.lemmas.List.Folds.{list_all-append}
 use Rattle.std.proofs.lemmas.List.Elements.{All-from_recursion}
 use Rattle.std.proofs.lemmas.Str.{IsUtf8-append, IsUtf8-nil}
-use Rattle.mail_wire.specs.Octets.{is_white, is_line_end}
+use Rattle.mail_wire.specs.Octets.{is_white, is_line_end, is_field_name_octet}
 use Rattle.mail_wire.specs.Lines.{crlf, is_crlf}
 use Rattle.mail_wire.specs.Message.{IsNul, IsFaulty, IsSound}
 use Rattle.mail_wire.specs.Folds.{FoldedItem, Octet, Fold, IsFoldedItem, item_octets}
 use Rattle.mail_wire.proofs.OctetLemmas.{white_below}
 use Rattle.utf8_fields.specs.declared.block.Field.{Field}
-use Rattle.utf8_fields.specs.Lines.{is_name_octet, BeginsField, BeginsWhite}
+use Rattle.utf8_fields.specs.Lines.{BeginsField, BeginsWhite}
 use Rattle.utf8_fields.specs.Parts.{FieldParts, HasParts}
 use Rattle.utf8_fields.specs.Block.{IsFieldAt}
 use Rattle.utf8_fields.proofs.LineShapes.{EndsOnce, NeverEnds, AreLines, is_text, before_once}
@@ -254,7 +254,7 @@ ending_utf8 ending (inr ended) = rw ended (IsUtf8-append (13 ∷ []) (10 ∷ [])
 
 field_utf8 : (octets : List ℕ) (f : FieldParts) → HasParts octets f → IsUtf8 octets
 field_utf8 octets f is = rw is.spelled (
-    all_utf8 is_name_octet name_octet_below f.name (f.white ++ 58 ∷ (f.body ++ f.ending)) is.name
+    all_utf8 is_field_name_octet name_octet_below f.name (f.white ++ 58 ∷ (f.body ++ f.ending)) is.name
     (all_utf8 is_white white_below f.white (58 ∷ (f.body ++ f.ending)) is.white
     (IsUtf8-append (58 ∷ []) (f.body ++ f.ending) (one_ascii 58 colon_below) (IsUtf8-append f.body f.ending is.utf8 (ending_utf8 f.ending is.ending)))))
 
@@ -278,7 +278,7 @@ field_lines at octets f is none =
     append_assoc f.name (f.white ++ 58 ∷ behind.first) (concat behind.more) ∙ ap (λ text. f.name ++ text) (append_assoc f.white (58 ∷ behind.first) (concat behind.more))
     ∙ ap (λ text. f.name ++ (f.white ++ 58 ∷ text)) (sym behind.whole ∙ ap (λ body. body ++ f.ending) (sym is.body.spelled)) ∙ sym is.spelled in
     let line : IsTextOf f.ending first behind.more =
-    put_front f.ending f.name (f.white ++ 58 ∷ behind.first) behind.more (all_text is_name_octet name_is_text f.name is.name)
+    put_front f.ending f.name (f.white ++ 58 ∷ behind.first) behind.more (all_text is_field_name_octet name_is_text f.name is.name)
     (put_front f.ending f.white (58 ∷ behind.first) behind.more (all_text is_white white_is_text f.white is.white) (put_front f.ending (58 ∷ []) behind.first behind.more refl behind.are.0)) in
     let texts : AreTextsOf f.ending (first ∷ behind.more) = (line, behind.are.1) in
     let sound = texts_sound f.ending (first ∷ behind.more) texts (subst (λ text. list_all is_safe text ≡ true) (sym whole) (safe_without_nul octets none)) in

@@ -14,7 +14,7 @@ use Rattle.mime_tree.specs.declared.openings.Opening.TheVariants.{Nothing, Messa
 use Rattle.mime_tree.specs.Marks.{is_delimiter, is_close}
 use Rattle.mime_tree.specs.Parts.{Part, parts_on, parts_of, size}
 use Rattle.mime_tree.specs.Tree.{IsWithInner, EntityRelation, AreParts, IsDivided, IsOpened, IsEntity}
-use Rattle.mime_tree.specs.Rewriting.{FieldRelation, RewritesBlocks, AreSame, next_place}
+use Rattle.mime_tree.specs.Rewriting.{FieldRelation, RewritesBlocks, AreSame, next_entity_place}
 use Rattle.mime_tree.proofs.Heads.{fields_size}
 use Rattle.mime_tree.proofs.Regions.{size-cons}
 use Rattle.mime_tree.proofs.PartLemmas.{parts_of-delimiter, parts_of-on, parts_on-close, parts_on-delimiter, parts_on-on}
@@ -102,7 +102,7 @@ parts_begin IsOne begins parent digest number part parts entities are =
     let first = begins parent digest number part.at part.lines are.0 are.3 in
     record { entity = first.entity; inner = first.inner ++ are.1; entities_are = are.2 ∙ ap (λ all. all ++ are.1) first.entities_are; at_is = first.at_is }
 
-next_there : (at to : ℕ) (entities : List Entity) → BeginsThere at entities → next_place to entities ≡ at
+next_there : (at to : ℕ) (entities : List Entity) → BeginsThere at entities → next_entity_place to entities ≡ at
 next_there at to entities there = rw there.entities_are there.at_is
 
 -- what stands before the first part
@@ -163,7 +163,7 @@ divided_begin IsOne begins digest number at parts shape entities first is =
 
 -- where there is no entity all was copied
 pub all_copied : (IsMade : FieldRelation) (octets new : List ℕ) (body to : ℕ) (inner : List Entity) (made : List ℕ) (new_body : ℕ) (others : List Entity) → inner ≡ [] → RewritesBlocks IsMade octets body to inner made
-    → Stands new new_body made → AreSame IsMade octets to inner new (new_body + length made) others → slice_range new new_body (next_place (new_body + length made) others) ≡ slice_range octets body (next_place to inner)
+    → Stands new new_body made → AreSame IsMade octets to inner new (new_body + length made) others → slice_range new new_body (next_entity_place (new_body + length made) others) ≡ slice_range octets body (next_entity_place to inner)
 all_copied IsMade octets new body to [] made new_body [] none rewrites stands same = Stands-slice new new_body made stands ∙ rewrites
 all_copied IsMade octets new body to [] made new_body (other ∷ others) none rewrites stands same = absurd same
 all_copied IsMade octets new body to (entity ∷ inner) made new_body others none rewrites stands same = cc none
@@ -218,7 +218,7 @@ nothing_behind IsMade levels octets b digest number at shape inner made is rewri
 parts_inside : (IsMade : FieldRelation) (levels : ℕ) (octets new b : List ℕ) (digest : Bool) (number body : ℕ) (content : List (List ℕ)) (shape : Shape) (inner : List Entity) (made : List ℕ) (new_body : ℕ) (others : List Entity)
     → (first : HasFirst b content) → AreLines content → Stands octets body (concat content) → Stands new new_body made → RewritesBlocks IsMade octets body (body + size content) inner made
     → IsDivided (IsEntity levels octets) digest number (parts_of b body content) shape inner → IsDivided (IsEntity levels new) digest number (parts_of b new_body (lines_of made)) shape others
-    → slice_range new new_body (next_place (new_body + length made) others) ≡ slice_range octets body (next_place (body + size content) inner)
+    → slice_range new new_body (next_entity_place (new_body + length made) others) ≡ slice_range octets body (next_entity_place (body + size content) inner)
 parts_inside IsMade levels octets new b digest number body content shape inner made new_body others first are stands new_stands rewrites is so =
     let front : List ℕ = concat first.before ++ first.delimiter in
     let place : ℕ = body + size first.before + length first.delimiter in
@@ -259,16 +259,16 @@ pub first_inside : (IsMade : FieldRelation) (levels : ℕ) (octets new : List �
     → AreLines content → Stands octets body (concat content) → Stands new new_body made → RewritesBlocks IsMade octets body (body + size content) inner made
     → IsOpened (IsEntity levels octets) opening number body content shape inner → IsOpened (IsEntity levels new) opening number new_body (lines_of made) shape others
     → AreSame IsMade octets (body + size content) inner new (new_body + length made) others
-    → slice_range new new_body (next_place (new_body + length made) others) ≡ slice_range octets body (next_place (body + size content) inner)
+    → slice_range new new_body (next_entity_place (new_body + length made) others) ≡ slice_range octets body (next_entity_place (body + size content) inner)
 unfolding Begins
 first_inside IsMade levels octets new Nothing number body content shape inner made new_body others are stands new_stands rewrites is so same =
     all_copied IsMade octets new body (body + size content) inner made new_body others is.1 rewrites new_stands same
 first_inside IsMade levels octets new Message number body content shape inner made new_body others are stands new_stands rewrites is so same =
     let here = next_there body (body + size content) inner (entity_begins levels octets (Some number) false (number + 1) body content inner is.1) in
     let there = next_there new_body (new_body + length made) others (entity_begins levels new (Some number) false (number + 1) new_body (lines_of made) others so.1) in
-    slice_none new new_body (next_place (new_body + length made) others) (omega arith) ∙ sym (slice_none octets body (next_place (body + size content) inner) (omega arith))
+    slice_none new new_body (next_entity_place (new_body + length made) others) (omega arith) ∙ sym (slice_none octets body (next_entity_place (body + size content) inner) (omega arith))
 first_inside IsMade levels octets new (Parts boundary digest) number body content shape inner made new_body others are stands new_stands rewrites is so same = go (parts_of boundary body content) refl
   where
-    go : (parts : List Part) → parts ≡ parts_of boundary body content → slice_range new new_body (next_place (new_body + length made) others) ≡ slice_range octets body (next_place (body + size content) inner)
+    go : (parts : List Part) → parts ≡ parts_of boundary body content → slice_range new new_body (next_entity_place (new_body + length made) others) ≡ slice_range octets body (next_entity_place (body + size content) inner)
     go [] none = all_copied IsMade octets new body (body + size content) inner made new_body others (rw (← none) at is).1 rewrites new_stands same
     go (part ∷ parts) some = parts_inside IsMade levels octets new boundary digest number body content shape inner made new_body others (first_part boundary body content part parts (sym some)) are stands new_stands rewrites is so

@@ -9,7 +9,7 @@ use Rattle.utf8_fields.proofs.LineShapes.{AreLines, AreLines-front, AreLines-bac
 use Rattle.mime_tree.specs.declared.entity.Entity.{Entity}
 use Rattle.mime_tree.specs.Parts.{size, cut_last}
 use Rattle.mime_tree.specs.Tree.{IsEntity}
-use Rattle.mime_tree.specs.Rewriting.{FieldRelation, RewritesBlocks, next_place, AreSame}
+use Rattle.mime_tree.specs.Rewriting.{FieldRelation, RewritesBlocks, next_entity_place, AreSame}
 use Rattle.mime_tree.proofs.Regions.{size-cons, size-append}
 use Rattle.mime_tree.proofs.Standing.{Stands, AreEnded, IsUnmarked, AreUnmarked, AreInOrder, HasNewLines, Keeps}
 use Rattle.mime_tree.proofs.InOrder.{in_order, split_blocks}
@@ -217,7 +217,7 @@ pub joined : (IsMade : FieldRelation) (levels : ℕ) (octets new : List ℕ) (pa
     → (has : HasFirst IsMade levels octets parent digest number at passed line rest first more new new_at made)
     → (tail : HasTidyLines IsMade octets (at + size passed + length line) rest more new (new_at + size has.full.full + length line) has.behind HoldsBehind)
     → Holds (has.full.full ++ line ∷ tail.has.new_lines) (has.full.others ++ tail.has.others)
-    → AreSame IsMade octets (next_place (at + size (passed ++ line ∷ rest)) more) first new (next_place (new_at + length made) tail.has.others) has.full.others
+    → AreSame IsMade octets (next_entity_place (at + size (passed ++ line ∷ rest)) more) first new (next_entity_place (new_at + length made) tail.has.others) has.full.others
     → HasTidyLines IsMade octets at (passed ++ line ∷ rest) (first ++ more) new new_at made Holds
 joined IsMade levels octets new parent digest number at passed line rest first more made new_at HoldsBehind Holds are has tail holds same =
     let line_size = size-cons line rest in

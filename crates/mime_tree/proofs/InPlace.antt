@@ -13,7 +13,7 @@ use Rattle.mime_tree.specs.declared.openings.Opening.TheVariants.{Nothing, Messa
 use Rattle.mime_tree.specs.Marks.{is_delimiter, is_close}
 use Rattle.mime_tree.specs.Parts.{parts_on, size, cut_last}
 use Rattle.mime_tree.specs.Tree.{IsWithInner, EntityRelation, AreParts, IsOpened, IsEntity, depth_max}
-use Rattle.mime_tree.specs.Rewriting.{FieldRelation, RewritesBlocks, next_place, IsSameEntity, AreSame}
+use Rattle.mime_tree.specs.Rewriting.{FieldRelation, RewritesBlocks, next_entity_place, IsSameEntity, AreSame}
 use Rattle.mime_tree.proofs.Regions.{size-cons, size-append}
 use Rattle.mime_tree.proofs.PartLemmas.{parts_on-close, parts_on-delimiter, parts_on-on}
 use Rattle.mime_tree.proofs.Standing.{Stands, AreInOrder, AreEnded}
@@ -53,13 +53,13 @@ pub order_from : (from middle to : ℕ) (entities : List Entity) → from ≤ mi
 order_from from middle to [] less order = omega arith
 order_from from middle to (entity ∷ entities) less order = (let first = order.0 in omega arith, order.1, order.2)
 
-place_append : (to : ℕ) (entities more : List Entity) → next_place to (entities ++ more) ≡ next_place (next_place to more) entities
+place_append : (to : ℕ) (entities more : List Entity) → next_entity_place to (entities ++ more) ≡ next_entity_place (next_entity_place to more) entities
 place_append to [] more = refl
 place_append to (entity ∷ entities) more = refl
 
 -- same entities and further ones
 pub same_append : (IsMade : FieldRelation) (octets : List ℕ) (to : ℕ) (entities more : List Entity) (new : List ℕ) (new_to : ℕ) (others again : List Entity)
-    → AreSame IsMade octets (next_place to more) entities new (next_place new_to again) others → AreSame IsMade octets to more new new_to again → AreSame IsMade octets to (entities ++ more) new new_to (others ++ again)
+    → AreSame IsMade octets (next_entity_place to more) entities new (next_entity_place new_to again) others → AreSame IsMade octets to more new new_to again → AreSame IsMade octets to (entities ++ more) new new_to (others ++ again)
 same_append IsMade octets to [] more new new_to [] again same next = next
 same_append IsMade octets to [] more new new_to (other ∷ others) again same next = absurd same
 same_append IsMade octets to (entity ∷ entities) more new new_to [] again same next = absurd same
@@ -123,7 +123,7 @@ begins_at (suc levels) octets parent digest number at lines entities is = record
 
 -- the parts begin where the first one does
 pub parts_begin : (levels : ℕ) (octets b : List ℕ) (parent : Option ℕ) (digest : Bool) (rest : List (List ℕ)) (number at : ℕ) (passed : List (List ℕ)) (entities : List Entity) (to : ℕ)
-    → AreParts (IsEntity levels octets) parent digest number (parts_on b at passed rest) entities → next_place to entities ≡ at
+    → AreParts (IsEntity levels octets) parent digest number (parts_on b at passed rest) entities → next_entity_place to entities ≡ at
 parts_begin levels octets b parent digest rest number at passed entities to are =
     let some = parts_on-some b rest at passed in
     let parts = rw some.2 at are in

@@ -3,7 +3,7 @@ use Rattle.std.proofs.Common.{◌≡◌, ℕ, suc, zero, ◌+◌, ◌<◌, ◌�
 use Rattle.std.specs.Prelude.{slice_range}
 use Rattle.std.specs.List.{AllByRecursion, concat}
 use Rattle.mail_wire.specs.Lines.{lines_of, put_before}
-use Rattle.mail_wire.specs.Message.{Stands as StandsAt, IsSound}
+use Rattle.mail_wire.specs.Message.{StandsAt as StandsAt, IsSound}
 use Rattle.mail_wire.proofs.FirstLine.{lines_of-crlf, lines_of-other}
 use Rattle.mail_wire.proofs.LineLemmas.{is_crlf_parts}
 use Rattle.utf8_fields.proofs.LineShapes.{AreLines, EndsOnce, NeverEnds}

@@ -16,7 +16,7 @@ use Rattle.mime_tree.specs.Parts.{size}
 use Rattle.mime_tree.specs.declared.openings.Opening.{Opening}
 use Rattle.mime_tree.specs.Openings.{Opens}
 use Rattle.mime_tree.specs.Tree.{HasHead, IsWithInner, IsOpened, IsEntity, raws_of, depth_max}
-use Rattle.mime_tree.specs.Rewriting.{FieldRelation, RewritesBlocks, KeepsTrees, AreSame, IsSameEntity, next_place}
+use Rattle.mime_tree.specs.Rewriting.{FieldRelation, RewritesBlocks, KeepsTrees, AreSame, IsSameEntity, next_entity_place}
 use Rattle.mime_tree.proofs.Heads.{fields_size}
 use Rattle.mime_tree.proofs.Standing.{Stands, AreEnded, IsUnmarked, AreUnmarked, HasNewBlock, AreInOrder}
 use Rattle.mime_tree.proofs.NewBlocks.{new_block}
@@ -176,7 +176,7 @@ cut_entity IsMade octets new keeps parent depth at lines entities made new_at is
 
 -- what was made of a content, with the entities in it
 pub record IsKeptInside (IsMade : FieldRelation) (octets : List ℕ) (body : ℕ) (content : List (List ℕ)) (inner : List Entity) (new : List ℕ) (new_body : ℕ) (made : List ℕ) (others : List Entity) : Type 0 where
-  pub behind : slice_range new new_body (next_place (new_body + length made) others) ≡ slice_range octets body (next_place (body + size content) inner)
+  pub behind : slice_range new new_body (next_entity_place (new_body + length made) others) ≡ slice_range octets body (next_entity_place (body + size content) inner)
   pub old_order : AreInOrder body (body + size content) inner
   pub order : AreInOrder new_body (new_body + length made) others
   pub same : AreSame IsMade octets (body + size content) inner new (new_body + length made) others
@@ -226,7 +226,7 @@ open_entity levels octets parent digest number at lines entity content inner ope
   opened,
 )
 
-next_after : (from to : ℕ) (entities : List Entity) → AreInOrder from to entities → from ≤ next_place to entities
+next_after : (from to : ℕ) (entities : List Entity) → AreInOrder from to entities → from ≤ next_entity_place to entities
 next_after from to [] order = order
 next_after from to (entity ∷ entities) order = order.0
 
@@ -242,7 +242,7 @@ no_others IsMade octets new to new_to [] [] none same = refl
 no_others IsMade octets new to new_to [] (other ∷ others) none same = absurd same
 no_others IsMade octets new to new_to (entity ∷ inner) others none same = cc none
 
-leaf_by : (IsMade : FieldRelation) (octets new : List ℕ) (body to new_body new_to : ℕ) (inner others : List Entity) → inner ≡ [] → others ≡ [] → slice_range new new_body (next_place new_to others) ≡ slice_range octets body (next_place to inner)
+leaf_by : (IsMade : FieldRelation) (octets new : List ℕ) (body to new_body new_to : ℕ) (inner others : List Entity) → inner ≡ [] → others ≡ [] → slice_range new new_body (next_entity_place new_to others) ≡ slice_range octets body (next_entity_place to inner)
     → slice_range new new_body new_to ≡ slice_range octets body to
 leaf_by IsMade octets new body to new_body new_to [] [] none no_other same = same
 leaf_by IsMade octets new body to new_body new_to [] (other ∷ others) none no_other same = cc no_other
@@ -279,20 +279,20 @@ new_entity IsMade octets new parent depth at lines entities made new_at is cut o
     let new_to : new_body + length cut.inside ≡ new_at + length made = omega arith in
     let old_to = places.whole in
     let other : Entity = record { parent = parent; depth = depth; at = new_at; body = new_body; end = new_at + size new_lines; shape = is.entity.shape; block = record { fields = block.fields; end = block.end } } in
-    let behind : slice_range new new_body (next_place (new_at + length made) others) ≡ slice_range octets is.entity.body (next_place (at + size lines) is.inner) =
-    subst (λ n. slice_range new new_body (next_place n others) ≡ slice_range octets is.entity.body (next_place (at + size lines) is.inner)) new_to
-    (subst (λ n. slice_range new new_body (next_place (new_body + length cut.inside) others) ≡ slice_range octets is.entity.body (next_place n is.inner)) old_to kept.behind) in
+    let behind : slice_range new new_body (next_entity_place (new_at + length made) others) ≡ slice_range octets is.entity.body (next_entity_place (at + size lines) is.inner) =
+    subst (λ n. slice_range new new_body (next_entity_place n others) ≡ slice_range octets is.entity.body (next_entity_place (at + size lines) is.inner)) new_to
+    (subst (λ n. slice_range new new_body (next_entity_place (new_body + length cut.inside) others) ≡ slice_range octets is.entity.body (next_entity_place n is.inner)) old_to kept.behind) in
     let old_order : AreInOrder is.entity.body (at + size lines) is.inner = subst (λ n. AreInOrder is.entity.body n is.inner) old_to kept.old_order in
     let order : AreInOrder new_body (new_at + length made) others = subst (λ n. AreInOrder new_body n others) new_to kept.order in
     let same : AreSame IsMade octets (at + size lines) is.inner new (new_at + length made) others =
     subst (λ n. AreSame IsMade octets (at + size lines) is.inner new n others) new_to (subst (λ n. AreSame IsMade octets n is.inner new (new_body + length cut.inside) others) old_to kept.same) in
     let new_gap : slice_range new block.end new_body ≡ slice_range octets is.entity.block.end is.entity.body = ap (λ n. slice_range new n new_body) end ∙ cut.new_gap ∙ sym cut.gap in
-    let same_entity : IsSameEntity IsMade octets is.entity (next_place (at + size lines) is.inner) new other (next_place (new_at + length made) others) = record {
+    let same_entity : IsSameEntity IsMade octets is.entity (next_entity_place (at + size lines) is.inner) new other (next_entity_place (new_at + length made) others) = record {
       parent = sym is.parent_is;
       depth = sym is.depth_is;
       shape = refl;
       fields = subst (AllZip (IsMade is.entity) (raws_of octets is.entity.block)) (sym block.raws) cut.zip;
-      behind = behind_by octets new is.entity.block.end is.entity.body (next_place (at + size lines) is.inner) block.end new_body (next_place (new_at + length made) others) places.content_after
+      behind = behind_by octets new is.entity.block.end is.entity.body (next_entity_place (at + size lines) is.inner) block.end new_body (next_entity_place (new_at + length made) others) places.content_after
           (next_after is.entity.body (at + size lines) is.inner old_order) (omega arith) (next_after new_body (new_at + length made) others order) new_gap behind;
       content = λ shape.
           let none = leaf shape in

@@ -68,14 +68,14 @@ opening_said main params =
     else (if is_multipart_type main then divided (usable_of (boundary_in params)) (is_digest_type main) else Nothing)
 
 -- the text is no Content-Type
-abbrev pub IsMalformed : List ℕ → Type 0
-IsMalformed text = (main : List ℕ) (params : List ParamValue) (comments : List CommentValue) → ¬ SaysParams Content text main params comments
+abbrev pub IsNoContentType : List ℕ → Type 0
+IsNoContentType text = (main : List ℕ) (params : List ParamValue) (comments : List CommentValue) → ¬ SaysParams Content text main params comments
 
 -- Of an entity whose Content-Type is this text: a malformed one says that it is text.
 abbrev pub OpensByText : List ℕ → Opening → Type 0
 OpensByText text opening =
     ((main : List ℕ) × (params : List ParamValue) × (comments : List CommentValue) × SaysParams Content text main params comments × (opening ≡ opening_said main params))
-    ⊎ (IsMalformed text × (opening ≡ Nothing))
+    ⊎ (IsNoContentType text × (opening ≡ Nothing))
 
 -- without a Content-Type an entity is text, and inside a digest a message
 abbrev pub opening_by_default : Bool → Opening

@@ -38,9 +38,9 @@ pub record KeepsTrees (IsMade : FieldRelation) (octets : List ℕ) : Type 0 wher
       → Opens digest (raws_of octets entity.block) opening → Opens digest fields opening
 
 -- where the first of the entities begins, and with none where all ends
-abbrev pub next_place : ℕ → List Entity → ℕ
-next_place to [] = to
-next_place to (entity ∷ entities) = entity.at
+abbrev pub next_entity_place : ℕ → List Entity → ℕ
+next_entity_place to [] = to
+next_entity_place to (entity ∷ entities) = entity.at
 
 -- An entity of the octets, up to the next one's place, and one of the made octets: each field gave the made one, and what isn't in blocks is the same.
 pub record IsSameEntity (IsMade : FieldRelation) (octets : List ℕ) (entity : Entity) (next : ℕ) (made : List ℕ) (other : Entity) (other_next : ℕ) : Type 0 where
@@ -57,4 +57,4 @@ AreSame IsMade octets to [] made made_to [] = Unit {0}
 AreSame IsMade octets to [] made made_to (other ∷ others) = ⊥
 AreSame IsMade octets to (entity ∷ entities) made made_to [] = ⊥
 AreSame IsMade octets to (entity ∷ entities) made made_to (other ∷ others) =
-    IsSameEntity IsMade octets entity (next_place to entities) made other (next_place made_to others) × AreSame IsMade octets to entities made made_to others
+    IsSameEntity IsMade octets entity (next_entity_place to entities) made other (next_entity_place made_to others) × AreSame IsMade octets to entities made made_to others

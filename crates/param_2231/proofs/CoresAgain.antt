@@ -10,13 +10,13 @@ use Rattle.field_tokens.specs.declared.Style.TheVariants.{Mime}
 use Rattle.field_tokens.specs.declared.Token.{Token}
 use Rattle.field_tokens.specs.TokenOctets.{is_line_octet}
 use Rattle.field_tokens.specs.Tokens.{TokenValue, AreTokens, octets_at}
-use Rattle.field_tokens.specs.Squeezed.{run_octets, octets_of}
+use Rattle.field_tokens.specs.Squeezed.{run_octets, octets_of, is_atom_kind}
 use Rattle.field_tokens.proofs.SqueezedValues.{value_at, AreKept}
 use Rattle.param_grammar.specs.declared.ParamKind.{ParamKind}
 use Rattle.param_grammar.specs.declared.ParamKind.TheVariants.{Content, Disposition}
 use Rattle.param_grammar.specs.declared.Piece.{Piece}
 use Rattle.param_grammar.specs.Names.{NameParts, HasNameParts}
-use Rattle.param_grammar.specs.Bodies.{is_atom, is_quoted, is_main, is_plain_token, are_quoted, are_plain, touches_first, touch, unquoted, inner, content_of, is_first, SaysOctets, IsPiece, solid}
+use Rattle.param_grammar.specs.Bodies.{is_quoted, is_main, is_plain_token, are_quoted, are_plain, touches_first, touch, unquoted, inner, value_content, is_first, SaysOctets, IsPiece, solid}
 
 abbrev pub is_octet : ℕ → Bool
 is_octet x = nat_lt x 256
@@ -25,7 +25,7 @@ abbrev pub is_mark : ℕ → TokenValue → Bool
 is_mark mark t = bytes_eq t.octets (mark ∷ [])
 
 abbrev pub is_ascii_name : TokenValue → Bool
-is_ascii_name t = is_atom t.kind && list_all is_ascii t.octets
+is_ascii_name t = is_atom_kind t.kind && list_all is_ascii t.octets
 
 abbrev pub are_main : ParamKind → List TokenValue → Bool
 are_main Content [] = false
@@ -49,7 +49,7 @@ are_main-at Disposition text (a ∷ b ∷ more) = refl
 
 -- an atom, or one of the specials that an unquoted value may hold
 abbrev pub is_plain : TokenValue → Bool
-is_plain t = is_atom t.kind || list_any (λ mark. is_mark mark t) (codes "/[]?=")
+is_plain t = is_atom_kind t.kind || list_any (λ mark. is_mark mark t) (codes "/[]?=")
 
 abbrev pub is_quoted_string : List TokenValue → Bool
 is_quoted_string [] = false
@@ -71,7 +71,7 @@ quoted-at text [] = refl
 quoted-at text (a ∷ []) = refl
 quoted-at text (a ∷ b ∷ more) = refl
 
-pub content-at : (text : List ℕ) (tokens : List Token) → content (map (value_at text) tokens) ≡ content_of text tokens
+pub content-at : (text : List ℕ) (tokens : List Token) → content (map (value_at text) tokens) ≡ value_content text tokens
 content-at text tokens = rw (octets-at text tokens, quoted-at text tokens) refl
 
 plain-at : (text : List ℕ) (tokens : List Token) → list_all is_plain (map (value_at text) tokens) ≡ list_all (is_plain_token text) tokens
@@ -85,7 +85,7 @@ pub record IsCore (core : List TokenValue) (piece : Piece) : Type 0 where
   pub equals : TokenValue
   pub value : List TokenValue
   pub core_is : core ≡ atom ∷ equals ∷ value
-  pub is_name : is_atom atom.kind ≡ true
+  pub is_name : is_atom_kind atom.kind ≡ true
   pub is_equals : is_mark 61 equals ≡ true
   pub is_value : (is_quoted_string value || is_unquoted value) ≡ true
   pub parts : NameParts
@@ -181,7 +181,7 @@ core-IsPiece text section (a ∷ b ∷ v) core piece s e t is =
         atom = a;
         equals = b;
         tokens_are = s;
-        is_name = ap (λ (t : TokenValue). is_atom t.kind) atom ∙ is.is_name;
+        is_name = ap (λ (t : TokenValue). is_atom_kind t.kind) atom ∙ is.is_name;
         is_equals = ap (is_mark 61) equals ∙ is.is_equals;
         is_value = value_from text v touches (ap (λ r. is_quoted_string r || is_unquoted r) value ∙ is.is_value);
         name_is = refl;

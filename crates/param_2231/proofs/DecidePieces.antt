@@ -6,17 +6,17 @@ use Rattle.std.specs.Char.{digit_value}
 use Rattle.std.specs.List.{list_all}
 use Rattle.std.specs.Str.{str_to_ascii_lowercase}
 use Rattle.mail_wire.specs.Octets.{is_ascii}
-use Rattle.encoded_words.specs.Words.{is_name_octet}
+use Rattle.encoded_words.specs.Words.{is_token_octet}
 use Rattle.field_tokens.specs.declared.Token.{Token}
 use Rattle.field_tokens.specs.Tokens.{octets_at}
-use Rattle.field_tokens.specs.Squeezed.{run_octets}
+use Rattle.field_tokens.specs.Squeezed.{run_octets, is_atom_kind}
 use Rattle.param_grammar.specs.declared.ParamKind.{ParamKind}
 use Rattle.param_grammar.specs.Escapes.{EscapedItem, Plain, Escape, IsEscapedItem, item_spelling, IsEscaped, BeginsEscaped}
 use Rattle.param_grammar.specs.Extended.{IsExtended}
 use Rattle.mail_wire.specs.Numbers.{is_digit}
 use Rattle.encoded_words.proofs.Deciding.{cut_at}
 use Rattle.param_grammar.specs.Names.{leads_with_zero, IsNumber, NameParts, IsBase, HasNameParts, HasSuffix}
-use Rattle.param_grammar.specs.Bodies.{is_atom, is_mark_at, are_quoted, are_plain, is_parameter, is_main, is_filled, solid, sections_of, content_of, is_first, SaysOctets, IsParameterOf, IsPieceOf, IsPiece, ArePieces, IsBody}
+use Rattle.param_grammar.specs.Bodies.{is_mark_at, are_quoted, are_plain, is_parameter, is_main, is_filled, solid, sections_of, value_content, is_first, SaysOctets, IsParameterOf, IsPieceOf, IsPiece, ArePieces, IsBody}
 use Rattle.param_grammar.proofs.EscapeLemmas.{ReadsTo, ReadsTo-none, ReadsTo-push, IsEscaped-read, not-IsEscaped, BeginsEscaped-plain, BeginsEscaped-escape}
 use Rattle.param_grammar.proofs.ExtendedLemmas.{not-IsExtended-first, not-IsExtended-second, not-IsExtended-charset}
 use Rattle.param_grammar.proofs.NameLemmas.{not-HasSuffix, HasNameParts-made, not-HasNameParts-base, not-HasNameParts-behind}
@@ -83,7 +83,7 @@ decide_extended value = elim (cut_at 39 value) [
   | inr l ↦ inr (not-IsExtended-first value l)
   | inl a ↦ elim (cut_at 39 a.1) [
     | inr l ↦ inr (not-IsExtended-second value a.0 a.1 a.2.whole a.2.first l)
-    | inl b ↦ elim (cases_Bool (list_all is_name_octet a.0)) [
+    | inl b ↦ elim (cases_Bool (list_all is_token_octet a.0)) [
       | inr other ↦ inr (not-IsExtended-charset value a.0 a.1 a.2.whole a.2.first other)
       | inl name ↦ inl (a.0, b.1, record { language = b.0; spelled = a.2.whole ∙ ap (λ r. a.0 ++ 39 ∷ r) b.2.whole; charset_first = a.2.first; language_first = b.2.first; charset_is = name })
     ]
@@ -193,27 +193,27 @@ decide_parameter text [] = inr (λ name value p. omega (arith, ap length p.token
 decide_parameter text (a ∷ []) = inr (λ name value p. omega (arith, ap length p.tokens_are))
 decide_parameter text (a ∷ e ∷ value) = elim (cases_Bool (is_parameter text a e value)) [
   | inl is ↦
-      let all = and_parts (is_atom a.kind) (is_mark_at text 61 e && (are_quoted value || are_plain text value)) is in
+      let all = and_parts (is_atom_kind a.kind) (is_mark_at text 61 e && (are_quoted value || are_plain text value)) is in
       let behind = and_parts (is_mark_at text 61 e) (are_quoted value || are_plain text value) all.1 in
       inl (octets_at text a.span, value, record { atom = a; equals = e; tokens_are = refl; is_name = all.0; is_equals = behind.0; is_value = behind.1; name_is = refl })
   | inr other ↦ inr (λ name v p. both_ways (is_parameter text a e value) other (is_one v p.atom p.equals p.tokens_are p.is_name p.is_equals p.is_value))
 ]
   where
-    is_one : (v : List Token) (atom equals : Token) → a ∷ e ∷ value ≡ atom ∷ equals ∷ v → is_atom atom.kind ≡ true → is_mark_at text 61 equals ≡ true → (are_quoted v || are_plain text v) ≡ true
+    is_one : (v : List Token) (atom equals : Token) → a ∷ e ∷ value ≡ atom ∷ equals ∷ v → is_atom_kind atom.kind ≡ true → is_mark_at text 61 equals ≡ true → (are_quoted v || are_plain text v) ≡ true
         → is_parameter text a e value ≡ true
     is_one v atom equals same name mark said =
         let first : atom ≡ a = cc same in
         let second : equals ≡ e = cc same in
         let behind : v ≡ value = cc same in
         let made : is_parameter text atom equals v ≡ true
-        = and_from (is_atom atom.kind) (is_mark_at text 61 equals && (are_quoted v || are_plain text v)) name (and_from (is_mark_at text 61 equals) (are_quoted v || are_plain text v) mark said) in
+        = and_from (is_atom_kind atom.kind) (is_mark_at text 61 equals && (are_quoted v || are_plain text v)) name (and_from (is_mark_at text 61 equals) (are_quoted v || are_plain text v) mark said) in
         subst (λ t. is_parameter text t e value ≡ true) first
         (subst (λ t. is_parameter text atom t value ≡ true) second (subst (λ r. is_parameter text atom equals r ≡ true) behind made))
 
 decide_piece_of : (text name : List ℕ) (value : List Token) → Found (IsPieceOf text name value)
 decide_piece_of text name value = elim (decide_name name) [
   | inr none ↦ inr (λ piece is. none is.parts is.has_parts)
-  | inl n ↦ elim (decide_says n.0.is_extended (is_first n.0.number) (content_of text value)) [
+  | inl n ↦ elim (decide_says n.0.is_extended (is_first n.0.number) (value_content text value)) [
     | inr none ↦ inr (not-IsPieceOf-octets text name value n.0 n.1 none)
     | inl s ↦ inl (
       record { base = str_to_ascii_lowercase n.0.base; number = n.0.number; charset = s.0; octets = s.1; written = name ++ 61 ∷ run_octets text value },

@@ -7,7 +7,7 @@ use Rattle.std.specs.List.{AllByRecursion, flat_map, list_all}
 use Rattle.std.specs.Str.{str_to_ascii_lowercase}
 use Rattle.mail_wire.specs.Octets.{is_ascii}
 use Rattle.mail_wire.proofs.AllLemmas.{all-append, pass-append, pass-take, pass-drop, pass-front, pass-back}
-use Rattle.encoded_words.specs.Words.{is_name_octet}
+use Rattle.encoded_words.specs.Words.{is_token_octet}
 use Rattle.encoded_words.specs.private.Parts.{lacks}
 use Rattle.encoded_words.proofs.WrittenPieces.{both_hold}
 use Rattle.field_tokens.specs.declared.Style.TheVariants.{Mime}
@@ -57,7 +57,7 @@ core_name piece has =
 
 -- a charset and octets that can be written
 pub record IsGood (piece : Piece) : Type 0 where
-  pub names : list_all is_name_octet piece.charset ≡ true
+  pub names : list_all is_token_octet piece.charset ≡ true
   pub first : lacks 39 piece.charset ≡ true
   pub octets : list_all is_octet piece.octets ≡ true
 
@@ -69,9 +69,9 @@ content_octets value h = by (is_quoted_string value)
     by false = h
 
 says_good : (extended first : Bool) (said : List ℕ) (piece : Piece) → list_all is_octet said ≡ true → SaysOctets extended first said piece.charset piece.octets → IsGood piece
-says_good false first said piece h says = record { names = ap (list_all is_name_octet) says.0; first = ap (lacks 39) says.0; octets = ap (list_all is_octet) says.1 ∙ h }
+says_good false first said piece h says = record { names = ap (list_all is_token_octet) says.0; first = ap (lacks 39) says.0; octets = ap (list_all is_octet) says.1 ∙ h }
 says_good true false said piece h says =
-    record { names = ap (list_all is_name_octet) says.0; first = ap (lacks 39) says.0; octets = escaped-octets said piece.octets says.1 h }
+    record { names = ap (list_all is_token_octet) says.0; first = ap (lacks 39) says.0; octets = escaped-octets said piece.octets says.1 h }
 says_good true true said piece h says =
     let is = says.1 in
     let whole : list_all is_octet (piece.charset ++ 39 ∷ (is.language ++ 39 ∷ says.0)) ≡ true = sym (ap (list_all is_octet) is.spelled) ∙ h in
@@ -103,7 +103,7 @@ joined_writes : (parts : List Piece) → AllByRecursion IsGood parts → CanBeWr
 joined_writes parts all =
     let zeroth : AllByRecursion IsGood (numbered 0 parts) = all_filter IsGood (has_number 0) parts all in
     unit_writes (flat_map (λ (p : Piece). p.charset) (numbered 0 parts)) (flat_map (λ (p : Piece). p.octets) (first_parts (length parts) parts))
-    (flat_all is_name_octet (λ (p : Piece). p.charset) (numbered 0 parts) (λ p good. good.names) zeroth) (flat_all (λ x. not (x == 39)) (λ (p : Piece). p.charset) (numbered 0 parts) (λ p good. good.first) zeroth)
+    (flat_all is_token_octet (λ (p : Piece). p.charset) (numbered 0 parts) (λ p good. good.names) zeroth) (flat_all (λ x. not (x == 39)) (λ (p : Piece). p.charset) (numbered 0 parts) (λ p good. good.first) zeroth)
     (flat_all is_octet (λ (p : Piece). p.octets) (first_parts (length parts) parts) (λ p good. good.octets) (first_good (length parts) parts all))
 
 pub unit_at_writes : (all : List Piece) (p : Piece) → AllByRecursion IsGood all → IsGood p → CanBeWritten (unit_at all p)

@@ -16,14 +16,14 @@ use Rattle.field_tokens.specs.declared.TokenKind.{TokenKind}
 use Rattle.field_tokens.specs.declared.TokenKind.TheVariants.{Atom, Quoted, Literal, Special, Gap, Comment}
 use Rattle.field_tokens.specs.TokenOctets.{is_atom_octet}
 use Rattle.field_tokens.specs.Tokens.{TokenValue, AreTokens, IsLine, HasTokens, HasTokenValues, tokens_from, octets_at}
-use Rattle.field_tokens.specs.Squeezed.{is_blank, octets_of, words_of, comments_of}
+use Rattle.field_tokens.specs.Squeezed.{is_blank, octets_of, words_of, comments_of, is_atom_kind}
 use Rattle.field_tokens.specs.Comments.{CommentValue, CommentsSay}
 use Rattle.field_tokens.proofs.TokenLists.{AreTokens-once, HasTokens-once, token_at}
 use Rattle.field_tokens.proofs.TokenLines.{AreLineTokens, tokens_lines, line_none, line_append, ascii_line}
 use Rattle.field_tokens.proofs.Parts.{octets_of-tokens, comments_of-append, StopsBehind-append, octets_of-append}
 use Rattle.param_grammar.specs.declared.ParamKind.{ParamKind}
 use Rattle.param_grammar.specs.declared.ParamKind.TheVariants.{Content}
-use Rattle.param_grammar.specs.Bodies.{solid, is_atom, is_mark_at, IsBody}
+use Rattle.param_grammar.specs.Bodies.{solid, is_mark_at, IsBody}
 use Rattle.param_grammar.specs.Joining.{ParamValue, HasSaidBody, SaysParams}
 use Rattle.param_2231.specs.GlobalTypes.{HasSubtype, NamesGlobal, with_rfc822}
 use Rattle.param_grammar.proofs.BodyLemmas.{IsBody-once}
@@ -33,7 +33,7 @@ use Rattle.param_2231.proofs.GlobalPlaces.{solid-words, find_word, main_size, bo
 
 -- ---- the subtype is an atom
 
-pub kind_is : (kind : TokenKind) → is_atom kind ≡ true → kind ≡ Atom
+pub kind_is : (kind : TokenKind) → is_atom_kind kind ≡ true → kind ≡ Atom
 kind_is Atom e = refl
 kind_is Quoted e = cc e
 kind_is Literal e = cc e
@@ -165,7 +165,7 @@ subtype_there text main params body =
         slash = two.1;
         has = record { is_line = body.has_tokens.is_line; are_tokens = subst (λ ts. AreTokens Mime ts text) w.whole body.has_tokens.are_tokens };
         words = two.2;
-        is_word = (and_parts (is_atom w.word.kind) (list_all is_ascii (octets_at text (token_at place w.word).span)) found.subtype.second_word).0;
+        is_word = (and_parts (is_atom_kind w.word.kind) (list_all is_ascii (octets_at text (token_at place w.word).span)) found.subtype.second_word).0;
         at_is = refl;
       },
     )
@@ -230,7 +230,7 @@ atom_word text at a params body =
     let g = global_body text body.tokens (front_tokens text at a) (rest_tokens text at a) (placed_atom text at a) body.pieces (tokens_are text at a body.tokens body.has_tokens)
     (front_words text at a) refl body.is_body in
     let here = octets_between (octets_of a.front) a.octets (octets_of a.rest) text (length (octets_of a.front)) (text_is text at a) refl in
-    let ascii = (and_parts (is_atom Atom) (list_all is_ascii (octets_at text (placed_atom text at a).span)) g.is_ascii).1 in
+    let ascii = (and_parts (is_atom_kind Atom) (list_all is_ascii (octets_at text (placed_atom text at a).span)) g.is_ascii).1 in
     record { size = ap length (sym here) ∙ g.size; ascii = ap (list_all is_ascii) (sym here) ∙ ascii }
 
 atom_size : (text : List ℕ) (at : ℕ) (a : HasAtom text at) (params : List ParamValue) → HasSaidBody Content text (codes "message/global") params → length a.octets ≡ 6

@@ -12,10 +12,10 @@ use Rattle.encoded_words.specs.private.Parts.{lacks}
 use Rattle.encoded_words.proofs.Cuts.{not_in, rest_lacks}
 use Rattle.field_tokens.specs.declared.Token.{Token}
 use Rattle.field_tokens.specs.Tokens.{TokenValue, tokens_from, octets_at}
-use Rattle.field_tokens.specs.Squeezed.{is_blank, run_octets, words_of}
+use Rattle.field_tokens.specs.Squeezed.{is_blank, run_octets, words_of, is_atom_kind}
 use Rattle.param_grammar.specs.declared.ParamKind.TheVariants.{Content}
 use Rattle.param_grammar.specs.declared.Piece.{Piece}
-use Rattle.param_grammar.specs.Bodies.{solid, is_atom, is_ascii_atom, is_main, is_mark_at, IsBody, is_filled}
+use Rattle.param_grammar.specs.Bodies.{solid, is_ascii_atom, is_main, is_mark_at, IsBody, is_filled}
 use Rattle.param_2231.proofs.ChangedTokens.{IsSameAt, AreSameAt}
 use Rattle.param_2231.proofs.SameOctets.{all_filter, all_parts, split_alike, same_marks, same_mark, same_pieces, Behind, first_part}
 
@@ -246,9 +246,9 @@ body_changed text changed tokens tf tr t pieces e front rest size kept new is =
     let tail = (all_parts (IsSameAt text changed) s.mid found.behind.tail (subst (AreSameAt text changed) s.behind rest)).1 in
     let here : is_mark_at text 59 t ≡ is_mark_at changed 59 t = no_mark (octets_at text t.span) 59 octets.size ∙ sym (ap (λ o. bytes_eq o (59 ∷ [])) new) in
     let marks = all_with (λ x. is_mark_at text 59 x ≡ is_mark_at changed 59 x) tf tr t (same_marks text changed 59 tf front) here (same_marks text changed 59 tr rest) in
-    let atom = and_parts (is_atom t.kind) (list_all is_ascii (octets_at text t.span)) s.second_word in
-    let second : is_ascii_atom changed t ≡ true = and_from (is_atom t.kind) (list_all is_ascii (octets_at changed t.span)) atom.0 (ap (list_all is_ascii) new) in
-    let first : is_ascii_atom changed s.a ≡ true = subst (λ o. (is_atom s.a.kind && list_all is_ascii o) ≡ true) words.0 s.first_word in
+    let atom = and_parts (is_atom_kind t.kind) (list_all is_ascii (octets_at text t.span)) s.second_word in
+    let second : is_ascii_atom changed t ≡ true = and_from (is_atom_kind t.kind) (list_all is_ascii (octets_at changed t.span)) atom.0 (ap (list_all is_ascii) new) in
+    let first : is_ascii_atom changed s.a ≡ true = subst (λ o. (is_atom_kind s.a.kind && list_all is_ascii o) ≡ true) words.0 s.first_word in
     let slash : is_mark_at changed 47 s.b ≡ true = sym (same_mark text changed 47 s.b words.1.0) ∙ s.slash in
     let run : run_octets changed (s.a ∷ s.b ∷ t ∷ []) ≡ octets_at text s.a.span ++ (octets_at text s.b.span ++ (codes "rfc822" ++ [])) = rw (words.0, words.1.0, new) refl in
     record {

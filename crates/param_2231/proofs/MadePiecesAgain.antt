@@ -23,7 +23,7 @@ use Rattle.param_grammar.specs.Extended.{unit_of}
 use Rattle.param_grammar.specs.Names.{NameParts, HasNameParts, IsBase, IsNumber}
 use Rattle.param_grammar.specs.Bodies.{is_first, SaysOctets}
 use Rattle.param_grammar.specs.Joining.{decimal_value, has_number, numbered, first_parts}
-use Rattle.param_2231.specs.Layout.{number_digits, charset_of, octets_in, charset_part, AreParts, is_short, whole_piece, numbered_piece, numbered_pieces, ParamPieces}
+use Rattle.param_2231.specs.Layout.{number_digits, charset_of, octets_in, charset_part, AreSectionTexts, is_short, whole_piece, numbered_piece, numbered_pieces, ParamPieces}
 use Rattle.param_2231.specs.Layout.ParamPieces.{Whole, Parts}
 use Rattle.param_grammar.proofs.EscapeLemmas.{IsEscaped-escaped}
 use Rattle.param_2231.proofs.CoresAgain.{is_octet, CanStand, HasCore}
@@ -294,7 +294,7 @@ series_made name unit first parts can e =
       joined = ap (λ c. unit_of c (flat_map (λ (p : Piece). p.octets) (first_parts (length made) made))) charset ∙ ap (unit_of (charset_of unit)) octets ∙ can.again;
     }
 
-parts_made : (name : List ℕ) (unit : UnitValue) (n : ℕ) (parts : List (List ℕ)) → IsName name → CanBeWritten unit → AreParts unit parts → list_all is_octet (concat parts) ≡ true
+parts_made : (name : List ℕ) (unit : UnitValue) (n : ℕ) (parts : List (List ℕ)) → IsName name → CanBeWritten unit → AreSectionTexts unit parts → list_all is_octet (concat parts) ≡ true
     → AllByRecursion IsMade (part_pieces name unit n parts)
 parts_made name unit n [] is can are bytes = tt
 parts_made name unit n (part ∷ parts) is can are bytes =

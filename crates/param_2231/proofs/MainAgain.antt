@@ -11,11 +11,11 @@ use Rattle.field_tokens.specs.declared.Style.TheVariants.{Mime}
 use Rattle.field_tokens.specs.declared.Token.{Token}
 use Rattle.field_tokens.specs.declared.TokenKind.TheVariants.{Atom, Special}
 use Rattle.field_tokens.specs.Tokens.{IsToken, TokenValue, octets_at}
-use Rattle.field_tokens.specs.Squeezed.{run_octets, octets_of}
+use Rattle.field_tokens.specs.Squeezed.{run_octets, octets_of, is_atom_kind}
 use Rattle.field_tokens.proofs.SqueezedValues.{value_at, AreKept}
 use Rattle.param_grammar.specs.declared.ParamKind.{ParamKind}
 use Rattle.param_grammar.specs.declared.ParamKind.TheVariants.{Content, Disposition}
-use Rattle.param_grammar.specs.Bodies.{is_atom, is_main}
+use Rattle.param_grammar.specs.Bodies.{is_main}
 use Rattle.param_2231.specs.Layout.{is_global, written_main}
 use Rattle.param_2231.specs.ParamsReadBack.{served_main}
 use Rattle.param_2231.proofs.CoresAgain.{is_mark, is_ascii_name, are_main, are_main-at, octets-at, CanStand}
@@ -35,7 +35,7 @@ main_stands Content text (a ∷ b ∷ c ∷ d ∷ more) placed kept h = absurd (
 main_stands Disposition text [] placed kept h = absurd (true≢false (sym h))
 main_stands Disposition text (a ∷ b ∷ more) placed kept h = absurd (true≢false (sym h))
 main_stands Disposition text (a ∷ []) placed kept h =
-    let name = and_parts (is_atom a.kind) (list_all is_ascii (octets_at text a.span)) h in
+    let name = and_parts (is_atom_kind a.kind) (list_all is_ascii (octets_at text a.span)) h in
     record {
       stands = record {
         are_tokens = ([], refl, before_none a.kind (octets_at text a.span) (drop (a.span.at + a.span.len) text) placed.0.is_token, refl);
@@ -52,8 +52,8 @@ main_stands Content text (a ∷ b ∷ c ∷ []) placed kept h =
     let w : TokenValue = value_at text c in
     let one = and_parts (is_ascii_name v) (is_mark 47 (value_at text b) && is_ascii_name w) h in
     let two = and_parts (is_mark 47 (value_at text b)) (is_ascii_name w) one.1 in
-    let name = and_parts (is_atom a.kind) (list_all is_ascii v.octets) one.0 in
-    let other = and_parts (is_atom c.kind) (list_all is_ascii w.octets) two.1 in
+    let name = and_parts (is_atom_kind a.kind) (list_all is_ascii v.octets) one.0 in
+    let other = and_parts (is_atom_kind c.kind) (list_all is_ascii w.octets) two.1 in
     let mark : octets_at text b.span ≡ 47 ∷ [] = (bytes_eq-Decides (octets_at text b.span) (47 ∷ [])).0 two.0 in
     let rest : List ℕ = w.octets ++ [] in
     let b_is : IsToken Mime b.kind (47 ∷ []) (drop (b.span.at + b.span.len) text) = subst (λ o. IsToken Mime b.kind o (drop (b.span.at + b.span.len) text)) mark placed.1.0.is_token in

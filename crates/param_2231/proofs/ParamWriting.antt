@@ -7,7 +7,7 @@ use Rattle.std.specs.List.{concat}
 use Rattle.encoded_words.specs.Words.{UnitValue}
 use Rattle.field_tokens.specs.Comments.{AddsPieces}
 use Rattle.param_grammar.specs.Escapes.{escaped}
-use Rattle.param_2231.specs.Layout.{octets_in, IsPartOf, AreParts, charset_part, whole_piece, numbered_piece, numbered_pieces, is_short, ParamPieces, Whole, Parts, GivesWhere}
+use Rattle.param_2231.specs.Layout.{octets_in, IsPartOf, AreSectionTexts, charset_part, whole_piece, numbered_piece, numbered_pieces, is_short, ParamPieces, Whole, Parts, GivesWhere}
 use Rattle.param_2231.specs.private.Parts.{IsCuttable, IsWritableUnit, IsFitting}
 use Rattle.param_2231.proofs.PartLemmas.{fitting_short, fitting_long, AreParts-once, AreParts-some}
 
@@ -23,7 +23,7 @@ adds_whole name unit whole old new is put = record { pieces = whole_piece name u
 pub record WritesParts (name : List ℕ) (unit : UnitValue) (old mid : List (List ℕ)) (number : ℕ) (rest : List ℕ) : Type 0 where
   pub can : IsCuttable unit rest
   pub counted : number + length rest ≤ length (octets_in unit)
-  pub onward : (parts : List (List ℕ)) → AreParts unit parts → rest ≡ concat parts → AddsPieces (ParamPieces false name unit) old (mid ++ numbered_pieces name number parts)
+  pub onward : (parts : List (List ℕ)) → AreSectionTexts unit parts → rest ≡ concat parts → AddsPieces (ParamPieces false name unit) old (mid ++ numbered_pieces name number parts)
 
 pub WritesParts-first : (name : List ℕ) (unit : UnitValue) (first rest : List ℕ) (old mid : List (List ℕ)) → is_short unit ≡ false → octets_in unit ≡ first ++ rest → IsPartOf unit first rest
     → IsCuttable unit rest → mid ≡ old ++ numbered_piece name 0 (charset_part unit ++ escaped first) ∷ [] → WritesParts name unit old mid 1 rest
@@ -93,7 +93,7 @@ GivesWhere-once false false doubled written name unit ps qs a b = ParamPieces-on
 pub ParamPieces-some : (whole : Bool) (name : List ℕ) (unit : UnitValue) → IsWritableUnit unit → (pieces : List (List ℕ)) × ParamPieces whole name unit pieces
 ParamPieces-some whole name unit can = by (whole || is_short unit) refl
   where
-    parts_of : (parts : List (List ℕ)) → (whole || is_short unit) ≡ false → AreParts unit parts → octets_in unit ≡ concat parts → (pieces : List (List ℕ)) × ParamPieces whole name unit pieces
+    parts_of : (parts : List (List ℕ)) → (whole || is_short unit) ≡ false → AreSectionTexts unit parts → octets_in unit ≡ concat parts → (pieces : List (List ℕ)) × ParamPieces whole name unit pieces
     parts_of [] long are cut = let some = not_short_some unit (or_parts whole (is_short unit) long).1 in absurd (omega (arith, some, ap length cut))
     parts_of (first ∷ parts) long are cut = (numbered_piece name 0 (charset_part unit ++ escaped first) ∷ numbered_pieces name 1 parts, Parts first parts long are cut refl)
 

@@ -8,7 +8,7 @@ use Rattle.std.specs.Str.{IsUtf8, IsCharBoundary}
 use Rattle.encoded_words.specs.Words.{UnitValue, Text, Opaque}
 use Rattle.encoded_words.proofs.Chunks.{first_boundary}
 use Rattle.param_grammar.specs.Escapes.{is_attribute_octet, escaped_octet, escaped}
-use Rattle.param_2231.specs.Layout.{EndsPart, IsPartOf, AreParts}
+use Rattle.param_2231.specs.Layout.{EndsPart, IsPartOf, AreSectionTexts}
 use Rattle.param_2231.specs.private.Parts.{IsCuttable, IsFitting, IsLastBoundary, IsLastEnd}
 use Rattle.param_grammar.proofs.EscapeLemmas.{octet_length-plain, octet_length-escape}
 
@@ -198,7 +198,7 @@ IsPartOf-once unit p q rest more a b e =
         let small = is.fits in
         omega (arith, over, small, ap (λ xs. length (escaped xs)) front)
 
-pub AreParts-once : (unit : UnitValue) (ps qs : List (List ℕ)) → AreParts unit ps → AreParts unit qs → concat ps ≡ concat qs → ps ≡ qs
+pub AreParts-once : (unit : UnitValue) (ps qs : List (List ℕ)) → AreSectionTexts unit ps → AreSectionTexts unit qs → concat ps ≡ concat qs → ps ≡ qs
 AreParts-once unit [] [] a b e = refl
 AreParts-once unit [] (q ∷ qs) a b e = let some = b.0.some in absurd (omega (arith, some, ap length e, length-append q (concat qs)))
 AreParts-once unit (p ∷ ps) [] a b e = let some = a.0.some in absurd (omega (arith, some, ap length e, length-append p (concat ps)))
@@ -268,7 +268,7 @@ fitting_up_to octets (suc at) within = elim (cases_lt 60 (length (escaped (take 
 fitting_some : (octets : List ℕ) → (fits : ℕ) × IsFitting octets fits
 fitting_some octets = let r = fitting_up_to octets (length octets) (omega arith) in (r.0, record { bound = r.1; fits = r.2; most = r.3 })
 
-parts_by : (fuel : ℕ) (unit : UnitValue) (octets : List ℕ) → length octets ≤ fuel → IsCuttable unit octets → (parts : List (List ℕ)) × AreParts unit parts × (octets ≡ concat parts)
+parts_by : (fuel : ℕ) (unit : UnitValue) (octets : List ℕ) → length octets ≤ fuel → IsCuttable unit octets → (parts : List (List ℕ)) × AreSectionTexts unit parts × (octets ≡ concat parts)
 parts_by fuel unit [] enough can = ([], tt, refl)
 parts_by zero unit (x ∷ octets) enough can = absurd (omega (arith, enough))
 parts_by (suc fuel) unit (x ∷ octets) enough can =
@@ -284,5 +284,5 @@ parts_by (suc fuel) unit (x ∷ octets) enough can =
     let more = parts_by fuel unit (drop e.0 all) shorter (IsCuttable-drop unit all e.0 can e.1.ends) in
     (take e.0 all ∷ more.0, (subst (IsPartOf unit (take e.0 all)) more.2 is, more.1), whole ∙ ap (λ t. take e.0 all ++ t) more.2)
 
-pub AreParts-some : (unit : UnitValue) (octets : List ℕ) → IsCuttable unit octets → (parts : List (List ℕ)) × AreParts unit parts × (octets ≡ concat parts)
+pub AreParts-some : (unit : UnitValue) (octets : List ℕ) → IsCuttable unit octets → (parts : List (List ℕ)) × AreSectionTexts unit parts × (octets ≡ concat parts)
 AreParts-some unit octets can = parts_by (length octets) unit octets (omega arith) can

@@ -15,13 +15,13 @@ use Rattle.field_tokens.specs.declared.TokenKind.{TokenKind}
 use Rattle.field_tokens.specs.declared.TokenKind.TheVariants.{Atom, Quoted, Literal, Special, Gap, Comment}
 use Rattle.field_tokens.specs.TokenOctets.{is_atom_octet, is_line_octet}
 use Rattle.field_tokens.specs.Tokens.{IsToken, TokenValue, AreTokens, tokens_from, octets_at, HasTokens}
-use Rattle.field_tokens.specs.Squeezed.{is_blank, octets_of}
+use Rattle.field_tokens.specs.Squeezed.{is_blank, octets_of, is_atom_kind}
 use Rattle.field_tokens.proofs.TokenLists.{token_octets_some, token_at}
 use Rattle.field_tokens.proofs.Parts.{IsToken-alike, IsToken-before, stops_more, stops_front}
 use Rattle.field_tokens.proofs.SqueezedValues.{value_at, AreKept, kept_no_gap}
 use Rattle.param_grammar.specs.declared.ParamKind.{ParamKind}
 use Rattle.param_grammar.specs.declared.Piece.{Piece}
-use Rattle.param_grammar.specs.Bodies.{is_mark_at, solid, is_atom, is_filled, touches_first, touch, IsPiece, ArePieces, IsBody}
+use Rattle.param_grammar.specs.Bodies.{is_mark_at, solid, is_filled, touches_first, touch, IsPiece, ArePieces, IsBody}
 use Rattle.param_2231.proofs.CoresAgain.{is_mark, is_plain, is_quoted_string, is_unquoted, CanStand, HasCore, IsPiece-core, value_to, is_octet}
 use Rattle.param_2231.proofs.GlobalLemmas.{kind_is}
 use Rattle.param_2231.proofs.SameOctets.{all_filter, all_split}
@@ -71,7 +71,7 @@ before_none kind octets x is = IsToken-alike Mime kind octets x [] (λ p stops. 
 pub before_mark : (kind : TokenKind) (octets x : List ℕ) (m : ℕ) (rest : List ℕ) → is_blank kind ≡ false → is_atom_octet Mime m ≡ false → IsToken Mime kind octets x → IsToken Mime kind octets (m ∷ rest)
 before_mark kind octets x m rest kept a is = IsToken-before Mime kind octets (m ∷ rest) (kept_no_gap kind kept) a (before_none kind octets x is)
 
-pub atom_free : (kind : TokenKind) (octets rest : List ℕ) → is_atom kind ≡ true → IsToken Mime kind octets rest → octets ≡ 59 ∷ [] → ⊥
+pub atom_free : (kind : TokenKind) (octets rest : List ℕ) → is_atom_kind kind ≡ true → IsToken Mime kind octets rest → octets ≡ 59 ∷ [] → ⊥
 atom_free kind octets rest h is e =
     let atom = subst (λ k. IsToken Mime k octets rest) (kind_is kind h) is in
     true≢false (sym atom.1.passes ∙ ap (list_all (is_atom_octet Mime)) e)
@@ -85,7 +85,7 @@ free_of t n = elim (cases_Bool (is_mark 59 t)) [
 plain_free : (t : TokenValue) (rest : List ℕ) → is_plain t ≡ true → IsToken Mime t.kind t.octets rest → is_mark 59 t ≡ false
 plain_free t rest h is = free_of t (λ e.
     let special : list_any (λ mark. is_mark mark t) (codes "/[]?=") ≡ false = rw (e) refl in
-    atom_free t.kind t.octets rest (either (is_atom t.kind) (list_any (λ mark. is_mark mark t) (codes "/[]?=")) h special) is e)
+    atom_free t.kind t.octets rest (either (is_atom_kind t.kind) (list_any (λ mark. is_mark mark t) (codes "/[]?=")) h special) is e)
   where
     either : (a b : Bool) → (a || b) ≡ true → b ≡ false → a ≡ true
     either true b h n = refl
@@ -153,7 +153,7 @@ run_are_octets text [] placed = refl
 run_are_octets text (t ∷ ts) placed = pass-append is_octet (octets_at text t.span) (octets_of (map (value_at text) ts)) placed.0.octets (run_are_octets text ts placed.1)
 
 -- a name, an equals sign and a value
-pub parameter_stands : (text : List ℕ) (a e : Token) (v : List Token) → ArePlaced text (a ∷ e ∷ v) → AreKept (map (value_at text) (a ∷ e ∷ v)) → is_atom a.kind ≡ true → is_mark_at text 61 e ≡ true
+pub parameter_stands : (text : List ℕ) (a e : Token) (v : List Token) → ArePlaced text (a ∷ e ∷ v) → AreKept (map (value_at text) (a ∷ e ∷ v)) → is_atom_kind a.kind ≡ true → is_mark_at text 61 e ≡ true
     → touch v ≡ true → (is_quoted_string (map (value_at text) v) || is_unquoted (map (value_at text) v)) ≡ true → CanStand (map (value_at text) (a ∷ e ∷ v))
 parameter_stands text a e v placed kept name equals touches value =
     let mark : octets_at text e.span ≡ 61 ∷ [] = (bytes_eq-Decides (octets_at text e.span) (61 ∷ [])).0 equals in

@@ -5,9 +5,9 @@ use Rattle.std.specs.List.{AllByRecursion, list_all, list_any, slice_split, onto
 use Rattle.std.specs.Str.{bytes_eq}
 use Rattle.std.specs.Prelude.{codes}
 use Rattle.field_tokens.specs.declared.Token.{Token}
-use Rattle.field_tokens.specs.Squeezed.{is_blank, run_octets}
+use Rattle.field_tokens.specs.Squeezed.{is_blank, run_octets, is_atom_kind}
 use Rattle.param_grammar.specs.declared.Piece.{Piece}
-use Rattle.param_grammar.specs.Bodies.{is_mark_at, solid, is_atom, is_plain_token, touch, are_quoted, are_plain, content_of, IsParameterOf, is_first, SaysOctets, IsPieceOf, IsPiece, ArePieces, inner, unquoted}
+use Rattle.param_grammar.specs.Bodies.{is_mark_at, solid, is_plain_token, touch, are_quoted, are_plain, value_content, IsParameterOf, is_first, SaysOctets, IsPieceOf, IsPiece, ArePieces, inner, unquoted}
 use Rattle.param_2231.proofs.ChangedTokens.{IsSameAt, AreSameAt}
 
 -- ---- lists
@@ -82,7 +82,7 @@ same_run text changed [] all = refl
 same_run text changed (t ∷ ts) all = rw (all.0, same_run text changed ts all.1) refl
 
 same_plain_token : (text changed : List ℕ) (t : Token) → IsSameAt text changed t → is_plain_token text t ≡ is_plain_token changed t
-same_plain_token text changed t same = ap (λ o. is_atom t.kind || list_any (λ mark. bytes_eq o (mark ∷ [])) (codes "/[]?=")) same
+same_plain_token text changed t same = ap (λ o. is_atom_kind t.kind || list_any (λ mark. bytes_eq o (mark ∷ [])) (codes "/[]?=")) same
 
 same_plain_tokens : (text changed : List ℕ) (ts : List Token) → AreSameAt text changed ts → list_all (is_plain_token text) ts ≡ list_all (is_plain_token changed) ts
 same_plain_tokens text changed [] all = refl
@@ -93,7 +93,7 @@ same_plain : (text changed : List ℕ) (ts : List Token) → AreSameAt text chan
 same_plain text changed [] all = refl
 same_plain text changed (t ∷ ts) all = ap (λ b. b && touch (t ∷ ts)) (same_plain_tokens text changed (t ∷ ts) all)
 
-same_content : (text changed : List ℕ) (value : List Token) → AreSameAt text changed value → content_of text value ≡ content_of changed value
+same_content : (text changed : List ℕ) (value : List Token) → AreSameAt text changed value → value_content text value ≡ value_content changed value
 same_content text changed value all = ap (λ (r : List ℕ). cond (are_quoted value) (unquoted (inner r)) r) (same_run text changed value all)
 
 -- ---- pieces

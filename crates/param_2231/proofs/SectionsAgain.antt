@@ -11,7 +11,7 @@ use Rattle.mail_wire.specs.Spans.{Stops}
 use Rattle.field_tokens.specs.declared.Style.TheVariants.{Mime}
 use Rattle.field_tokens.specs.declared.Token.{Token}
 use Rattle.field_tokens.specs.declared.TokenKind.TheVariants.{Special, Comment}
-use Rattle.field_tokens.specs.Groups.{IsGroup}
+use Rattle.field_tokens.specs.Groups.{IsEnclosed}
 use Rattle.field_tokens.specs.TokenOctets.{is_atom_octet}
 use Rattle.field_tokens.specs.Tokens.{comment_marks, TokenValue, AreTokens, tokens_from}
 use Rattle.field_tokens.specs.Squeezed.{is_blank, octets_of, comments_of, space}
@@ -54,10 +54,10 @@ tail_ends : (c : List ℕ) (cs : List (List ℕ)) → EndsNoGap (record { kind =
 tail_ends c [] = refl
 tail_ends c (d ∷ cs) = tail_ends d cs
 
-comment_no_semicolon : (c : List ℕ) → IsGroup comment_marks c → is_mark 59 (record { kind = Comment; octets = c }) ≡ false
+comment_no_semicolon : (c : List ℕ) → IsEnclosed comment_marks c → is_mark 59 (record { kind = Comment; octets = c }) ≡ false
 comment_no_semicolon c is = rw (is.spelled) refl
 
-pub tail_is : (cs : List (List ℕ)) → AllByRecursion (IsGroup comment_marks) cs → IsTail (spaced cs)
+pub tail_is : (cs : List (List ℕ)) → AllByRecursion (IsEnclosed comment_marks) cs → IsTail (spaced cs)
 tail_is [] all = record { are_tokens = refl; stops = tt; blank = tt; no_semicolon = tt; ends = tt }
 tail_is (c ∷ cs) all =
     let more = tail_is cs all.1 in

@@ -12,7 +12,7 @@ use Rattle.std.specs.Fmt.{digit_glyph}
 use Rattle.std.specs.Str.{IsAscii, bytes_eq, is_utf8, str_to_ascii_lowercase}
 use Rattle.percent_encoding.specs.Percent.{percent_encode_byte}
 use Rattle.mail_wire.specs.Octets.{is_ascii}
-use Rattle.encoded_words.specs.Words.{UnitValue, Text, Opaque, is_name_octet}
+use Rattle.encoded_words.specs.Words.{UnitValue, Text, Opaque, is_token_octet}
 use Rattle.encoded_words.specs.private.Parts.{lacks}
 use Rattle.field_tokens.specs.declared.Style.TheVariants.{Mime}
 use Rattle.field_tokens.specs.TokenOctets.{is_atom_octet, is_line_octet}
@@ -95,11 +95,11 @@ escaped-some (x ∷ xs) some = omega (arith, some_escaped x, length-append (esca
 
 -- ---- names
 
-name_octet-word : (x : ℕ) → is_name_octet x ≡ true → is_word_octet x ≡ true
+name_octet-word : (x : ℕ) → is_token_octet x ≡ true → is_word_octet x ≡ true
 name_octet-word x h = grind (arith, nat_tests)
 
-pub names-words : (xs : List ℕ) → list_all is_name_octet xs ≡ true → list_all is_word_octet xs ≡ true
-names-words xs h = pass-weaker is_name_octet is_word_octet name_octet-word xs h
+pub names-words : (xs : List ℕ) → list_all is_token_octet xs ≡ true → list_all is_word_octet xs ≡ true
+names-words xs h = pass-weaker is_token_octet is_word_octet name_octet-word xs h
 
 digit-word : (x : ℕ) → is_digit x ≡ true → is_word_octet x ≡ true
 digit-word x h = grind (arith, nat_tests)
@@ -117,7 +117,7 @@ lower-all p lower (x ∷ xs) h =
 pub lower-word : (x : ℕ) → is_word_octet x ≡ true → is_word_octet (to_ascii_lowercase x) ≡ true
 lower-word x h = grind (arith, nat_tests)
 
-pub lower-name : (x : ℕ) → is_name_octet x ≡ true → is_name_octet (to_ascii_lowercase x) ≡ true
+pub lower-name : (x : ℕ) → is_token_octet x ≡ true → is_token_octet (to_ascii_lowercase x) ≡ true
 lower-name x h = grind (arith, nat_tests)
 
 pub lower-ascii : (x : ℕ) → is_ascii x ≡ true → is_ascii (to_ascii_lowercase x) ≡ true
@@ -137,7 +137,7 @@ lower-twice (x ∷ xs) = rw (lowercase-lowercase x, lower-twice xs) refl
 
 -- what is said of a charset and octets that are written
 pub record CanBeWritten (unit : UnitValue) : Type 0 where
-  pub names : list_all is_name_octet (charset_of unit) ≡ true
+  pub names : list_all is_token_octet (charset_of unit) ≡ true
   pub first : lacks 39 (charset_of unit) ≡ true
   pub octets : list_all is_octet (octets_in unit) ≡ true
   pub again : unit_of (charset_of unit) (octets_in unit) ≡ unit
@@ -175,7 +175,7 @@ text_again : (octets : List ℕ) → is_utf8 octets ≡ true → unit_of (codes 
 unfolding unit_of
 text_again octets u = cond-true _ _ _ (let t : is_text_of (codes "utf-8") octets ≡ true = rw (u) refl in t)
 
-pub unit_writes : (charset octets : List ℕ) → list_all is_name_octet charset ≡ true → lacks 39 charset ≡ true → list_all is_octet octets ≡ true → CanBeWritten (unit_of charset octets)
+pub unit_writes : (charset octets : List ℕ) → list_all is_token_octet charset ≡ true → lacks 39 charset ≡ true → list_all is_octet octets ≡ true → CanBeWritten (unit_of charset octets)
 unfolding unit_of
 unit_writes charset octets names first bytes = elim (cases_Bool (is_text_of (str_to_ascii_lowercase charset) octets)) [
   | inl t ↦ subst CanBeWritten (sym (cond-true _ _ _ t)) (record { names = refl; first = refl; octets = bytes; again = text_again octets (text_is_utf8 (str_to_ascii_lowercase charset) octets t) })
@@ -184,7 +184,7 @@ unit_writes charset octets names first bytes = elim (cases_Bool (is_text_of (str
       let back : unit_of name octets ≡ Opaque name octets [] =
       ap (λ n. if is_text_of n octets then Text octets else Opaque n octets []) (lower-twice charset) ∙ cond-false _ _ _ f in
       subst CanBeWritten (sym (cond-false _ _ _ f)) (record {
-        names = lower-all is_name_octet lower-name charset names;
+        names = lower-all is_token_octet lower-name charset names;
         first = lower-lacks 39 (omega arith) charset first;
         octets = bytes;
         again = back;

@@ -11,7 +11,7 @@ use Rattle.param_grammar.specs.Bodies.{IsBody, WritesBody}
 use Rattle.param_grammar.specs.Joining.{ParamValue, params_of, AreParams, HasSaidBody}
 use Rattle.param_grammar.proofs.BodyLemmas.{IsBody-once}
 use Rattle.param_2231.specs.Layout.{PiecesGive, with_semicolons, written_main, ParamsPieces}
-use Rattle.param_2231.specs.private.Given.{GiveBody, BodyPieces, AreNoBody, GiveComments}
+use Rattle.param_2231.specs.private.Given.{GiveBody, ValueBodyPieces, AreNoBody, GiveComments}
 use Rattle.param_2231.proofs.GivenLemmas.{by_tokens}
 
 -- ---- where there is none
@@ -37,7 +37,7 @@ GiveBody-made pieces main given made gives made_is = (gives.pieces, gives.holds,
 
 pub BodyPieces-made : (kind : ParamKind) (open_global : Bool) (text written main : List ℕ) (tokens : List Token) (pieces : List Piece) (made : List (List ℕ)) → WritesBody kind text tokens written pieces
     → ((params : List ParamValue) × AreParams pieces params) → main ≡ written_main open_global kind (str_to_ascii_lowercase written) written → GiveBody pieces main made
-    → BodyPieces kind open_global text tokens made
+    → ValueBodyPieces kind open_global text tokens made
 BodyPieces-made kind open_global text written main tokens pieces made w are main_is gives =
     let lower : List ℕ = str_to_ascii_lowercase written in
     record {
@@ -51,11 +51,11 @@ BodyPieces-made kind open_global text written main tokens pieces made w are main
 
 -- what is read as a body with parameters
 abbrev said_body : (kind : ParamKind) (open_global : Bool) (text : List ℕ) (tokens : List Token) (made : List (List ℕ)) → HasTokens Mime text tokens
-    → (b : BodyPieces kind open_global text tokens made) → HasSaidBody kind text b.main b.params
+    → (b : ValueBodyPieces kind open_global text tokens made) → HasSaidBody kind text b.main b.params
 said_body kind open_global text tokens made has b = record { tokens = tokens; has_tokens = has; pieces = b.pieces; is_body = b.is_body; are_params = b.are_params }
 
 pub ParamsPieces-made : (kind : ParamKind) (open_global : Bool) (text : List ℕ) (tokens : List Token) (made all : List (List ℕ)) → HasTokens Mime text tokens
-    → BodyPieces kind open_global text tokens made → AddsPieces (GiveComments text tokens) made all → ParamsPieces kind open_global text all
+    → ValueBodyPieces kind open_global text tokens made → AddsPieces (GiveComments text tokens) made all → ParamsPieces kind open_global text all
 ParamsPieces-made kind open_global text tokens made all has b adds = record {
   main = b.main;
   params = b.params;

@@ -12,7 +12,7 @@ use Rattle.field_tokens.specs.declared.Token.{Token}
 use Rattle.field_tokens.specs.declared.TokenKind.{TokenKind}
 use Rattle.field_tokens.specs.declared.TokenKind.TheVariants.{Atom, Quoted, Literal, Special, Gap, Comment}
 use Rattle.field_tokens.specs.Tokens.{IsToken, octets_at, HasTokens}
-use Rattle.field_tokens.specs.Squeezed.{is_blank, run_octets, octets_of}
+use Rattle.field_tokens.specs.Squeezed.{is_blank, run_octets, octets_of, is_atom_kind}
 use Rattle.field_tokens.specs.Comments.{AddsPieces}
 use Rattle.mail_wire.specs.Octets.{is_white}
 use Rattle.field_tokens.proofs.Parts.{octets_of-tokens}
@@ -20,7 +20,7 @@ use Rattle.field_tokens.proofs.SqueezedValues.{value_at, values_at, AreKept}
 use Rattle.param_grammar.specs.declared.ParamKind.{ParamKind}
 use Rattle.param_grammar.specs.declared.ParamKind.TheVariants.{Content, Disposition}
 use Rattle.param_grammar.specs.declared.Piece.{Piece}
-use Rattle.param_grammar.specs.Bodies.{is_atom, is_main, is_ascii_atom, is_mark_at}
+use Rattle.param_grammar.specs.Bodies.{is_main, is_ascii_atom, is_mark_at}
 use Rattle.encoded_words.specs.private.Values.{value_of}
 use Rattle.field_tokens.specs.Trees.{Tree}
 use Rattle.param_grammar.specs.declared.Param.{Param}
@@ -90,7 +90,7 @@ mark_kept Gap octets rest e is = absurd (true≢false (sym (subst (λ o. list_al
 mark_kept Comment octets rest e is = let same = heads 47 40 [] _ (sym e ∙ is.spelled) in absurd (omega (arith, same))
 
 atom_kept : (text : List ℕ) (t : Token) → is_ascii_atom text t ≡ true → is_blank t.kind ≡ false
-atom_kept text t h = ap is_blank (kind_is t.kind (and_parts (is_atom t.kind) _ h).0)
+atom_kept text t h = ap is_blank (kind_is t.kind (and_parts (is_atom_kind t.kind) _ h).0)
 
 main_kept : (kind : ParamKind) (text : List ℕ) (ts : List Token) → AllByRecursion (IsPlaced text) ts → is_main kind text ts ≡ true → AreKept (map (value_at text) ts)
 main_kept Content text [] placed h = tt

@@ -2,10 +2,9 @@
 use Rattle.std.specs.Prelude.{◌≡◌, ℕ, ◌+◌, true, List, [], ◌∷◌, ◌++◌, length, take, drop, codes}
 use Rattle.field_tokens.specs.declared.Style.TheVariants.{Mime}
 use Rattle.field_tokens.specs.Tokens.{TokenValue, HasTokenValues}
-use Rattle.field_tokens.specs.Squeezed.{octets_of, words_of}
+use Rattle.field_tokens.specs.Squeezed.{octets_of, words_of, is_atom_kind}
 use Rattle.field_tokens.specs.Comments.{CommentValue}
 use Rattle.param_grammar.specs.declared.ParamKind.TheVariants.{Content}
-use Rattle.param_grammar.specs.Bodies.{is_atom}
 use Rattle.param_grammar.specs.Joining.{ParamValue, SaysParams}
 
 -- the atom behind the slash of a Content-Type's main part stands at this place
@@ -17,7 +16,7 @@ pub record HasSubtype (text : List ℕ) (at : ℕ) : Type 0 where
   pub slash : TokenValue
   pub has : HasTokenValues Mime text (front ++ subtype ∷ rest)
   pub words : words_of front ≡ type ∷ slash ∷ []
-  pub is_word : is_atom subtype.kind ≡ true
+  pub is_word : is_atom_kind subtype.kind ≡ true
   pub at_is : at ≡ length (octets_of front)
 
 -- the text is a Content-Type whose main part is message/global, in any case, and `global` stands at this place

@@ -36,9 +36,9 @@ pub record IsPartOf (unit : UnitValue) (part rest : List ℕ) : Type 0 where
   pub ends : EndsPart unit (part ++ rest) (length part)
   pub most : (n : ℕ) → length part < n → EndsPart unit (part ++ rest) n → 60 < length (escaped (take n (part ++ rest)))
 
-abbrev pub AreParts : UnitValue → List (List ℕ) → Type 0
-AreParts unit [] = ⊤
-AreParts unit (part ∷ parts) = IsPartOf unit part (concat parts) × AreParts unit parts
+abbrev pub AreSectionTexts : UnitValue → List (List ℕ) → Type 0
+AreSectionTexts unit [] = ⊤
+AreSectionTexts unit (part ∷ parts) = IsPartOf unit part (concat parts) × AreSectionTexts unit parts
 
 -- `''` behind the charset: no language is given
 abbrev pub charset_part : UnitValue → List ℕ
@@ -70,7 +70,7 @@ is_short unit = not (nat_lt 60 (length (escaped (octets_in unit))))
 -- tells the charset.
 pub data ParamPieces (whole : Bool) (name : List ℕ) (unit : UnitValue) (pieces : List (List ℕ)) : Type 0 where
   Whole : (whole || is_short unit) ≡ true → pieces ≡ whole_piece name unit ∷ [] → ParamPieces whole name unit pieces
-  Parts : (first : List ℕ) (parts : List (List ℕ)) → (whole || is_short unit) ≡ false → AreParts unit (first ∷ parts) → octets_in unit ≡ first ++ concat parts
+  Parts : (first : List ℕ) (parts : List (List ℕ)) → (whole || is_short unit) ≡ false → AreSectionTexts unit (first ∷ parts) → octets_in unit ≡ first ++ concat parts
       → pieces ≡ numbered_piece name 0 (charset_part unit ++ escaped first) ∷ numbered_pieces name 1 parts → ParamPieces whole name unit pieces
 
 -- ---- all parameters

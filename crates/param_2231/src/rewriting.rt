@@ -10,7 +10,7 @@ ghost use Rattle.encoded_words.specs.Words.{Text};
 ghost use Rattle.encoded_words.specs.private.Values.{value_of};
 ghost use Rattle.param_2231.specs.private.Parts.{IsWritableUnit};
 ghost use Rattle.param_2231.specs.Layout.{GivesWhere, PiecesGive, with_semicolons as with_semicolons_of, is_global as is_global_of, written_main as written_main_of, ParamsPieces};
-ghost use Rattle.param_2231.specs.private.Given.{RoleGives, IsWritableRole, GiveBody, BodyPieces, AreNoBody, ended, GiveComments};
+ghost use Rattle.param_2231.specs.private.Given.{RoleGives, IsWritableRole, GiveBody, ValueBodyPieces, AreNoBody, ended, GiveComments};
 
 use crate::writing::push_param;
 use encoded_words::Unit;
@@ -241,7 +241,7 @@ fn body_pieces(
     tokens: &[Token],
     open_global: bool,
 ) -> Result<Option<Vec<Octets>>, Memory>
-    ensures found { IfOk result (λ o. IfSome o (λ made. BodyPieces kind open_global text.now tokens.now made.items)) }
+    ensures found { IfOk result (λ o. IfSome o (λ made. ValueBodyPieces kind open_global text.now tokens.now made.items)) }
     ensures none { IfOk result (λ o. IfNone o (AreNoBody kind text.now tokens.now)) }
 {
     let Some((main, pieces)) = read_parts(alloc, kind, text, tokens)? else {

@@ -12,7 +12,7 @@ use Rattle.param_grammar.specs.declared.ParamKind.{ParamKind}
 use Rattle.param_grammar.specs.declared.Piece.{Piece}
 use Rattle.param_grammar.specs.Escapes.{IsEscaped}
 use Rattle.param_grammar.specs.Names.{NameParts}
-use Rattle.param_grammar.specs.Bodies.{solid, is_filled, content_of, IsParameterOf, is_first, SaysOctets, IsPieceOf, IsPiece, ArePieces, HaveComments, HasBody, IsBody}
+use Rattle.param_grammar.specs.Bodies.{solid, is_filled, value_content, IsParameterOf, is_first, SaysOctets, IsPieceOf, IsPiece, ArePieces, HaveComments, HasBody, IsBody}
 use Rattle.param_grammar.specs.Joining.{ParamValue, params_of, HasParams}
 use Rattle.param_grammar.proofs.EscapeLemmas.{IsEscaped-once}
 use Rattle.param_grammar.proofs.ExtendedLemmas.{IsExtended-once}
@@ -42,9 +42,9 @@ made a b m n c d o p w x e f g h i = cc
 pub IsPieceOf-once : (text name : List ℕ) (value : List Token) (p q : Piece) → IsPieceOf text name value p → IsPieceOf text name value q → p ≡ q
 IsPieceOf-once text name value p q a b =
     let parts = HasNameParts-once name a.parts b.parts a.has_parts b.has_parts in
-    let moved : SaysOctets b.parts.is_extended (is_first b.parts.number) (content_of text value) p.charset p.octets =
-    subst (λ (n : NameParts). SaysOctets n.is_extended (is_first n.number) (content_of text value) p.charset p.octets) parts a.says in
-    let says = SaysOctets-once b.parts.is_extended (is_first b.parts.number) (content_of text value) p.charset p.octets q.charset q.octets moved b.says in
+    let moved : SaysOctets b.parts.is_extended (is_first b.parts.number) (value_content text value) p.charset p.octets =
+    subst (λ (n : NameParts). SaysOctets n.is_extended (is_first n.number) (value_content text value) p.charset p.octets) parts a.says in
+    let says = SaysOctets-once b.parts.is_extended (is_first b.parts.number) (value_content text value) p.charset p.octets q.charset q.octets moved b.says in
     made p.base q.base p.number q.number p.charset q.charset p.octets q.octets p.written q.written
     (a.base_is ∙ ap (λ (n : NameParts). str_to_ascii_lowercase n.base) parts ∙ sym b.base_is) (a.number_is ∙ ap (λ (n : NameParts). n.number) parts ∙ sym b.number_is) says.0 says.1
     (a.written_is ∙ sym b.written_is)

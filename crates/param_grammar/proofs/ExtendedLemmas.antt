@@ -3,7 +3,7 @@ use Rattle.std.proofs.Common.{◌≡◌, ℕ, Bool, true, false, List, [], ◌�
 use Rattle.std.proofs.lemmas.Bool.{true≢false}
 use Rattle.std.specs.List.{list_all}
 use Rattle.std.specs.Str.{is_utf8, str_to_ascii_lowercase}
-use Rattle.encoded_words.specs.Words.{is_name_octet}
+use Rattle.encoded_words.specs.Words.{is_token_octet}
 use Rattle.encoded_words.specs.private.Parts.{lacks}
 use Rattle.encoded_words.proofs.Cuts.{cut_once, not_lacking}
 use Rattle.encoded_words.proofs.Charsets.{or_nothing}
@@ -23,11 +23,11 @@ not-IsExtended-second value charset after cut first none cs text is =
     let once = value_cut value charset after cs text cut first is in
     not_lacking 39 is.language text (subst (λ xs. lacks 39 xs ≡ true) (sym once.1) none)
 
-pub not-IsExtended-charset : (value charset after : List ℕ) → value ≡ charset ++ 39 ∷ after → lacks 39 charset ≡ true → list_all is_name_octet charset ≡ false
+pub not-IsExtended-charset : (value charset after : List ℕ) → value ≡ charset ++ 39 ∷ after → lacks 39 charset ≡ true → list_all is_token_octet charset ≡ false
     → (cs text : List ℕ) → IsExtended value cs text → ⊥
 not-IsExtended-charset value charset after cut first none cs text is =
     let once = value_cut value charset after cs text cut first is in
-    true≢false (sym is.charset_is ∙ ap (list_all is_name_octet) once.0 ∙ none)
+    true≢false (sym is.charset_is ∙ ap (list_all is_token_octet) once.0 ∙ none)
 
 -- a value has one charset and one text
 pub IsExtended-once : (value c t d u : List ℕ) → IsExtended value c t → IsExtended value d u → (c ≡ d) × (t ≡ u)

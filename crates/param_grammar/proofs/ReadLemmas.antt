@@ -15,7 +15,7 @@ use Rattle.param_grammar.specs.declared.Piece.{Piece}
 use Rattle.param_grammar.specs.Escapes.{IsEscaped}
 use Rattle.param_grammar.specs.Extended.{IsExtended}
 use Rattle.param_grammar.specs.Names.{NameParts, HasNameParts}
-use Rattle.param_grammar.specs.Bodies.{unquoted, is_main, is_filled, HaveComments, IsBody, sections_of, solid, content_of, is_first, SaysOctets, SplitsSection, IsParameterOf, IsPieceOf, IsPiece, ArePieces, HasBody, WritesBody}
+use Rattle.param_grammar.specs.Bodies.{unquoted, is_main, is_filled, HaveComments, IsBody, sections_of, solid, value_content, is_first, SaysOctets, SplitsSection, IsParameterOf, IsPieceOf, IsPiece, ArePieces, HasBody, WritesBody}
 use Rattle.param_grammar.proofs.ExtendedLemmas.{IsExtended-once}
 use Rattle.param_grammar.proofs.NameLemmas.{HasNameParts-once}
 use Rattle.param_grammar.proofs.BodyLemmas.{piece_moved}
@@ -55,10 +55,10 @@ not-SaysOctets-more false first content e f none charset octets says = absurd (t
 not-SaysOctets-more true true content e f none charset octets says = absurd (true≢false f)
 
 pub not-IsPieceOf-octets : (text name : List ℕ) (value : List Token) (p : NameParts) → HasNameParts name p
-    → ((charset octets : List ℕ) → SaysOctets p.is_extended (is_first p.number) (content_of text value) charset octets → ⊥) → (piece : Piece) → IsPieceOf text name value piece → ⊥
+    → ((charset octets : List ℕ) → SaysOctets p.is_extended (is_first p.number) (value_content text value) charset octets → ⊥) → (piece : Piece) → IsPieceOf text name value piece → ⊥
 not-IsPieceOf-octets text name value p has none piece is =
     let parts = HasNameParts-once name is.parts p is.has_parts has in
-    none piece.charset piece.octets (subst (λ (n : NameParts). SaysOctets n.is_extended (is_first n.number) (content_of text value) piece.charset piece.octets) parts is.says)
+    none piece.charset piece.octets (subst (λ (n : NameParts). SaysOctets n.is_extended (is_first n.number) (value_content text value) piece.charset piece.octets) parts is.says)
 
 pub not-IsPiece-parameter : (text : List ℕ) (section solids : List Token) → solids ≡ solid section → ((name : List ℕ) (value : List Token) → IsParameterOf text solids name value → ⊥)
     → (piece : Piece) → IsPiece text section piece → ⊥

@@ -10,21 +10,13 @@ use Rattle.field_tokens.specs.declared.TokenKind.TheVariants.{Atom, Quoted, Lite
 use Rattle.field_tokens.specs.Tokens.{HasTokens, octets_at}
 use Rattle.field_tokens.specs.Trees.{Tree, tree_of, HasComment}
 use Rattle.field_tokens.specs.declared.Comment.{Comment as CommentOf}
-use Rattle.field_tokens.specs.Squeezed.{is_blank, is_comment, run_octets}
+use Rattle.field_tokens.specs.Squeezed.{is_blank, is_comment, run_octets, is_atom_kind}
 use Rattle.param_grammar.specs.declared.ParamKind.{ParamKind}
 use Rattle.param_grammar.specs.declared.ParamKind.TheVariants.{Content, Disposition}
 use Rattle.param_grammar.specs.declared.Piece.{Piece}
 use Rattle.param_grammar.specs.Escapes.{IsEscaped}
 use Rattle.param_grammar.specs.Extended.{IsExtended}
 use Rattle.param_grammar.specs.Names.{NameParts, HasNameParts}
-
-abbrev pub is_atom : TokenKind → Bool
-is_atom Atom = true
-is_atom Quoted = false
-is_atom Literal = false
-is_atom Special = false
-is_atom Gap = false
-is_atom Comment = false
 
 abbrev pub is_quoted : TokenKind → Bool
 is_quoted Quoted = true
@@ -47,7 +39,7 @@ abbrev pub solid : List Token → List Token
 solid tokens = filter (λ token. not (is_blank token.kind)) tokens
 
 abbrev pub is_ascii_atom : List ℕ → Token → Bool
-is_ascii_atom text token = is_atom token.kind && list_all is_ascii (octets_at text token.span)
+is_ascii_atom text token = is_atom_kind token.kind && list_all is_ascii (octets_at text token.span)
 
 -- The main part of a type is two atoms with a slash between them, and that of a disposition one atom.
 abbrev pub is_main : ParamKind → List ℕ → List Token → Bool
@@ -62,7 +54,7 @@ is_main Disposition text (a ∷ b ∷ more) = false
 
 -- an atom, or one of the specials that an unquoted value may hold
 abbrev pub is_plain_token : List ℕ → Token → Bool
-is_plain_token text token = is_atom token.kind || list_any (λ mark. is_mark_at text mark token) (codes "/[]?=")
+is_plain_token text token = is_atom_kind token.kind || list_any (λ mark. is_mark_at text mark token) (codes "/[]?=")
 
 -- no other token, or the next one stands directly behind the token
 abbrev pub touches_first : Token → List Token → Bool
@@ -96,19 +88,19 @@ abbrev pub inner : List ℕ → List ℕ
 inner octets = take (length octets - 2) (drop 1 octets)
 
 -- the octets of a value: what its quotes hold, where it is quoted
-abbrev pub content_of : List ℕ → List Token → List ℕ
-content_of text value = if are_quoted value then unquoted (inner (run_octets text value)) else run_octets text value
+abbrev pub value_content : List ℕ → List Token → List ℕ
+value_content text value = if are_quoted value then unquoted (inner (run_octets text value)) else run_octets text value
 
 -- these tokens stand as the name, the equals sign and the value of a parameter
 abbrev pub is_parameter : List ℕ → Token → Token → List Token → Bool
-is_parameter text atom equals value = is_atom atom.kind && (is_mark_at text 61 equals && (are_quoted value || are_plain text value))
+is_parameter text atom equals value = is_atom_kind atom.kind && (is_mark_at text 61 equals && (are_quoted value || are_plain text value))
 
 -- tokens that are no gaps and no comments are a parameter: a name, an equals sign and a value
 pub record IsParameterOf (text : List ℕ) (tokens : List Token) (name : List ℕ) (value : List Token) : Type 0 where
   pub atom : Token
   pub equals : Token
   pub tokens_are : tokens ≡ atom ∷ equals ∷ value
-  pub is_name : is_atom atom.kind ≡ true
+  pub is_name : is_atom_kind atom.kind ≡ true
   pub is_equals : is_mark_at text 61 equals ≡ true
   pub is_value : (are_quoted value || are_plain text value) ≡ true
   pub name_is : name ≡ octets_at text atom.span
@@ -128,7 +120,7 @@ SaysOctets true true content charset octets = (text : List ℕ) × IsExtended co
 pub record IsPieceOf (text name : List ℕ) (value : List Token) (piece : Piece) : Type 0 where
   pub parts : NameParts
   pub has_parts : HasNameParts name parts
-  pub says : SaysOctets parts.is_extended (is_first parts.number) (content_of text value) piece.charset piece.octets
+  pub says : SaysOctets parts.is_extended (is_first parts.number) (value_content text value) piece.charset piece.octets
   pub base_is : piece.base ≡ str_to_ascii_lowercase parts.base
   pub number_is : piece.number ≡ parts.number
   pub written_is : piece.written ≡ name ++ 61 ∷ run_octets text value

@@ -2,7 +2,7 @@
 use Rattle.std.specs.Prelude.{◌≡◌, ℕ, Bool, true, false, ◌&&◌, ◌||◌, if◌then◌else◌, List, [], ◌∷◌, ◌++◌}
 use Rattle.std.specs.List.{list_all}
 use Rattle.std.specs.Str.{is_utf8, str_to_ascii_lowercase}
-use Rattle.encoded_words.specs.Words.{UnitValue, Text, Opaque, gives_text, is_name_octet}
+use Rattle.encoded_words.specs.Words.{UnitValue, Text, Opaque, gives_text, is_token_octet}
 use Rattle.encoded_words.specs.private.Parts.{lacks}
 
 -- The value is a charset, a language and a text, with an apostrophe between two. The charset may be empty, and else is
@@ -12,7 +12,7 @@ pub record IsExtended (value charset text : List ℕ) : Type 0 where
   pub spelled : value ≡ charset ++ 39 ∷ (language ++ 39 ∷ text)
   pub charset_first : lacks 39 charset ≡ true
   pub language_first : lacks 39 language ≡ true
-  pub charset_is : list_all is_name_octet charset ≡ true
+  pub charset_is : list_all is_token_octet charset ≡ true
 
 abbrev pub is_nothing : List ℕ → Bool
 is_nothing [] = true

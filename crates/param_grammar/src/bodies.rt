@@ -7,7 +7,7 @@ ghost use Rattle.field_tokens.specs.Squeezed.{is_comment as is_comment_of, run_o
 ghost use Rattle.field_tokens.specs.Tokens.{HasTokens, IsTokenOf};
 ghost use Rattle.field_tokens.specs.Trees.{Tree, tree_of};
 ghost use Rattle.param_grammar.specs.declared.Piece.{Piece};
-ghost use Rattle.param_grammar.specs.Bodies.{inner as inner_of, unquoted as unquoted_of, content_of, are_quoted as are_quoted_of, are_plain as are_plain_of, solid as solid_of, is_main as is_main_of, is_filled as is_filled_of, sections_of, is_first as is_first_of, is_parameter as is_parameter_of, SaysOctets, IsParameterOf, IsPiece, IsPieceOf, ArePieces, HaveComments, IsBody, HasBody, PushesPiece, IsNoPiece, PushesComment, WritesBody};
+ghost use Rattle.param_grammar.specs.Bodies.{inner as inner_of, unquoted as unquoted_of, value_content, are_quoted as are_quoted_of, are_plain as are_plain_of, solid as solid_of, is_main as is_main_of, is_filled as is_filled_of, sections_of, is_first as is_first_of, is_parameter as is_parameter_of, SaysOctets, IsParameterOf, IsPiece, IsPieceOf, ArePieces, HaveComments, IsBody, HasBody, PushesPiece, IsNoPiece, PushesComment, WritesBody};
 
 use crate::escapes::read_escaped;
 use crate::extended::split_extended;
@@ -72,7 +72,7 @@ fn unquoted(alloc: Global, octets: &[u8]) -> Result<Octets, Memory>
 
 // The octets of a value.
 fn content(alloc: Global, text: &[u8], value: &[Token]) -> Result<Octets, Memory>
-    ensures { IfOk result (λ made. made ≡ content_of text.now value.now) }
+    ensures { IfOk result (λ made. made ≡ value_content text.now value.now) }
 {
     let octets = run_octets(alloc, text, value)?;
     if are_quoted(value) {

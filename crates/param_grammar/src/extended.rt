@@ -2,7 +2,7 @@
 ghost use Rattle.std.specs.Prelude.{◌≡◌, ℕ, true, List, IfOk, IfSome, IfNone};
 ghost use Rattle.std.specs.List.{list_all};
 ghost use Rattle.std.specs.Str.{str_to_ascii_lowercase};
-ghost use Rattle.encoded_words.specs.Words.{is_name_octet as is_name_octet_of, gives_text};
+ghost use Rattle.encoded_words.specs.Words.{is_token_octet as is_name_octet_of, gives_text};
 ghost use Rattle.encoded_words.specs.private.Values.{value_of};
 ghost use Rattle.param_grammar.specs.Extended.{IsExtended, is_text_of, unit_of as unit_value};
 

@@ -3,9 +3,9 @@ ghost use Rattle.std.specs.Prelude.{◌≡◌, ◌==◌, ◌+◌, ◌<◌, ◌�
 ghost use Rattle.std.specs.List.{list_all};
 ghost use Rattle.field_tokens.specs.declared.Token.{Token};
 ghost use Rattle.field_tokens.specs.Tokens.{octets_at};
-ghost use Rattle.field_tokens.specs.Squeezed.{run_octets as run_octets_of};
+ghost use Rattle.field_tokens.specs.Squeezed.{run_octets as run_octets_of, is_atom_kind as is_atom_of};
 ghost use Rattle.mail_wire.specs.Octets.{is_ascii as is_ascii_octet};
-ghost use Rattle.param_grammar.specs.Bodies.{is_atom as is_atom_of, is_quoted as is_quoted_of, is_mark_at, solid as solid_of, is_filled as is_filled_of, is_ascii_atom as is_ascii_atom_of, is_plain_token as is_plain_token_of, touch, touches_first, are_quoted as are_quoted_of, are_plain as are_plain_of, is_main as is_main_of, SplitsSection};
+ghost use Rattle.param_grammar.specs.Bodies.{is_quoted as is_quoted_of, is_mark_at, solid as solid_of, is_filled as is_filled_of, is_ascii_atom as is_ascii_atom_of, is_plain_token as is_plain_token_of, touch, touches_first, are_quoted as are_quoted_of, are_plain as are_plain_of, is_main as is_main_of, SplitsSection};
 
 use crate::ParamKind;
 use field_tokens::{Token, TokenKind, is_blank};

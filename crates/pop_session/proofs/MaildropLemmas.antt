@@ -5,7 +5,7 @@ use Rattle.std.specs.List.{AllByRecursion, IsDistinct, list_all}
 use Rattle.std.specs.Option.{option_map_or}
 use Rattle.std.proofs.lemmas.List.Sums.{sum_by-append, sum_by-cons}
 use Rattle.mail_store.specs.Changing.{is_live, expunged, expunge_refusal}
-use Rattle.mail_store.specs.Kept.{Kept, after, change_at, listed, name_of}
+use Rattle.mail_store.specs.Kept.{Kept, change_at, listed, name_of}
 use Rattle.mail_store.specs.Records.{IsLive}
 use Rattle.mail_store.specs.StoreState.{StoreState, with_records}
 use Rattle.mail_store.specs.declared.kept.Listed.{Listed}

@@ -14,7 +14,7 @@ use Rattle.pop_session.specs.declared.states.MaildropMessage.{MaildropMessage}
 use Rattle.pop_session.specs.Commands.{Command}
 use Rattle.mail_wire.specs.Numbers.{number_of}
 use Rattle.pop_session.specs.History.{after_command, after_commands, is_among, with_marks, marks_found, marks_by_number, marks_by, marks_after, IsMarked, IsQuit}
-use Rattle.pop_session.specs.Machine.{State, authorization, transaction, ended, marked, message_at, unmarked, inbox_messages, step, authorization_step, transaction_step, pass_step, dele_message, dele_step, quit_step, done, no_such_message}
+use Rattle.pop_session.specs.Machine.{State, authorization, transaction, ended, marked, listed_at, unmarked, inbox_messages, step, authorization_step, transaction_step, pass_step, dele_message, dele_step, quit_step, done, no_such_message}
 use Rattle.pop_session.specs.Session.{Machine}
 use Rattle.pop_session.proofs.ModeLemmas.{refused_not_done}
 
@@ -54,7 +54,7 @@ login_unmarked number (one ∷ listing) = ap (λ others. record { listed = one; 
 
 -- ---- one command
 
-found_marked : (mode : Mode) (listing : List Listed) (marks : List ℕ) (number : ℕ) (found : Option Listed) → found ≡ message_at (with_marks 1 marks listing) number
+found_marked : (mode : Mode) (listing : List Listed) (marks : List ℕ) (number : ℕ) (found : Option Listed) → found ≡ listed_at (with_marks 1 marks listing) number
     → IsMarked mode listing (marks_found number marks found) (dele_message mode (with_marks 1 marks listing) number found).state
 found_marked mode listing marks number None is = (refl, refl)
 found_marked mode listing marks zero (Some one) is = cc
@@ -63,7 +63,7 @@ found_marked mode listing marks (suc place) (Some one) is = (refl, mark_at 1 pla
 number_marked : (mode : Mode) (listing : List Listed) (marks : List ℕ) (number : Option ℕ)
     → IsMarked mode listing (marks_by_number listing marks number) (dele_step mode (with_marks 1 marks listing) number).state
 number_marked mode listing marks None = (refl, refl)
-number_marked mode listing marks (Some number) = found_marked mode listing marks number (message_at (with_marks 1 marks listing) number) refl
+number_marked mode listing marks (Some number) = found_marked mode listing marks number (listed_at (with_marks 1 marks listing) number) refl
 
 row_marked : (meanings : Meanings) (mode : Mode) (listing : List Listed) (marks : List ℕ) (store : StoreState) (word : Keyword) (argument : Option (List ℕ))
     → IsMarked mode listing (marks_by listing marks word argument) (transaction_step meanings mode (with_marks 1 marks listing) store word argument).state
@@ -161,7 +161,7 @@ found_answered mode maildrop marks number (Some one) = (λ same. refl, λ is. re
 pub dele_answered : (meanings : Meanings) (mode : Mode) (listing : List Listed) (marks : List ℕ) (store : StoreState) (text : List ℕ) (number : ℕ) → number_of text ≡ Some number
     → ((transaction_step meanings mode (with_marks 1 marks listing) store keyword.Dele (Some text)).reply ≡ done) ↔ (marks_by listing marks keyword.Dele (Some text) ≡ number ∷ marks)
 dele_answered meanings mode listing marks store text number is =
-    rw is (found_answered mode (with_marks 1 marks listing) marks number (message_at (with_marks 1 marks listing) number))
+    rw is (found_answered mode (with_marks 1 marks listing) marks number (listed_at (with_marks 1 marks listing) number))
 
 pub quit_is : (meanings : Meanings) (mode : Mode) (listing : List Listed) (marks : List ℕ) (store : StoreState) (command : Command)
     → let state = transaction mode (with_marks 1 marks listing) in IsQuit state command → step meanings state store command ≡ quit_step (with_marks 1 marks listing)

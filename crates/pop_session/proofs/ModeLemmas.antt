@@ -20,7 +20,7 @@ use Rattle.pop_session.specs.declared.states.MaildropMessage.{MaildropMessage}
 use Rattle.pop_session.specs.Commands.{Command, command_of}
 use Rattle.mail_wire.specs.Numbers.{number_of}
 use Rattle.pop_session.specs.History.{after_command, after_commands, commands_by, commands_up_to, commands_in, IsOfMode, is_utf8, enables, some_enables, mode_behind, IsQuit}
-use Rattle.pop_session.specs.Machine.{Part, line, shown, State, authorization, transaction, ended, done, out_of_order, syntax_error, message_at, step, authorization_step, transaction_step, dele_message, dele_step, pass_step}
+use Rattle.pop_session.specs.Machine.{ReplyPart, line, shown, State, authorization, transaction, ended, done, out_of_order, syntax_error, listed_at, step, authorization_step, transaction_step, dele_message, dele_step, pass_step}
 use Rattle.pop_session.specs.PopLaws.{step_quiet}
 use Rattle.pop_session.specs.Session.{Machine, pop_grammar, pop_protocol, turns_of, start_of, wants_in}
 
@@ -61,7 +61,7 @@ message_mode mode maildrop number (Some one) = refl
 
 dele_mode : (mode : Mode) (maildrop : List MaildropMessage) (number : Option ℕ) → IsOfMode mode (dele_step mode maildrop number).state
 dele_mode mode maildrop None = refl
-dele_mode mode maildrop (Some number) = message_mode mode maildrop number (message_at maildrop number)
+dele_mode mode maildrop (Some number) = message_mode mode maildrop number (listed_at maildrop number)
 
 transaction_mode : (meanings : Meanings) (mode : Mode) (maildrop : List MaildropMessage) (store : StoreState) (word : Keyword) (argument : Option (List ℕ))
     → IsOfMode mode (transaction_step meanings mode maildrop store word argument).state
@@ -158,12 +158,12 @@ abbrev pub left_by : Meanings → ℕ → Machine → List ℕ → Machine
 left_by meanings n machine octets = (turns (pop_protocol.next meanings) n machine octets).after
 
 -- the machine behind this turn and so many more
-abbrev pub left_behind : Meanings → ℕ → Machine → List ℕ → Option (Turn Machine (Act Part)) → Machine
+abbrev pub left_behind : Meanings → ℕ → Machine → List ℕ → Option (Turn Machine (Act ReplyPart)) → Machine
 left_behind meanings n machine octets first =
     (option_map_or (λ turn. behind turn.parts (turns (pop_protocol.next meanings) n turn.after turn.rest)) first (stay machine octets)).after
 
 long_line_ends : (meanings : Meanings) (n : ℕ) (store : StoreState) (octets : List ℕ) → left_by meanings n (at_end store) octets ≡ at_end store
-long_line_ends meanings n store octets = ap (λ (t : Turn Machine (Act Part)). t.after) (turns-stop (pop_protocol.next meanings) n (at_end store) octets refl)
+long_line_ends meanings n store octets = ap (λ (t : Turn Machine (Act ReplyPart)). t.after) (turns-stop (pop_protocol.next meanings) n (at_end store) octets refl)
 
 framed_left : (meanings : Meanings) (n : ℕ) (machine : Machine) (octets : List ℕ) (framed : Framed)
     → ((next : Machine) (rest : List ℕ) → IsLeft meanings next (commands_up_to n rest) (left_by meanings n next rest))
@@ -216,13 +216,13 @@ stream_keeps meanings machine octets goes_on =
 -- ---- which commands do so
 
 -- the first octet of a reply, where it has a line
-abbrev pub first_octet : List Part → ℕ
+abbrev pub first_octet : List ReplyPart → ℕ
 first_octet [] = 0
 first_octet (line [] ∷ parts) = 0
 first_octet (line (x ∷ rest) ∷ parts) = x
 first_octet (shown msg mode at len ∷ parts) = 0
 
-pub refused_not_done : (reply : List Part) → first_octet reply ≡ 45 → (reply ≡ done) → ⊥
+pub refused_not_done : (reply : List ReplyPart) → first_octet reply ≡ 45 → (reply ≡ done) → ⊥
 refused_not_done reply minus same = let differ : 45 ≡ 43 = sym minus ∙ ap first_octet same in omega (arith, differ)
 
 nothing_not_done : ([] ≡ done) → ⊥

@@ -27,9 +27,9 @@ use Rattle.pop_session.specs.declared.command.TopNumbers.{TopNumbers}
 use Rattle.pop_session.specs.declared.states.MaildropMessage.{MaildropMessage}
 use Rattle.pop_session.specs.declared.states.PopState.{PopState}
 use Rattle.pop_session.specs.Commands.{command_of}
-use Rattle.pop_session.specs.Machine.{Part, Step, acts_in, answers, dele_step, done, marked, unless_deleted, with_deleted, message_at, no_such_message, of_top, transaction, transaction_step, transaction_reply, step}
+use Rattle.pop_session.specs.Machine.{ReplyPart, Step, acts_in, answers, dele_step, done, marked, unless_deleted, with_deleted, listed_at, no_such_message, of_top, transaction, transaction_step, transaction_reply, step}
 use Rattle.pop_session.specs.Replies.{part_octets, reply_octets}
-use Rattle.pop_session.specs.Session.{PopStands, Takes, after_step, pop_grammar}
+use Rattle.pop_session.specs.Session.{PopStands, TakesStep, after_step, pop_grammar}
 use Rattle.pop_session.specs.States.{KnowsState, state_of, state_or_ended}
 use Rattle.pop_session.specs.private.Saturated.{saturated}
 
@@ -65,7 +65,7 @@ transaction_step-other meanings mode maildrop store keyword.Other argument is = 
 -- a reply, and nothing is changed
 pub takes_reply : (a b : Around) (result : Result (Option PopState) Fault) (taken : Meanings → Step) → ((meanings : Meanings) → (taken meanings).changes ≡ [])
     → WithMeanings (λ meanings. Replies a b (fault_of result) (reply_octets meanings (taken meanings).reply)) → WithMeanings (λ meanings. IfOk result (λ next. state_or_ended next ≡ (taken meanings).state))
-    → IfOk result (λ next. KnowsState b.desk.store (state_or_ended next)) → Takes a b result taken
+    → IfOk result (λ next. KnowsState b.desk.store (state_or_ended next)) → TakesStep a b result taken
 takes_reply a b result taken none replies next known = record {
   does = λ meanings are. rw (none meanings) (Does-replies (part_octets meanings) a b (fault_of result) (taken meanings).reply (replies meanings are));
   next = next;
@@ -74,11 +74,11 @@ takes_reply a b result taken none replies next known = record {
 
 -- or a fault in it
 pub takes_failed : (a b : Around) (met : Fault) (taken : Meanings → Step) → ((meanings : Meanings) → (taken meanings).changes ≡ [])
-    → WithMeanings (λ meanings. Replies a b (Some met) (reply_octets meanings (taken meanings).reply)) → Takes a b (Err met) taken
+    → WithMeanings (λ meanings. Replies a b (Some met) (reply_octets meanings (taken meanings).reply)) → TakesStep a b (Err met) taken
 takes_failed a b met taken none replies = takes_reply a b (Err met) taken none replies (λ meanings are. tt) tt
 
 -- a fault before it
-pub takes_stop : (a : Around) (met : Fault) (taken : Meanings → Step) → (met ≡ fault.Keeper → ⊥) → Takes a a (Err met) taken
+pub takes_stop : (a : Around) (met : Fault) (taken : Meanings → Step) → (met ≡ fault.Keeper → ⊥) → TakesStep a a (Err met) taken
 takes_stop a met taken fine = record {
   does = λ meanings are. DoesFirst-none (part_octets meanings) a met (acts_in (taken meanings)) fine;
   next = λ meanings are. tt;
@@ -86,7 +86,7 @@ takes_stop a met taken fine = record {
 }
 
 -- the same of a step that is told otherwise
-pub takes_as : (a b : Around) (result : Result (Option PopState) Fault) (taken other : Meanings → Step) → ((meanings : Meanings) → other meanings ≡ taken meanings) → Takes a b result taken → Takes a b result other
+pub takes_as : (a b : Around) (result : Result (Option PopState) Fault) (taken other : Meanings → Step) → ((meanings : Meanings) → other meanings ≡ taken meanings) → TakesStep a b result taken → TakesStep a b result other
 takes_as a b result taken other same takes = record {
   does = λ meanings are. rw (same meanings) (takes.does meanings are);
   next = λ meanings are. rw (same meanings) (takes.next meanings are);
@@ -103,12 +103,12 @@ row_done : (meanings : Meanings) (a b : Around) (result : Result (Option PopStat
     → IfOk result (λ next. state_or_ended next ≡ taken.state)
     → AnswersBy pop_grammar PopStands meanings a b result more (record { acts = acts_in taken; after = after_step a.desk.store taken })
 row_done meanings a b (Ok found) more taken does next =
-    record { does = does; next = stands_behind a b found taken more next (rw (changes_in-acts {P = Part} taken.changes taken.reply) at does.follows.store) }
+    record { does = does; next = stands_behind a b found taken more next (rw (changes_in-acts {P = ReplyPart} taken.changes taken.reply) at does.follows.store) }
 row_done meanings a b (Err met) more taken does next = record { does = does; next = tt }
 
 -- the step of a line is its row
 pub answers_step : (a b : Around) (session : PopState) (text : List ℕ) (result : Result (Option PopState) Fault)
-    → Takes a b result (λ meanings. step meanings (state_of session) a.desk.store (command_of text)) → Answers pop_grammar PopStands a b session text result
+    → TakesStep a b result (λ meanings. step meanings (state_of session) a.desk.store (command_of text)) → Answers pop_grammar PopStands a b session text result
 answers_step a b session text result takes = record {
   told = [];
   are_told = All-nil (IsTold a.clock);
@@ -121,12 +121,12 @@ answers_step a b session text result takes = record {
 -- ---- TOP
 
 -- a number past the end, and one that was brought down to the greatest of 64 bits, name nothing
-past_end : (maildrop : List MaildropMessage) (n : ℕ) → length maildrop < n → message_at maildrop n ≡ None
+past_end : (maildrop : List MaildropMessage) (n : ℕ) → length maildrop < n → listed_at maildrop n ≡ None
 past_end maildrop zero past = absurd (omega arith)
 past_end maildrop (suc place) past = rw (slice_get_past maildrop place (omega arith)) refl
 
-capped_by : (maildrop : List MaildropMessage) (n : ℕ) → length maildrop * 16 < 9223372036854775808 → (n ≤ 2 ^ 64 - 1) ⊎ (2 ^ 64 - 1 ≤ n) → message_at maildrop (min n (2 ^ 64 - 1)) ≡ message_at maildrop n
-capped_by maildrop n small (inl low) = ap (message_at maildrop) (min-eq_left low)
+capped_by : (maildrop : List MaildropMessage) (n : ℕ) → length maildrop * 16 < 9223372036854775808 → (n ≤ 2 ^ 64 - 1) ⊎ (2 ^ 64 - 1 ≤ n) → listed_at maildrop (min n (2 ^ 64 - 1)) ≡ listed_at maildrop n
+capped_by maildrop n small (inl low) = ap (listed_at maildrop) (min-eq_left low)
 capped_by maildrop n small (inr high) = past_end maildrop (min n (2 ^ 64 - 1)) (omega arith) ∙ sym (past_end maildrop n (omega arith))
 
 at_most : (n m : ℕ) → (n ≤ m) ⊎ (m ≤ n)
@@ -137,37 +137,37 @@ at_most n m = decide (nat_le n m) refl
     decide false is = inr (grind (arith, nat_tests))
 
 -- a maildrop has no message of so great a number
-capped_at : (maildrop : List MaildropMessage) (n : ℕ) → length maildrop * 16 < 9223372036854775808 → message_at maildrop (min n (2 ^ 64 - 1)) ≡ message_at maildrop n
+capped_at : (maildrop : List MaildropMessage) (n : ℕ) → length maildrop * 16 < 9223372036854775808 → listed_at maildrop (min n (2 ^ 64 - 1)) ≡ listed_at maildrop n
 capped_at maildrop n small = capped_by maildrop n small (at_most n (2 ^ 64 - 1))
 
 same_numbers : (numbers n : TopNumbers) → Some numbers ≡ Some (saturated n) → numbers ≡ saturated n
 same_numbers numbers n h = cc
 
 -- TOP of a message that isn't there
-pub top-missing : (row : ℕ → ℕ → Listed → List Part) (maildrop : List MaildropMessage) (found : Option TopNumbers) (numbers : TopNumbers) → length maildrop * 16 < 9223372036854775808
-    → Some numbers ≡ option_map saturated found → None ≡ message_at maildrop numbers.number → of_top row maildrop found ≡ no_such_message
+pub top-missing : (row : ℕ → ℕ → Listed → List ReplyPart) (maildrop : List MaildropMessage) (found : Option TopNumbers) (numbers : TopNumbers) → length maildrop * 16 < 9223372036854775808
+    → Some numbers ≡ option_map saturated found → None ≡ listed_at maildrop numbers.number → of_top row maildrop found ≡ no_such_message
 top-missing row maildrop None numbers small is missing = cc
 top-missing row maildrop (Some n) numbers small is missing =
     let number = ap (λ (t : TopNumbers). t.number) (same_numbers numbers n is) in
-    let none : message_at maildrop n.number ≡ None = sym (capped_at maildrop n.number small) ∙ ap (message_at maildrop) (sym number) ∙ sym missing in
+    let none : listed_at maildrop n.number ≡ None = sym (capped_at maildrop n.number small) ∙ ap (listed_at maildrop) (sym number) ∙ sym missing in
     rw none refl
 
 -- the message that TOP was asked for, and its two numbers as they were written
 pub record TopFound (maildrop : List MaildropMessage) (found : Option TopNumbers) (numbers : TopNumbers) (one : Listed) : Type 0 where
   pub written : TopNumbers
   pub found_is : found ≡ Some written
-  pub message : message_at maildrop written.number ≡ Some one
+  pub message : listed_at maildrop written.number ≡ Some one
   pub lines : min written.lines (2 ^ 64 - 1) ≡ numbers.lines
 
 pub top-found : (maildrop : List MaildropMessage) (found : Option TopNumbers) (numbers : TopNumbers) (one : Listed) → length maildrop * 16 < 9223372036854775808
-    → Some numbers ≡ option_map saturated found → Some one ≡ message_at maildrop numbers.number → TopFound maildrop found numbers one
+    → Some numbers ≡ option_map saturated found → Some one ≡ listed_at maildrop numbers.number → TopFound maildrop found numbers one
 top-found maildrop None numbers one small is message = cc
 top-found maildrop (Some n) numbers one small is message =
     let number = ap (λ (t : TopNumbers). t.number) (same_numbers numbers n is) in
     record {
       written = n;
       found_is = refl;
-      message = sym (capped_at maildrop n.number small) ∙ ap (message_at maildrop) (sym number) ∙ sym message;
+      message = sym (capped_at maildrop n.number small) ∙ ap (listed_at maildrop) (sym number) ∙ sym message;
       lines = sym (ap (λ (t : TopNumbers). t.lines) (same_numbers numbers n is));
     }
 
@@ -178,16 +178,16 @@ found_within_by maildrop place one None is message = cc
 found_within_by maildrop place one (Some x) is message = slice_get_within maildrop place x is
 
 -- a message that was found is there
-pub found_within : (maildrop : List MaildropMessage) (number : ℕ) (one : Listed) → message_at maildrop number ≡ Some one → number - 1 < length maildrop
+pub found_within : (maildrop : List MaildropMessage) (number : ℕ) (one : Listed) → listed_at maildrop number ≡ Some one → number - 1 < length maildrop
 found_within maildrop zero one message = cc
 found_within maildrop (suc place) one message = let inside = found_within_by maildrop place one (slice_get maildrop place) refl message in omega (arith, inside)
 
 -- and is marked at its place
-pub marked_at : (maildrop : List MaildropMessage) (number : ℕ) (one : Listed) → message_at maildrop number ≡ Some one → with_deleted number maildrop ≡ change_at (marked true) maildrop (number - 1)
+pub marked_at : (maildrop : List MaildropMessage) (number : ℕ) (one : Listed) → listed_at maildrop number ≡ Some one → with_deleted number maildrop ≡ change_at (marked true) maildrop (number - 1)
 marked_at maildrop zero one message = cc
 marked_at maildrop (suc place) one message = let same : place ≡ suc place - 1 = omega arith in ap (change_at (marked true) maildrop) same
 
 -- the step of such a DELE
-pub dele_found : (mode : Mode) (maildrop : List MaildropMessage) (number : Option ℕ) (n : ℕ) (one : Listed) → number ≡ Some n → message_at maildrop n ≡ Some one
+pub dele_found : (mode : Mode) (maildrop : List MaildropMessage) (number : Option ℕ) (n : ℕ) (one : Listed) → number ≡ Some n → listed_at maildrop n ≡ Some one
     → dele_step mode maildrop number ≡ answers done (transaction mode (change_at (marked true) maildrop (n - 1)))
 dele_found mode maildrop number n one is message = rw (is, message) (ap (λ m. answers done (transaction mode m)) (marked_at maildrop n one message))

@@ -12,25 +12,25 @@ use Rattle.session_core.specs.declared.rows.Wants.{Wants}
 use Rattle.session_core.proofs.DoneLemmas.{changes_in-acts}
 use Rattle.session_core.proofs.StoreTurns.{Tracks, all_track}
 use Rattle.pop_session.specs.Commands.{command_of}
-use Rattle.pop_session.specs.Machine.{Part, step}
+use Rattle.pop_session.specs.Machine.{ReplyPart, step}
 use Rattle.pop_session.specs.Session.{Machine, line_too_long, pop_grammar, pop_protocol, turns_of, wants_in}
 
-unsome : {a b : Turn Machine (Act Part)} → Some a ≡ Some b → a ≡ b
+unsome : {a b : Turn Machine (Act ReplyPart)} → Some a ≡ Some b → a ≡ b
 unsome h = cc
 
 -- the changes of a step are those of its acts
-with_changes : (store : StoreState) (made : List (List Record)) (reply : List Part) → with_records store (records_of made) ≡ with_records store (records_of (changes_in (acts_of made reply)))
+with_changes : (store : StoreState) (made : List (List Record)) (reply : List ReplyPart) → with_records store (records_of made) ≡ with_records store (records_of (changes_in (acts_of made reply)))
 with_changes store made reply = ap (λ (changes : List (List Record)). with_records store (records_of changes)) (sym (changes_in-acts made reply))
 
-unit_tracks : (meanings : Meanings) (machine : Machine) (framed : Framed) (turn : Turn Machine (Act Part)) → turn_by pop_grammar meanings machine framed ≡ Some turn → Tracks (λ (m : Machine). m.store) machine turn
+unit_tracks : (meanings : Meanings) (machine : Machine) (framed : Framed) (turn : Turn Machine (Act ReplyPart)) → turn_by pop_grammar meanings machine framed ≡ Some turn → Tracks (λ (m : Machine). m.store) machine turn
 unit_tracks meanings machine waiting turn is = cc
 unit_tracks meanings machine (whole text rest) turn is =
     let taken = step meanings machine.state machine.store (command_of text) in
-    subst (λ (t : Turn Machine (Act Part)). Tracks (λ (m : Machine). m.store) machine t) (unsome is) (with_changes machine.store taken.changes taken.reply)
+    subst (λ (t : Turn Machine (Act ReplyPart)). Tracks (λ (m : Machine). m.store) machine t) (unsome is) (with_changes machine.store taken.changes taken.reply)
 unit_tracks meanings machine (too_long rest) turn is =
-    subst (λ (t : Turn Machine (Act Part)). Tracks (λ (m : Machine). m.store) machine t) (unsome is) (with_changes machine.store [] line_too_long)
+    subst (λ (t : Turn Machine (Act ReplyPart)). Tracks (λ (m : Machine). m.store) machine t) (unsome is) (with_changes machine.store [] line_too_long)
 
-turn_tracks : (meanings : Meanings) (machine : Machine) (want : Option Wants) (octets : List ℕ) (turn : Turn Machine (Act Part)) → turn_in pop_grammar meanings machine want octets ≡ Some turn
+turn_tracks : (meanings : Meanings) (machine : Machine) (want : Option Wants) (octets : List ℕ) (turn : Turn Machine (Act ReplyPart)) → turn_in pop_grammar meanings machine want octets ≡ Some turn
     → Tracks (λ (m : Machine). m.store) machine turn
 turn_tracks meanings machine None octets turn is = cc
 turn_tracks meanings machine (Some want) octets turn is = unit_tracks meanings machine (cut_by want octets) turn is

@@ -13,7 +13,7 @@ use Rattle.pop_session.specs.declared.stuffing.Place.TheVariants.{LineStart, Aft
 use Rattle.pop_session.specs.declared.top.Scan.{Scan}
 use Rattle.pop_session.specs.Machine.{top_lines, top_length}
 use Rattle.pop_session.specs.private.Stuffing.{is_start, is_after_cr}
-use Rattle.pop_session.specs.private.Top.{begin, is_ended, behind, all_behind, count_from}
+use Rattle.pop_session.specs.private.Top.{begin, is_ended, behind_octet, all_behind, count_from}
 use Rattle.pop_session.proofs.StuffedPieces.{IsRead}
 
 -- ---- pieces
@@ -31,7 +31,7 @@ behind_ended scan (x ∷ octets) ended = rw ended refl
 -- no more is shown than is there
 pub count_from-le : (scan : Scan) (octets : List ℕ) → count_from scan octets ≤ length octets
 count_from-le scan [] = omega arith
-count_from-le scan (x ∷ octets) = let more = count_from-le (behind scan x) octets in by_end (is_ended scan) (count_from (behind scan x) octets) more
+count_from-le scan (x ∷ octets) = let more = count_from-le (behind_octet scan x) octets in by_end (is_ended scan) (count_from (behind_octet scan x) octets) more
   where
     by_end : (b : Bool) (n : ℕ) → n ≤ length octets → cond b 0 (suc n) ≤ suc (length octets)
     by_end true n low = omega arith
@@ -40,9 +40,9 @@ count_from-le scan (x ∷ octets) = let more = count_from-le (behind scan x) oct
 -- two pieces, one after the other
 pub count_from-append : (scan : Scan) (xs ys : List ℕ) → count_from scan (xs ++ ys) ≡ count_from scan xs + count_from (all_behind scan xs) ys
 count_from-append scan [] ys = omega arith
-count_from-append scan (x ∷ xs) ys = by_end (is_ended scan) refl (count_from-append (behind scan x) xs ys)
+count_from-append scan (x ∷ xs) ys = by_end (is_ended scan) refl (count_from-append (behind_octet scan x) xs ys)
   where
-    by_end : (b : Bool) → is_ended scan ≡ b → count_from (behind scan x) (xs ++ ys) ≡ count_from (behind scan x) xs + count_from (all_behind (behind scan x) xs) ys
+    by_end : (b : Bool) → is_ended scan ≡ b → count_from (behind_octet scan x) (xs ++ ys) ≡ count_from (behind_octet scan x) xs + count_from (all_behind (behind_octet scan x) xs) ys
         → count_from scan (x ∷ xs ++ ys) ≡ count_from scan (x ∷ xs) + count_from (all_behind scan (x ∷ xs)) ys
     by_end true is more = rw is (omega (arith, count_ended scan ys is))
     by_end false is more = rw is (omega (arith, more))
@@ -50,9 +50,9 @@ count_from-append scan (x ∷ xs) ys = by_end (is_ended scan) refl (count_from-a
 -- a piece that isn't shown whole has the end
 pub ended_by : (scan : Scan) (xs : List ℕ) → count_from scan xs ≢ length xs → is_ended (all_behind scan xs) ≡ true
 ended_by scan [] short = absurd (short refl)
-ended_by scan (x ∷ xs) short = by_end (is_ended scan) refl (ended_by (behind scan x) xs)
+ended_by scan (x ∷ xs) short = by_end (is_ended scan) refl (ended_by (behind_octet scan x) xs)
   where
-    by_end : (b : Bool) → is_ended scan ≡ b → (count_from (behind scan x) xs ≢ length xs → is_ended (all_behind (behind scan x) xs) ≡ true) → is_ended (all_behind scan (x ∷ xs)) ≡ true
+    by_end : (b : Bool) → is_ended scan ≡ b → (count_from (behind_octet scan x) xs ≢ length xs → is_ended (all_behind (behind_octet scan x) xs) ≡ true) → is_ended (all_behind scan (x ∷ xs)) ≡ true
     by_end true is more = rw (is, is) refl
     by_end false is more = rw is (more (λ whole. short (rw is (ap suc whole))))
 
@@ -99,7 +99,7 @@ not_lf in_header second n y rest other false is = rw (other, is) refl
 
 -- an octet with which no CRLF begins
 next_by : (in_header second : Bool) (n : ℕ) (place : Place) (x y : ℕ) (rest : List ℕ) → is_after_cr place ≡ false → is_crlf x y ≡ false → (b : Bool) → (x == 13) ≡ b
-    → count_from (behind (standing in_header n place second) x) (y ∷ rest) ≡ count_from (standing in_header n Within (is_start place)) (y ∷ rest)
+    → count_from (behind_octet (standing in_header n place second) x) (y ∷ rest) ≡ count_from (standing in_header n Within (is_start place)) (y ∷ rest)
 next_by in_header second n place x y rest other apart true is =
     let lone : (y == 10) ≡ false = rw is at apart in rw is (not_lf in_header (is_start place) n y rest lone (y == 13) refl)
 next_by in_header second n place x y rest other apart false is = rw (is, other) refl

@@ -9,7 +9,7 @@ use Rattle.pop_session.specs.declared.command.Keyword.TheVariants as keyword
 use Rattle.pop_session.specs.declared.states.MaildropMessage.{MaildropMessage}
 use Rattle.pop_session.specs.Commands.{Command, command_of}
 use Rattle.mail_wire.specs.Numbers.{number_of}
-use Rattle.pop_session.specs.Machine.{State, authorization, transaction, ended, message_at, step}
+use Rattle.pop_session.specs.Machine.{State, authorization, transaction, ended, listed_at, step}
 use Rattle.pop_session.specs.Session.{Machine, after_step}
 
 -- ---- the commands that are done
@@ -92,7 +92,7 @@ marks_found number marks (Some one) = number ∷ marks
 -- DELE marks the message of a number that is there and isn't marked
 abbrev pub marks_by_number : List Listed → List ℕ → Option ℕ → List ℕ
 marks_by_number listing marks None = marks
-marks_by_number listing marks (Some number) = marks_found number marks (message_at (with_marks 1 marks listing) number)
+marks_by_number listing marks (Some number) = marks_found number marks (listed_at (with_marks 1 marks listing) number)
 
 -- the numbers of the marked messages behind a command: DELE marks one, and RSET takes all marks away
 abbrev pub marks_by : List Listed → List ℕ → Keyword → Option (List ℕ) → List ℕ

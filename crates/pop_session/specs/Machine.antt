@@ -5,7 +5,6 @@ use Rattle.std.specs.Fmt.{decimal}
 use Rattle.std.specs.Option.{option_map_or}
 use Rattle.mail_wire.specs.Lines.{crlf, lines_of}
 use Rattle.mail_store.specs.declared.kept.Listed.{Listed}
-use Rattle.mail_store.specs.declared.kept.Message.{Message}
 use Rattle.session_core.specs.Acts.{Act, acts_of}
 use Rattle.mail_store.specs.Changing.{expunged}
 use Rattle.mail_store.specs.Kept.{Kept, change_at, logged_in, inbox_of, listed}
@@ -19,13 +18,14 @@ use Rattle.pop_session.specs.Commands.{Command, top_numbers_of}
 use Rattle.mail_wire.specs.Numbers.{number_of}
 use Rattle.pop_session.specs.declared.command.TopNumbers.{TopNumbers}
 use Rattle.pop_session.specs.declared.states.MaildropMessage.{MaildropMessage}
+use Rattle.session_core.specs.Desks.{stored_octets}
 
 -- a part of a reply
-pub data Part : Type 0 where
+pub data ReplyPart : Type 0 where
   -- a line, without its CRLF
-  line : (octets : List ℕ) → Part
+  line : (octets : List ℕ) → ReplyPart
   -- of what the mode serves of a message, so many octets from this place on
-  shown : (msg : List ℕ) (mode : Mode) (at len : ℕ) → Part
+  shown : (msg : List ℕ) (mode : Mode) (at len : ℕ) → ReplyPart
 
 pub data State : Type 0 where
   -- AUTHORIZATION, with the name that USER gave
@@ -38,43 +38,43 @@ pub data State : Type 0 where
 -- What a command does: the changes that it makes of the store, the records of one call each; its reply; and the state behind it.
 pub record Step : Type 0 where
   pub changes : List (List Record)
-  pub reply : List Part
+  pub reply : List ReplyPart
   pub state : State
 
 -- its changes, and then its reply
-abbrev pub acts_in : Step → List (Act Part)
+abbrev pub acts_in : Step → List (Act ReplyPart)
 acts_in taken = acts_of taken.changes taken.reply
 
 -- ---- replies
 
-abbrev pub says : List ℕ → List Part
+abbrev pub says : List ℕ → List ReplyPart
 says text = line text ∷ []
 
-abbrev pub done : List Part
+abbrev pub done : List ReplyPart
 done = says (codes "+OK")
 
-abbrev pub bye : List Part
+abbrev pub bye : List ReplyPart
 bye = says (codes "+OK bye")
 
-abbrev pub not_admitted : List Part
+abbrev pub not_admitted : List ReplyPart
 not_admitted = says (codes "-ERR no")
 
-abbrev pub out_of_order : List Part
+abbrev pub out_of_order : List ReplyPart
 out_of_order = says (codes "-ERR out of order")
 
-abbrev pub syntax_error : List Part
+abbrev pub syntax_error : List ReplyPart
 syntax_error = says (codes "-ERR syntax")
 
-abbrev pub no_such_message : List Part
+abbrev pub no_such_message : List ReplyPart
 no_such_message = says (codes "-ERR no such message")
 
 -- the octets of a message of the store
-abbrev pub octets_of : StoreState → Listed → List ℕ
-octets_of store one = option_map_or (λ (message : Message). message.octets) (slice_get store.kept.messages one.id) []
+abbrev pub listed_octets : StoreState → Listed → List ℕ
+listed_octets store one = stored_octets store one.id
 
 -- how many octets a session is served of a message
 abbrev pub size_of : Meanings → Mode → StoreState → Listed → ℕ
-size_of meanings mode store one = length (served_by meanings.surrogate mode (octets_of store one))
+size_of meanings mode store one = length (served_by meanings.surrogate mode (listed_octets store one))
 
 -- two numbers behind a word
 abbrev pub two_numbers : List ℕ → ℕ → ℕ → List ℕ
@@ -105,14 +105,14 @@ with_deleted zero maildrop = maildrop
 with_deleted (suc place) maildrop = change_at (marked true) maildrop place
 
 -- the message of a number, from 1 on, unless it is marked
-abbrev pub message_at : List MaildropMessage → ℕ → Option Listed
-message_at maildrop zero = None
-message_at maildrop (suc place) = option_and_then unless_deleted (slice_get maildrop place)
+abbrev pub listed_at : List MaildropMessage → ℕ → Option Listed
+listed_at maildrop zero = None
+listed_at maildrop (suc place) = option_and_then unless_deleted (slice_get maildrop place)
 
 -- ---- replies on messages
 
 -- how many messages, and the sum of their sizes
-abbrev pub stat_reply : Meanings → Mode → StoreState → List MaildropMessage → List Part
+abbrev pub stat_reply : Meanings → Mode → StoreState → List MaildropMessage → List ReplyPart
 stat_reply meanings mode store maildrop =
     says (two_numbers (codes "+OK ") (length (left_of maildrop)) (sum_by (size_of meanings mode store) (left_of maildrop)))
 
@@ -121,21 +121,21 @@ abbrev pub uid_row : Listed → ℕ
 uid_row one = one.uid
 
 -- a line for each message that isn't marked, numbered from this number on
-abbrev pub listing_from : (Listed → ℕ) → ℕ → List MaildropMessage → List Part
+abbrev pub listing_from : (Listed → ℕ) → ℕ → List MaildropMessage → List ReplyPart
 listing_from row number [] = []
 listing_from row number (one ∷ maildrop) =
     if one.deleted then listing_from row (number + 1) maildrop
     else line (two_numbers [] number (row one.listed)) ∷ listing_from row (number + 1) maildrop
 
-abbrev pub listing_reply : (Listed → ℕ) → List MaildropMessage → List Part
+abbrev pub listing_reply : (Listed → ℕ) → List MaildropMessage → List ReplyPart
 listing_reply row maildrop = line (codes "+OK") ∷ listing_from row 1 maildrop ++ line (codes ".") ∷ []
 
-abbrev pub listing_one_reply : (Listed → ℕ) → ℕ → Listed → List Part
+abbrev pub listing_one_reply : (Listed → ℕ) → ℕ → Listed → List ReplyPart
 listing_one_reply row number one = says (two_numbers (codes "+OK ") number (row one))
 
-abbrev pub retr_reply : Meanings → Mode → StoreState → ℕ → Listed → List Part
+abbrev pub retr_reply : Meanings → Mode → StoreState → ℕ → Listed → List ReplyPart
 retr_reply meanings mode store number one =
-    line (codes "+OK") ∷ shown (octets_of store one) mode 0 (size_of meanings mode store one) ∷ line (codes ".") ∷ []
+    line (codes "+OK") ∷ shown (listed_octets store one) mode 0 (size_of meanings mode store one) ∷ line (codes ".") ∷ []
 
 -- the lines up to the first empty one, and so many lines behind it
 abbrev pub top_lines : ℕ → List (List ℕ) → List (List ℕ)
@@ -146,31 +146,31 @@ top_lines n (first ∷ lines) = if bytes_eq first crlf then first ∷ take n lin
 abbrev pub top_length : ℕ → List ℕ → ℕ
 top_length n octets = sum_by length (top_lines n (lines_of octets))
 
-abbrev pub top_reply : Meanings → Mode → StoreState → ℕ → ℕ → Listed → List Part
+abbrev pub top_reply : Meanings → Mode → StoreState → ℕ → ℕ → Listed → List ReplyPart
 top_reply meanings mode store lines number one =
-    line (codes "+OK") ∷ shown (octets_of store one) mode 0 (top_length lines (served_by meanings.surrogate mode (octets_of store one)))
+    line (codes "+OK") ∷ shown (listed_octets store one) mode 0 (top_length lines (served_by meanings.surrogate mode (listed_octets store one)))
     ∷ line (codes ".") ∷ []
 
 -- what this server can do (RFC 2449, 5; RFC 6856, 2)
-abbrev pub capabilities : List Part
+abbrev pub capabilities : List ReplyPart
 capabilities = line (codes "+OK") ∷ line (codes "UTF8 USER") ∷ line (codes "TOP") ∷ line (codes "UIDL") ∷ line (codes "USER") ∷ line (codes ".") ∷ []
 
 -- ---- numbers of messages
 
 -- a row for the message of this number
-abbrev pub of_message : (ℕ → Listed → List Part) → ℕ → Option Listed → List Part
+abbrev pub of_message : (ℕ → Listed → List ReplyPart) → ℕ → Option Listed → List ReplyPart
 of_message row number None = no_such_message
 of_message row number (Some one) = row number one
 
 -- a row whose argument is the number of a message
-abbrev pub of_number : (ℕ → Listed → List Part) → List MaildropMessage → Option ℕ → List Part
+abbrev pub of_number : (ℕ → Listed → List ReplyPart) → List MaildropMessage → Option ℕ → List ReplyPart
 of_number row maildrop None = syntax_error
-of_number row maildrop (Some number) = of_message row number (message_at maildrop number)
+of_number row maildrop (Some number) = of_message row number (listed_at maildrop number)
 
 -- a row whose argument is the number of a message, and that of lines
-abbrev pub of_top : (ℕ → ℕ → Listed → List Part) → List MaildropMessage → Option TopNumbers → List Part
+abbrev pub of_top : (ℕ → ℕ → Listed → List ReplyPart) → List MaildropMessage → Option TopNumbers → List ReplyPart
 of_top row maildrop None = syntax_error
-of_top row maildrop (Some numbers) = of_message (row numbers.lines) numbers.number (message_at maildrop numbers.number)
+of_top row maildrop (Some numbers) = of_message (row numbers.lines) numbers.number (listed_at maildrop numbers.number)
 
 -- ---- rows; the first that fits counts
 
@@ -186,7 +186,7 @@ abbrev pub maildrop_of : Kept → ℕ → List MaildropMessage
 maildrop_of kept account = map unmarked (inbox_messages kept account)
 
 -- a reply, and nothing is changed
-abbrev pub answers : List Part → State → Step
+abbrev pub answers : List ReplyPart → State → Step
 answers reply state = record { changes = []; reply = reply; state = state }
 
 -- the state after a PASS that finds this account, or none
@@ -223,7 +223,7 @@ authorization_step meanings mode user store keyword argument =
     else authorization_row meanings mode user store keyword argument
 
 -- the replies of the rows of TRANSACTION that leave the state
-abbrev pub transaction_reply : Meanings → Mode → List MaildropMessage → StoreState → Keyword → Option (List ℕ) → List Part
+abbrev pub transaction_reply : Meanings → Mode → List MaildropMessage → StoreState → Keyword → Option (List ℕ) → List ReplyPart
 transaction_reply meanings mode maildrop store keyword.User argument = out_of_order
 transaction_reply meanings mode maildrop store keyword.Pass argument = out_of_order
 transaction_reply meanings mode maildrop store keyword.Utf8 argument = out_of_order
@@ -246,7 +246,7 @@ dele_message mode maildrop number (Some one) = answers done (transaction mode (w
 
 abbrev pub dele_step : Mode → List MaildropMessage → Option ℕ → Step
 dele_step mode maildrop None = answers syntax_error (transaction mode maildrop)
-dele_step mode maildrop (Some number) = dele_message mode maildrop number (message_at maildrop number)
+dele_step mode maildrop (Some number) = dele_message mode maildrop number (listed_at maildrop number)
 
 -- the change that takes these messages out of the store, by one call, and none where there are none
 abbrev pub taken_out : List ℕ → List (List Record)

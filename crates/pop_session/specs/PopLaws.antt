@@ -30,7 +30,7 @@ use Rattle.pop_session.specs.declared.command.Keyword.TheVariants as keyword
 use Rattle.pop_session.specs.declared.command.TopNumbers.{TopNumbers}
 use Rattle.pop_session.specs.Commands.{Command, command_of, top_numbers_of}
 use Rattle.pop_session.specs.History.{IsQuit}
-use Rattle.pop_session.specs.Machine.{Part, State, authorization, transaction, ended, line, shown, authorization_step, transaction_step, transaction_reply, pass_step, dele_message, dele_step, deleted_ids, taken_out, two_numbers, left_of, message_at, size_of, octets_of, listing_from, listing_one_reply, listing_reply, stat_reply, retr_reply, top_reply, of_message, of_number, of_top, uid_row, step}
+use Rattle.pop_session.specs.Machine.{ReplyPart, State, authorization, transaction, ended, line, shown, authorization_step, transaction_step, transaction_reply, pass_step, dele_message, dele_step, deleted_ids, taken_out, two_numbers, left_of, listed_at, size_of, listed_octets, listing_from, listing_one_reply, listing_reply, stat_reply, retr_reply, top_reply, of_message, of_number, of_top, uid_row, step}
 use Rattle.pop_session.specs.Replies.{IsFit, AreFit}
 use Rattle.pop_session.specs.Session.{Machine, PopStands, greeting, line_too_long, pop_grammar, wants_in}
 use Rattle.pop_session.specs.States.{state_of}
@@ -74,7 +74,7 @@ message_changes mode maildrop number (Some one) = refl
 -- nor does DELE
 pub dele_changes : (mode : Mode) (maildrop : List MaildropMessage) (number : Option ℕ) → (dele_step mode maildrop number).changes ≡ []
 dele_changes mode maildrop None = refl
-dele_changes mode maildrop (Some number) = message_changes mode maildrop number (message_at maildrop number)
+dele_changes mode maildrop (Some number) = message_changes mode maildrop number (listed_at maildrop number)
 
 transaction_quiet : (meanings : Meanings) (mode : Mode) (maildrop : List MaildropMessage) (store : StoreState) (word : Keyword) (argument : Option (List ℕ))
     → ((word ≡ keyword.Quit) × (argument ≡ None)) ⊎ ((transaction_step meanings mode maildrop store word argument).changes ≡ [])
@@ -133,7 +133,7 @@ of_one_fit meanings mode maildrop number (Some one) = (refl, tt)
 
 dele_fit : (meanings : Meanings) (mode : Mode) (maildrop : List MaildropMessage) (number : Option ℕ) → AreFit meanings (dele_step mode maildrop number).reply
 dele_fit meanings mode maildrop None = (refl, tt)
-dele_fit meanings mode maildrop (Some number) = of_one_fit meanings mode maildrop number (message_at maildrop number)
+dele_fit meanings mode maildrop (Some number) = of_one_fit meanings mode maildrop number (listed_at maildrop number)
 
 pass_fit : (meanings : Meanings) (mode : Mode) (store : StoreState) (found : Option ℕ) → AreFit meanings (pass_step mode store found).reply
 pass_fit meanings mode store None = (refl, tt)
@@ -167,23 +167,23 @@ authorization_fit meanings mode user store keyword.Other argument = (refl, tt)
 -- ---- what is shown of a message
 
 shown_fit : (meanings : Meanings) → AreMeanings meanings → (mode : Mode) (store : StoreState) (one : Listed) (len : ℕ) → AreStored store.kept.messages
-    → AreFit meanings (line (codes "+OK") ∷ shown (octets_of store one) mode 0 len ∷ line (codes ".") ∷ [])
-shown_fit meanings are legacy store one len stored = (refl, (surrogate_shown meanings are (octets_of store one) (stored_at store one.id stored), (refl, tt)))
+    → AreFit meanings (line (codes "+OK") ∷ shown (listed_octets store one) mode 0 len ∷ line (codes ".") ∷ [])
+shown_fit meanings are legacy store one len stored = (refl, (surrogate_shown meanings are (listed_octets store one) (stored_at store one.id stored), (refl, tt)))
 shown_fit meanings are enabled store one len stored = (refl, (tt, (refl, tt)))
 
-message_fit : (meanings : Meanings) (row : ℕ → Listed → List Part) → ((number : ℕ) (one : Listed) → AreFit meanings (row number one)) → (number : ℕ) (found : Option Listed) → AreFit meanings (of_message row number found)
+message_fit : (meanings : Meanings) (row : ℕ → Listed → List ReplyPart) → ((number : ℕ) (one : Listed) → AreFit meanings (row number one)) → (number : ℕ) (found : Option Listed) → AreFit meanings (of_message row number found)
 message_fit meanings row fit number None = (refl, tt)
 message_fit meanings row fit number (Some one) = fit number one
 
-number_fit : (meanings : Meanings) (row : ℕ → Listed → List Part) → ((number : ℕ) (one : Listed) → AreFit meanings (row number one)) → (maildrop : List MaildropMessage) (number : Option ℕ)
+number_fit : (meanings : Meanings) (row : ℕ → Listed → List ReplyPart) → ((number : ℕ) (one : Listed) → AreFit meanings (row number one)) → (maildrop : List MaildropMessage) (number : Option ℕ)
     → AreFit meanings (of_number row maildrop number)
 number_fit meanings row fit maildrop None = (refl, tt)
-number_fit meanings row fit maildrop (Some number) = message_fit meanings row fit number (message_at maildrop number)
+number_fit meanings row fit maildrop (Some number) = message_fit meanings row fit number (listed_at maildrop number)
 
-top_fit : (meanings : Meanings) (row : ℕ → ℕ → Listed → List Part) → ((lines number : ℕ) (one : Listed) → AreFit meanings (row lines number one)) → (maildrop : List MaildropMessage) (numbers : Option TopNumbers)
+top_fit : (meanings : Meanings) (row : ℕ → ℕ → Listed → List ReplyPart) → ((lines number : ℕ) (one : Listed) → AreFit meanings (row lines number one)) → (maildrop : List MaildropMessage) (numbers : Option TopNumbers)
     → AreFit meanings (of_top row maildrop numbers)
 top_fit meanings row fit maildrop None = (refl, tt)
-top_fit meanings row fit maildrop (Some numbers) = message_fit meanings (row numbers.lines) (fit numbers.lines) numbers.number (message_at maildrop numbers.number)
+top_fit meanings row fit maildrop (Some numbers) = message_fit meanings (row numbers.lines) (fit numbers.lines) numbers.number (listed_at maildrop numbers.number)
 
 reply_fit : (meanings : Meanings) → AreMeanings meanings → (mode : Mode) (maildrop : List MaildropMessage) (store : StoreState) → AreStored store.kept.messages → (word : Keyword) (argument : Option (List ℕ))
     → AreFit meanings (transaction_reply meanings mode maildrop store word argument)

@@ -7,7 +7,7 @@ use Rattle.mail_wire.specs.Octets.{is_ascii}
 use Rattle.surrogate_rope.specs.Layout.{HasSurrogate, HasAsciiBlocks}
 use Rattle.surrogate_cache.specs.Served.{legacy, enabled, served_by}
 use Rattle.session_core.specs.Meanings.{Meanings}
-use Rattle.pop_session.specs.Machine.{Part, line, shown}
+use Rattle.pop_session.specs.Machine.{ReplyPart, line, shown}
 
 -- there are none, or they end in CRLF
 unfoldable pub are_complete : List ℕ → Bool
@@ -25,19 +25,19 @@ abbrev pub multi_line : List ℕ → List ℕ
 multi_line octets = stuffed octets ++ missing_end octets
 
 -- the octets of a part
-abbrev pub part_octets : Meanings → Part → List ℕ
+abbrev pub part_octets : Meanings → ReplyPart → List ℕ
 part_octets meanings (line octets) = octets ++ crlf
 part_octets meanings (shown msg mode at len) = multi_line (take len (drop at (served_by meanings.surrogate mode msg)))
 
 -- the octets of a reply
-abbrev pub reply_octets : Meanings → List Part → List ℕ
+abbrev pub reply_octets : Meanings → List ReplyPart → List ℕ
 reply_octets meanings parts = flat_map (part_octets meanings) parts
 
 -- A line is ASCII. What a legacy session is shown is a range of the message's surrogate, all of whose header blocks are ASCII.
-abbrev pub IsFit : Meanings → Part → Type 0
+abbrev pub IsFit : Meanings → ReplyPart → Type 0
 IsFit meanings (line octets) = list_all is_ascii octets ≡ true
 IsFit meanings (shown msg legacy at len) = HasSurrogate msg (meanings.surrogate msg) × HasAsciiBlocks (meanings.surrogate msg)
 IsFit meanings (shown msg enabled at len) = Unit {0}
 
-abbrev pub AreFit : Meanings → List Part → Type 0
+abbrev pub AreFit : Meanings → List ReplyPart → Type 0
 AreFit meanings parts = AllByRecursion (IsFit meanings) parts

@@ -17,7 +17,7 @@ use Rattle.session_core.specs.declared.desk.Desk.{Desk}
 use Rattle.session_core.specs.declared.rows.Wants.{Wants}
 use Rattle.session_core.specs.declared.rows.Wants.TheVariants as wants
 use Rattle.pop_session.specs.Commands.{command_of}
-use Rattle.pop_session.specs.Machine.{Part, State, authorization, transaction, ended, says, Step, acts_in, step}
+use Rattle.pop_session.specs.Machine.{ReplyPart, State, authorization, transaction, ended, says, Step, acts_in, step}
 use Rattle.pop_session.specs.Replies.{IsFit, part_octets}
 use Rattle.pop_session.specs.States.{state_of, state_or_ended, KnowsState}
 use Rattle.pop_session.specs.declared.states.PopState.{PopState}
@@ -27,14 +27,14 @@ pub record Machine : Type 0 where
   pub state : State
   pub store : StoreState
 
-abbrev pub line_too_long : List Part
+abbrev pub line_too_long : List ReplyPart
 line_too_long = says (codes "-ERR line too long")
 
 -- what is left after a command
 abbrev pub after_step : StoreState → Step → Machine
 after_step store taken = record { state = taken.state; store = with_records store (records_of taken.changes) }
 
-abbrev pub greeting : List Part
+abbrev pub greeting : List ReplyPart
 greeting = says (codes "+OK ready")
 
 -- a session begins as legacy
@@ -48,17 +48,17 @@ wants_in (transaction mode maildrop) = Some wants.Line
 wants_in ended = None
 
 -- what a line brings
-abbrev pub line_row : Meanings → Machine → List ℕ → Row Machine Part
+abbrev pub line_row : Meanings → Machine → List ℕ → Row Machine ReplyPart
 line_row meanings machine text =
     let taken = step meanings machine.state machine.store (command_of text) in record { acts = acts_in taken; after = after_step machine.store taken }
 
-abbrev pub long_row : Machine → Row Machine Part
+abbrev pub long_row : Machine → Row Machine ReplyPart
 long_row machine = record { acts = acts_of [] line_too_long; after = record machine { state = ended } }
 
 abbrev pub pop_grammar : Grammar
 pop_grammar = record {
   S = Machine;
-  P = Part;
+  P = ReplyPart;
   opening = λ store. acts_of [] greeting;
   start = λ moments store. start_of store;
   wants = λ machine. wants_in machine.state;
@@ -73,7 +73,7 @@ abbrev pub pop_protocol : Protocol
 pop_protocol = protocol_of pop_grammar
 
 -- what these octets bring
-abbrev pub turns_of : Meanings → Machine → List ℕ → Turn Machine (Act Part)
+abbrev pub turns_of : Meanings → Machine → List ℕ → Turn Machine (Act ReplyPart)
 turns_of meanings machine octets = all_turns (pop_protocol.next meanings) machine octets
 
 -- ---- what values stand for
@@ -89,7 +89,7 @@ abbrev pub KnowsPop : PopState → Desk → Type 0
 KnowsPop session desk = KnowsState desk.store (state_of session)
 
 -- The step was carried out, or after a fault the first of it; the session is in its state, and the store has the messages that it names.
-pub record Takes (before now : Around) (result : Result (Option PopState) Fault) (taken : Meanings → Step) : Type 0 where
+pub record TakesStep (before now : Around) (result : Result (Option PopState) Fault) (taken : Meanings → Step) : Type 0 where
   pub does : WithMeanings (λ meanings. Does (part_octets meanings) before now (fault_of result) (acts_in (taken meanings)))
   pub next : WithMeanings (λ meanings. IfOk result (λ next. state_or_ended next ≡ (taken meanings).state))
   pub known : IfOk result (λ next. KnowsState now.desk.store (state_or_ended next))

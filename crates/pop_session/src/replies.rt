@@ -6,7 +6,7 @@ ghost use Rattle.session_core.specs.Keeps.{Keeps, fault_of};
 ghost use Rattle.session_core.specs.Meanings.{Meanings, WithMeanings};
 ghost use Rattle.pop_session.specs.private.Asked.{IsAsked, IsKnown};
 ghost use Rattle.mail_wire.specs.Numbers.{number_of};
-ghost use Rattle.pop_session.specs.Machine.{size_of, uid_row, stat_reply, listing_reply, listing_one_reply, retr_reply, top_reply, message_at as message_at_of, two_numbers};
+ghost use Rattle.pop_session.specs.Machine.{size_of, uid_row, stat_reply, listing_reply, listing_one_reply, retr_reply, top_reply, listed_at as message_at_of, two_numbers};
 ghost use Rattle.pop_session.specs.Replies.{reply_octets};
 ghost use Rattle.pop_session.specs.States.{Knows};
 

@@ -12,7 +12,7 @@ ghost use Rattle.session_core.specs.declared.rows.Wants.TheVariants.{Line};
 ghost use Rattle.pop_session.specs.Machine.{transaction, answers, done, marked, authorization_step, transaction_step, transaction_reply, dele_step, quit_step};
 ghost use Rattle.pop_session.specs.PopLaws.{agrees_by, opening_fits_by, rows_fit_by, long_rows_fit_by};
 ghost use Rattle.pop_session.specs.Replies.{reply_octets};
-ghost use Rattle.pop_session.specs.Session.{pop_grammar, pop_protocol, PopStands, KnowsPop, Takes};
+ghost use Rattle.pop_session.specs.Session.{pop_grammar, pop_protocol, PopStands, KnowsPop, TakesStep};
 ghost use Rattle.pop_session.specs.States.{state_or_ended, KnowsState, Knows};
 
 use crate::command::{Command, Keyword, is_of_transaction, read_command, read_top_numbers};
@@ -85,7 +85,7 @@ fn authorize<V: Kind, W: Wire, J: Keeper, C: Clock>(
     command: Command,
     outside: &mut Outside<W, J, C>,
 ) -> Result<Option<PopState>, Fault>
-    ensures takes { Takes outside.old outside.new result
+    ensures takes { TakesStep outside.old outside.new result
         (λ meanings. authorization_step meanings V.mode pop.state.user outside.old.desk.store command.entry.keyword (option_copied command.entry.argument)) }
     ensures keeps { Keeps outside.old outside.new (fault_of result) }
 {
@@ -187,7 +187,7 @@ fn stay<V: Kind, W: Wire, J: Keeper, C: Clock>(
     outside: &mut Outside<W, J, C>,
 ) -> Result<Option<PopState>, Fault>
     requires { Knows outside.old.desk.store pop.state.maildrop.items }
-    ensures takes { Takes outside.old outside.new result (λ meanings. answers
+    ensures takes { TakesStep outside.old outside.new result (λ meanings. answers
         (transaction_reply meanings V.mode pop.state.maildrop.items outside.old.desk.store command.entry.keyword (option_copied command.entry.argument))
         (transaction V.mode pop.state.maildrop.items)) }
     ensures keeps { Keeps outside.old outside.new (fault_of result) }
@@ -203,7 +203,7 @@ fn dele<V: Kind, W: Wire, J: Keeper, C: Clock>(
     outside: &mut Outside<W, J, C>,
 ) -> Result<Option<PopState>, Fault>
     requires { Knows outside.old.desk.store pop.state.maildrop.items }
-    ensures takes { Takes outside.old outside.new result (λ meanings. dele_step V.mode pop.state.maildrop.items (number_of text.now)) }
+    ensures takes { TakesStep outside.old outside.new result (λ meanings. dele_step V.mode pop.state.maildrop.items (number_of text.now)) }
     ensures keeps { Keeps outside.old outside.new (fault_of result) }
 {
     match find_message(outside.store(), &pop.state.maildrop, text) {
@@ -228,7 +228,7 @@ fn rset<V: Kind, W: Wire, J: Keeper, C: Clock>(
     outside: &mut Outside<W, J, C>,
 ) -> Result<Option<PopState>, Fault>
     requires { Knows outside.old.desk.store pop.state.maildrop.items }
-    ensures takes { Takes outside.old outside.new result (λ meanings. answers done (transaction V.mode (map (marked false) pop.state.maildrop.items))) }
+    ensures takes { TakesStep outside.old outside.new result (λ meanings. answers done (transaction V.mode (map (marked false) pop.state.maildrop.items))) }
     ensures keeps { Keeps outside.old outside.new (fault_of result) }
 {
     outside.give(DONE)?;
@@ -242,7 +242,7 @@ fn quit<V: Kind, W: Wire, J: Keeper, C: Clock>(
 ) -> Result<Option<PopState>, Fault>
     requires opens { IsOpen outside.old.desk }
     requires known { Knows outside.old.desk.store pop.state.maildrop.items }
-    ensures takes { Takes outside.old outside.new result (λ meanings. quit_step pop.state.maildrop.items) }
+    ensures takes { TakesStep outside.old outside.new result (λ meanings. quit_step pop.state.maildrop.items) }
     ensures keeps { Keeps outside.old outside.new (fault_of result) }
 {
     pop.quit().update(outside)?;
@@ -258,7 +258,7 @@ fn transact<V: Kind, W: Wire, J: Keeper, C: Clock>(
 ) -> Result<Option<PopState>, Fault>
     requires opens { IsOpen outside.old.desk }
     requires known { Knows outside.old.desk.store pop.state.maildrop.items }
-    ensures takes { Takes outside.old outside.new result
+    ensures takes { TakesStep outside.old outside.new result
         (λ meanings. transaction_step meanings V.mode pop.state.maildrop.items outside.old.desk.store command.entry.keyword (option_copied command.entry.argument)) }
     ensures keeps { Keeps outside.old outside.new (fault_of result) }
 {

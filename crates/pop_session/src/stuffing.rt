@@ -4,7 +4,7 @@ ghost use Rattle.mail_wire.specs.Lines.{crlf};
 ghost use Rattle.mail_wire.specs.Moves.{GivesPrefix};
 ghost use Rattle.surrogate_rope.specs.Served.{IsShownOf, shown_octets};
 ghost use Rattle.session_core.specs.Around.{LeavesDesk};
-ghost use Rattle.session_core.specs.Desks.{octets_at};
+ghost use Rattle.session_core.specs.Desks.{stored_octets};
 ghost use Rattle.session_core.specs.Doing.{Replies};
 ghost use Rattle.session_core.specs.Keeps.{Keeps, fault_of};
 ghost use Rattle.pop_session.specs.Replies.{multi_line};
@@ -108,10 +108,10 @@ pub fn give_message<W: Wire, J: Keeper, C: Clock>(
     outside: &mut Outside<W, J, C>,
 ) -> Result<(), Fault>
     requires id { id < length outside.old.desk.store.kept.messages }
-    requires shown { IsShownOf (octets_at outside.old.desk.store id) shown.now }
-    requires len { len ≤ length (shown_octets (octets_at outside.old.desk.store id) shown.now) }
+    requires shown { IsShownOf (stored_octets outside.old.desk.store id) shown.now }
+    requires len { len ≤ length (shown_octets (stored_octets outside.old.desk.store id) shown.now) }
     ensures replies { Replies outside.old outside.new (fault_of result)
-        (codes "+OK\r\n" ++ (multi_line (take len (shown_octets (octets_at outside.old.desk.store id) shown.now)) ++ codes ".\r\n")) }
+        (codes "+OK\r\n" ++ (multi_line (take len (shown_octets (stored_octets outside.old.desk.store id) shown.now)) ++ codes ".\r\n")) }
     ensures keeps { Keeps outside.old outside.new (fault_of result) }
 {
     let mut pending = Octets::from_slice(outside.alloc(), b"+OK\r\n")?;

@@ -2,7 +2,7 @@
 ghost use Rattle.std.specs.Prelude.{◌≡◌, ◌≤◌, length};
 ghost use Rattle.surrogate_rope.specs.Served.{IsShownOf, shown_octets};
 ghost use Rattle.pop_session.specs.Machine.{top_length as top_length_of};
-ghost use Rattle.pop_session.specs.private.Top.{begin, is_ended, behind, all_behind, count_from};
+ghost use Rattle.pop_session.specs.private.Top.{begin, is_ended, behind_octet, all_behind, count_from};
 
 use crate::stuffing::{Place, next_place};
 use mail_wire::PIECE;
@@ -43,7 +43,7 @@ impl Scan {
 
     // Goes on by an octet.
     fn read_octet(&mut self, octet: u8)
-        ensures { self.new ≡ behind self.old octet }
+        ensures { self.new ≡ behind_octet self.old octet }
     {
         let place = next_place(self.place, octet);
         if matches!(place, Place::LineStart) {

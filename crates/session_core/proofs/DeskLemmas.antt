@@ -11,7 +11,7 @@ use Rattle.mail_wire.proofs.AllLemmas.{all-append}
 use Rattle.mail_wire.proofs.Moving.{GoesOn-nil, HasWireCause-fine}
 use Rattle.mail_store.specs.Changing.{copy_for, delivered, delivery_refusal, expunged, inboxes_of, queued}
 use Rattle.mail_store.specs.Following.{records_of}
-use Rattle.mail_store.specs.Kept.{Kept, after, after_all, change_at, gone, name_of, with_flags}
+use Rattle.mail_store.specs.Kept.{Kept, after_record, after_all, change_at, gone, name_of, with_flags}
 use Rattle.mail_store.specs.Records.{AreRecords, IsRecord}
 use Rattle.journal_records.specs.Stored.{IsStored}
 use Rattle.mail_store.specs.StoreState.{StoreState, AreStored}
@@ -34,7 +34,7 @@ use Rattle.session_core.specs.Keeps.{Keeps, answer_of, fault_of}
 abbrev AllStored : List Message → Type 0
 AllStored messages = AllByRecursion (λ (message : Message). IsStored message.octets) messages
 
-stored_after : (kept : Kept) (one : Record) → IsRecord kept one → AllStored kept.messages → AllStored (after kept one).messages
+stored_after : (kept : Kept) (one : Record) → IsRecord kept one → AllStored kept.messages → AllStored (after_record kept one).messages
 stored_after kept (records.Message folder flags date octets) is stored =
     all-append (λ (message : Message). IsStored message.octets) kept.messages (record { folder = folder; flags = flags; live = true; date = date; octets = octets } ∷ []) stored (is.in_order.3, tt)
 stored_after kept (records.Flags message flags) is stored = stored-same kept.messages (change_at (with_flags flags) kept.messages message) (AreSameMessages-flags flags kept.messages message).octets stored
@@ -47,7 +47,7 @@ stored_after kept (records.Settle entry index) is stored = stored
 
 stored_all : (kept : Kept) (all : List Record) → AreRecords kept all → AllStored kept.messages → AllStored (after_all kept all).messages
 stored_all kept [] are stored = stored
-stored_all kept (one ∷ others) are stored = stored_all (after kept one) others are.1 (stored_after kept one are.0 stored)
+stored_all kept (one ∷ others) are stored = stored_all (after_record kept one) others are.1 (stored_after kept one are.0 stored)
 
 -- so it is after changes
 pub AreStored-after : (kept : Kept) (all : List Record) → AreRecords kept all → AreStored kept.messages → AreStored (after_all kept all).messages
@@ -89,7 +89,7 @@ delivery_name store delivery = unless_name store (delivered store.kept delivery)
 
 pub expunged_domains : (kept : Kept) (ids : List ℕ) → (after_all kept (expunged ids)).domains ≡ kept.domains
 expunged_domains kept [] = refl
-expunged_domains kept (id ∷ ids) = expunged_domains (after kept (records.Expunge id)) ids
+expunged_domains kept (id ∷ ids) = expunged_domains (after_record kept (records.Expunge id)) ids
 
 calls_name : (store : StoreState) (all : List Record) → (after_all store.kept all).domains ≡ store.kept.domains → KeepsName store (calls_of all)
 calls_name store [] same = refl

@@ -6,7 +6,7 @@ use Rattle.std.specs.Option.{option_map_or}
 use Rattle.std.proofs.lemmas.List.Elements.{All-from_recursion, recursion_from_All}
 use Rattle.std.proofs.lemmas.Option.{slice_get_past}
 use Rattle.mail_wire.specs.Lines.{lines_of}
-use Rattle.mail_wire.specs.Message.{IsFaulty, Stands}
+use Rattle.mail_wire.specs.Message.{IsFaulty, StandsAt}
 use Rattle.mime_tree.specs.Openings.{Opens}
 use Rattle.mime_tree.specs.Tree.{IsEntity}
 use Rattle.mime_tree.specs.declared.entity.Entity.{Entity}
@@ -21,12 +21,12 @@ use Rattle.mail_store.specs.Kept.{Kept, after_all, change_at, gone}
 use Rattle.mail_store.specs.StoreState.{StoreState, AreStored}
 use Rattle.mail_store.specs.declared.kept.Message.{Message}
 use Rattle.mail_store.proofs.SameMessages.{AreSameMessages-gone, stored-same}
-use Rattle.session_core.specs.Desks.{octets_at}
+use Rattle.session_core.specs.Desks.{stored_octets}
 use Rattle.session_core.specs.Meanings.{Meanings, AreMeanings}
 
 -- ---- no octets
 
-nothing_stands : (at x : ℕ) → Stands [] at x → ⊥
+nothing_stands : (at x : ℕ) → StandsAt [] at x → ⊥
 nothing_stands at x stands = let none : slice_get {X = ℕ} [] at ≡ None = slice_get_past [] at (omega arith) in let apart : Some x ≡ None = sym stands ∙ none in cc
 
 nothing_faulty : (at : ℕ) → IsFaulty [] at → ⊥
@@ -79,7 +79,7 @@ stored_get (message ∷ messages) zero all = all.0
 stored_get (message ∷ messages) (suc id) all = stored_get messages id all.1
 
 -- what stands at any number
-pub stored_at : (store : StoreState) (id : ℕ) → AreStored store.kept.messages → IsStored (octets_at store id)
+pub stored_at : (store : StoreState) (id : ℕ) → AreStored store.kept.messages → IsStored (stored_octets store id)
 stored_at store id are = stored_get store.kept.messages id (recursion_from_All (λ (message : Message). IsStored message.octets) store.kept.messages are.each)
 
 stored_gone : (kept : Kept) (ids : List ℕ) → AllStored kept.messages → AllStored (after_all kept (expunged ids)).messages

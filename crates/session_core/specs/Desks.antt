@@ -19,8 +19,8 @@ pub record AreLimits (limits : Limits) : Type 0 where
   pub some_entries : 0 < limits.cache_entries
 
 -- a store's name is ASCII: a normal form, or `localhost`
-abbrev pub IsName : List ℕ → Type 0
-IsName name = IsDomainText name ⊎ (name ≡ codes "localhost")
+abbrev pub IsStoreName : List ℕ → Type 0
+IsStoreName name = IsDomainText name ⊎ (name ≡ codes "localhost")
 
 -- what the cache keeps is of these messages; so far it keeps nothing
 abbrev pub IsCacheOf : Cache → Kept → Type 0
@@ -32,10 +32,10 @@ pub record IsOpen (desk : Desk) : Type 0 where
   pub limits : AreLimits desk.limits
   pub agrees : desk.store.message_max ≡ desk.limits.message_max
   pub works : desk.store.failed ≡ false
-  pub named : IsName (name_of desk.store.kept)
+  pub named : IsStoreName (name_of desk.store.kept)
   pub stored : AreStored desk.store.kept.messages
   pub cached : IsCacheOf desk.cache desk.store.kept
 
 -- the octets of a message of the store
-abbrev pub octets_at : StoreState → ℕ → List ℕ
-octets_at store id = option_map_or (λ (message : Message). message.octets) (slice_get store.kept.messages id) []
+abbrev pub stored_octets : StoreState → ℕ → List ℕ
+stored_octets store id = option_map_or (λ (message : Message). message.octets) (slice_get store.kept.messages id) []

@@ -24,10 +24,10 @@ pub record Protocol : Type 1 where
   pub IsSound : S → Type 0
 
 -- what these acts give may be sent
-abbrev pub AreFit : (protocol : Protocol) → Meanings → List (Act protocol.P) → Type 0
-AreFit protocol meanings acts = AllByRecursion (IsFitAct (protocol.Fits meanings)) acts
+abbrev pub AreFitActs : (protocol : Protocol) → Meanings → List (Act protocol.P) → Type 0
+AreFitActs protocol meanings acts = AllByRecursion (IsFitAct (protocol.Fits meanings)) acts
 
 -- what the turn gives may be sent, and its state is sound
 pub record IsFitTurn (protocol : Protocol) (meanings : Meanings) (turn : Turn protocol.S (Act protocol.P)) : Type 0 where
-  pub fit : AreFit protocol meanings turn.parts
+  pub fit : AreFitActs protocol meanings turn.parts
   pub sound : protocol.IsSound turn.after

@@ -9,7 +9,7 @@ ghost use Rattle.surrogate_cache.specs.Served.{IsServed, HasServedHeaders};
 ghost use Rattle.session_core.specs.Around.{LeavesDesk};
 ghost use Rattle.session_core.specs.Moments.{IsTold, moment_of};
 ghost use Rattle.session_core.specs.Changes.{calls_of, came_of, changes_of};
-ghost use Rattle.session_core.specs.Desks.{IsOpen, octets_at};
+ghost use Rattle.session_core.specs.Desks.{IsOpen, stored_octets};
 ghost use Rattle.session_core.specs.Doing.{IsChanged, Makes, Replies};
 ghost use Rattle.session_core.specs.Keeps.{Keeps, fault_of};
 
@@ -73,9 +73,9 @@ fn show_message<V: View>(
     id: u32,
 ) -> Result<Shown, Memory>
     requires { id < length store.now.kept.messages }
-    ensures shown { IfOk result (IsShownOf (octets_at store.now id)) }
-    ensures served { IfOk result (λ shown. IsServed V.mode (octets_at store.now id) (shown_octets (octets_at store.now id) shown)) }
-    ensures headers { IfOk result (λ shown. HasServedHeaders V.mode (shown_octets (octets_at store.now id) shown)) }
+    ensures shown { IfOk result (IsShownOf (stored_octets store.now id)) }
+    ensures served { IfOk result (λ shown. IsServed V.mode (stored_octets store.now id) (shown_octets (stored_octets store.now id) shown)) }
+    ensures headers { IfOk result (λ shown. HasServedHeaders V.mode (shown_octets (stored_octets store.now id) shown)) }
 {
     let octets = store.octets(id);
     match read_tree(alloc, octets) {
@@ -195,7 +195,7 @@ impl<'w, 'k, 'c, W: Wire, J: Keeper, C: Clock> Outside<'w, 'k, 'c, W, J, C> {
     /// The octets of a message of the store.
     pub fn octets(&self, id: u32) -> &[u8]
         requires { id < length self.now.desk.store.kept.messages }
-        ensures { result.now ≡ octets_at self.now.desk.store id }
+        ensures { result.now ≡ stored_octets self.now.desk.store id }
     {
         self.desk.store.octets(id)
     }
@@ -209,9 +209,9 @@ impl<'w, 'k, 'c, W: Wire, J: Keeper, C: Clock> Outside<'w, 'k, 'c, W, J, C> {
     /// What a session of this kind is shown of a message of the store.
     pub fn show<V: View>(&mut self, id: u32) -> Result<Shown, Memory>
         requires { id < length self.old.desk.store.kept.messages }
-        ensures shown { IfOk result (IsShownOf (octets_at self.old.desk.store id)) }
-        ensures served { IfOk result (λ shown. IsServed V.mode (octets_at self.old.desk.store id) (shown_octets (octets_at self.old.desk.store id) shown)) }
-        ensures headers { IfOk result (λ shown. HasServedHeaders V.mode (shown_octets (octets_at self.old.desk.store id) shown)) }
+        ensures shown { IfOk result (IsShownOf (stored_octets self.old.desk.store id)) }
+        ensures served { IfOk result (λ shown. IsServed V.mode (stored_octets self.old.desk.store id) (shown_octets (stored_octets self.old.desk.store id) shown)) }
+        ensures headers { IfOk result (λ shown. HasServedHeaders V.mode (shown_octets (stored_octets self.old.desk.store id) shown)) }
         ensures same { self.new ≡ self.old }
     {
         show_message::<V>(self.alloc, &self.desk.store, &mut self.desk.cache, id)

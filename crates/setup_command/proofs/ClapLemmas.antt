@@ -9,7 +9,7 @@ use Rattle.clap.specs.Faults.{word_fault, flag_word_fault, bundle_fault, step_fa
 use Rattle.clap.specs.Simple.{App, Shape, entered}
 use Rattle.clap.specs.Kinds.{Kinds, or_else}
 use Rattle.std.proofs.lemmas.Bool.{not-true}
-use Rattle.setup_command.specs.PlainWords.{is_plain}
+use Rattle.setup_command.specs.PlainWords.{is_plain_word}
 
 -- ---- one word
 
@@ -41,21 +41,21 @@ abbrev pub standing : Held → ℕ → Walk
 standing h position = record { held = h; waiting = idle; position = position; is_trailing = false; stopped = None }
 
 -- a plain word goes to the positional
-pub turned : (c : List Rule) (h : Held) (position : ℕ) (word : Text) → is_plain word ≡ true
+pub turned : (c : List Rule) (h : Held) (position : ℕ) (word : Text) → is_plain_word word ≡ true
     → walked c [] (standing h position) word ≡ to_positional c (arg_by_index c position) word (standing h position) h
 unfolding walked
 turned c h position [] plain = cc
 turned c h position (x ∷ xs) plain =
     ap (λ met. after_step c (x ∷ xs) (standing h position) met.0 met.1) (plain_met c position x xs h (not-true (x == 45) plain))
 
-fault_turned : (s : Shape) (h : Held) (position : ℕ) (word : Text) → is_plain word ≡ true → turn_fault s [] (standing h position) word ≡ step_fault s position h value
+fault_turned : (s : Shape) (h : Held) (position : ℕ) (word : Text) → is_plain_word word ≡ true → turn_fault s [] (standing h position) word ≡ step_fault s position h value
 fault_turned s h position [] plain = cc
 fault_turned s h position (x ∷ xs) plain =
     let is = not-true (x == 45) plain in
     ap₂ (λ kinds met. or_else kinds (step_fault s position met.0 met.1)) (plain_fault s x xs h is) (plain_met s.rules position x xs h is)
 
 -- the faults of a plain word and of the words behind it
-pub faults_on : (s : Shape) (h : Held) (position : ℕ) (word : Text) (rest : List Text) → is_plain word ≡ true
+pub faults_on : (s : Shape) (h : Held) (position : ℕ) (word : Text) (rest : List Text) → is_plain_word word ≡ true
     → walk_fault s [] (standing h position) (word ∷ rest)
     ≡ or_else (step_fault s position h value) (walk_fault s [] (to_positional s.rules (arg_by_index s.rules position) word (standing h position) h) rest)
 unfolding walk_fault

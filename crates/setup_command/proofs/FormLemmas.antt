@@ -4,22 +4,22 @@ use Rattle.std.specs.Prelude.{◌↔◌, IsTrue, IsUtf8, IfSome, IfNone, length}
 use Rattle.ace_domains.specs.Domains.{normal_form}
 use Rattle.address_grammar.specs.declared.Address.{Address}
 use Rattle.address_grammar.specs.Addresses.{address_text}
-use Rattle.address_grammar.specs.Paths.{HasPath, in_angles}
+use Rattle.address_grammar.specs.Paths.{in_angles}
 use Rattle.address_grammar.proofs.PathLemmas.{HasPath-once}
 use Rattle.address_lists.proofs.PathPiecesLemmas.{path_parts}
-use Rattle.journal_records.specs.Addresses.{IsTextOf}
+use Rattle.journal_records.specs.Addresses.{IsTextOfAddress}
 use Rattle.journal_records.specs.declared.limits.TheConstants.{TEXT_MAX}
-use Rattle.setup_command.specs.WordForms.{IsAccountText, IsAccount}
+use Rattle.setup_command.specs.WordForms.{IsAccountText, IsAccountCommand}
 
 -- the address that was read
-pub text_of : (found : Option Address) (text : List ℕ) (own : Address) → found ≡ Some own → IfSome found (IsTextOf text) → IsTextOf text own
+pub text_of : (found : Option Address) (text : List ℕ) (own : Address) → found ≡ Some own → IfSome found (IsTextOfAddress text) → IsTextOfAddress text own
 text_of found text own is some = rw is at some
 
 some_same : (a b : Address) → Some a ≡ Some b → a ≡ b
 some_same a b same = cc
 
 -- a text has one address
-address_once : (text : List ℕ) (own other : Address) → IsTextOf text own → IsTextOf text other → other ≡ own
+address_once : (text : List ℕ) (own other : Address) → IsTextOfAddress text own → IsTextOfAddress text other → other ≡ own
 address_once text own other a b = some_same other own (HasPath-once (in_angles text) (Some other) (Some own) b a)
 
 lacks : (P : Type 0) (has : Bool) → IsTrue has ↔ P → has ≡ false → P → ⊥
@@ -27,32 +27,32 @@ lacks P true means not p = cc
 lacks P false means not p = let differs : false ≡ true = means.1 p in cc
 
 -- a text whose address has a domain without a form
-pub form_missing : (text domain : List ℕ) (own : Address) (has : Bool) → IsTextOf text own → domain ≡ own.domain → IsTrue has ↔ (normal_form domain ≢ None) → has ≡ false
+pub form_missing : (text domain : List ℕ) (own : Address) (has : Bool) → IsTextOfAddress text own → domain ≡ own.domain → IsTrue has ↔ (normal_form domain ≢ None) → has ≡ false
     → (address : Address) → IsAccountText text address → ⊥
 form_missing text domain own has is domain_is means not address account =
     let same = ap (λ (a : Address). a.domain) (address_once text own address is account.is_text) ∙ sym domain_is in
     lacks (normal_form domain ≢ None) has means not (subst (λ (d : List ℕ). normal_form d ≢ None) same account.form)
 
 -- a text whose address is too long
-pub text_long : (text : List ℕ) (own : Address) (short : Bool) → IsTextOf text own → IsTrue short ↔ (length (address_text own) ≤ TEXT_MAX) → short ≡ false
+pub text_long : (text : List ℕ) (own : Address) (short : Bool) → IsTextOfAddress text own → IsTrue short ↔ (length (address_text own) ≤ TEXT_MAX) → short ≡ false
     → (address : Address) → IsAccountText text address → ⊥
 text_long text own short is means not address account =
     lacks (length (address_text own) ≤ TEXT_MAX) short means not (subst (λ (a : Address). length (address_text a) ≤ TEXT_MAX) (address_once text own address is account.is_text) account.short)
 
 -- the domain is UTF-8
-pub domain_utf8 : (text : List ℕ) (own : Address) → IsTextOf text own → IsUtf8 own.domain
+pub domain_utf8 : (text : List ℕ) (own : Address) → IsTextOfAddress text own → IsUtf8 own.domain
 domain_utf8 text own is = (path_parts (in_angles text) own is).1
 
 -- a text of no address
-pub no_text : (found : Option Address) (text : List ℕ) → found ≡ None → IfNone found ((address : Address) → ¬ IsTextOf text address) → (address : Address) → IsAccountText text address → ⊥
-no_text found text is none address account = let not : (address : Address) → ¬ IsTextOf text address = rw is at none in not address account.is_text
+pub no_text : (found : Option Address) (text : List ℕ) → found ≡ None → IfNone found ((address : Address) → ¬ IsTextOfAddress text address) → (address : Address) → IsAccountText text address → ⊥
+no_text found text is none address account = let not : (address : Address) → ¬ IsTextOfAddress text address = rw is at none in not address account.is_text
 
 -- ---- the law
 
-pub account_once : (words : List (List ℕ)) (a b : Address) (p q : List ℕ) → IsAccount words a p → IsAccount words b q → a ≡ b
+pub account_once : (words : List (List ℕ)) (a b : Address) (p q : List ℕ) → IsAccountCommand words a p → IsAccountCommand words b q → a ≡ b
 account_once words a b p q one other =
     let texts : one.text ≡ other.text = second_same one.text other.text p q (sym one.words_are ∙ other.words_are) in
-    address_once other.text b a other.says.is_text (subst (λ (t : List ℕ). IsTextOf t a) texts one.says.is_text)
+    address_once other.text b a other.says.is_text (subst (λ (t : List ℕ). IsTextOfAddress t a) texts one.says.is_text)
   where
     second_same : (s t p q : List ℕ) → codes "account" ∷ s ∷ p ∷ [] ≡ codes "account" ∷ t ∷ q ∷ [] → s ≡ t
     second_same s t p q same = cc

@@ -7,7 +7,7 @@ use Rattle.clap.specs.Simple.{is_simple, built, matches_of}
 use Rattle.clap.specs.declared.error.kind.ErrorKind.TheVariants as kind
 use Rattle.clap.proofs.OnLiterals.{clap_on_literals}
 use Rattle.setup_command.specs.private.Apps.{word_rule, domain_app, account_app}
-use Rattle.setup_command.specs.PlainWords.{is_plain}
+use Rattle.setup_command.specs.PlainWords.{is_plain_word}
 use Rattle.setup_command.proofs.ClapLemmas.{turned, faults_on, faults_by, standing}
 
 -- ---- one argument
@@ -31,17 +31,17 @@ domain_read : (word : Text) → faults_by (built domain_app) (standing (one_held
 unfolding clap_on_literals
 domain_read word = refl
 
-pub domain_one : (word : Text) → is_plain word ≡ true → fault_of domain_app (codes "domain" ∷ word ∷ []) ≡ []
+pub domain_one : (word : Text) → is_plain_word word ≡ true → fault_of domain_app (codes "domain" ∷ word ∷ []) ≡ []
 unfolding walk_fault
 domain_one word plain =
     ap₂ (faults_by (built domain_app)) (turned (built domain_app).top.rules nothing_held 1 word plain) (faults_on (built domain_app).top nothing_held 1 word [] plain)
     ∙ domain_read word
 
-domain_stray : (word next : Text) (more : List Text) → is_plain next ≡ true
+domain_stray : (word next : Text) (more : List Text) → is_plain_word next ≡ true
     → walk_fault (built domain_app).top [] (standing (one_held (codes "domain") word) 2) (next ∷ more) ≡ kind.UnknownArgument ∷ []
 domain_stray word next more plain = faults_on (built domain_app).top (one_held (codes "domain") word) 2 next more plain
 
-pub domain_more : (word next : Text) (more : List Text) → is_plain word ≡ true → is_plain next ≡ true
+pub domain_more : (word next : Text) (more : List Text) → is_plain_word word ≡ true → is_plain_word next ≡ true
     → fault_of domain_app (codes "domain" ∷ word ∷ next ∷ more) ≡ kind.UnknownArgument ∷ []
 domain_more word next more plain also =
     ap (faults_by (built domain_app) (walk (built domain_app).top.rules [] nothing_held (word ∷ next ∷ more)))
@@ -52,7 +52,7 @@ unfolding clap_on_literals
 domain_found word = refl
 
 -- the value is the one word
-pub domain_value : (word : Text) → is_plain word ≡ true → first_of (codes "domain") (matches_of domain_app (codes "domain" ∷ word ∷ [])) ≡ Some word
+pub domain_value : (word : Text) → is_plain_word word ≡ true → first_of (codes "domain") (matches_of domain_app (codes "domain" ∷ word ∷ [])) ≡ Some word
 domain_value word plain =
     ap (λ w. first_of (codes "domain") (finished (built domain_app).top.rules w.held)) (turned (built domain_app).top.rules nothing_held 1 word plain) ∙ domain_found word
 
@@ -81,19 +81,19 @@ account_lacks : (address : Text) → faults_by (built account_app) (standing (on
 unfolding clap_on_literals
 account_lacks address = refl
 
-pub account_one : (address : Text) → is_plain address ≡ true → fault_of account_app (codes "account" ∷ address ∷ []) ≡ kind.MissingRequiredArgument ∷ []
+pub account_one : (address : Text) → is_plain_word address ≡ true → fault_of account_app (codes "account" ∷ address ∷ []) ≡ kind.MissingRequiredArgument ∷ []
 unfolding walk_fault
 account_one address plain =
     ap₂ (faults_by (built account_app)) (turned (built account_app).top.rules nothing_held 1 address plain) (faults_on (built account_app).top nothing_held 1 address [] plain)
     ∙ account_lacks address
 
-account_walk : (address password : Text) → is_plain address ≡ true → is_plain password ≡ true
+account_walk : (address password : Text) → is_plain_word address ≡ true → is_plain_word password ≡ true
     → walk (built account_app).top.rules [] nothing_held (address ∷ password ∷ []) ≡ standing (two_held address password) 3
 account_walk address password plain also =
     ap (λ w. walked (built account_app).top.rules [] w password) (turned (built account_app).top.rules nothing_held 1 address plain)
     ∙ turned (built account_app).top.rules (one_held (codes "address") address) 2 password also
 
-account_walk_fault : (address password : Text) → is_plain address ≡ true → is_plain password ≡ true
+account_walk_fault : (address password : Text) → is_plain_word address ≡ true → is_plain_word password ≡ true
     → walk_fault (built account_app).top [] (walk_from nothing_held) (address ∷ password ∷ []) ≡ []
 unfolding walk_fault
 account_walk_fault address password plain also =
@@ -104,15 +104,15 @@ account_read : (address password : Text) → faults_by (built account_app) (stan
 unfolding clap_on_literals
 account_read address password = refl
 
-pub account_two : (address password : Text) → is_plain address ≡ true → is_plain password ≡ true → fault_of account_app (codes "account" ∷ address ∷ password ∷ []) ≡ []
+pub account_two : (address password : Text) → is_plain_word address ≡ true → is_plain_word password ≡ true → fault_of account_app (codes "account" ∷ address ∷ password ∷ []) ≡ []
 account_two address password plain also =
     ap₂ (faults_by (built account_app)) (account_walk address password plain also) (account_walk_fault address password plain also) ∙ account_read address password
 
-account_stray : (address password next : Text) (more : List Text) → is_plain next ≡ true
+account_stray : (address password next : Text) (more : List Text) → is_plain_word next ≡ true
     → walk_fault (built account_app).top [] (standing (two_held address password) 3) (next ∷ more) ≡ kind.UnknownArgument ∷ []
 account_stray address password next more plain = faults_on (built account_app).top (two_held address password) 3 next more plain
 
-pub account_more : (address password next : Text) (more : List Text) → is_plain address ≡ true → is_plain password ≡ true → is_plain next ≡ true
+pub account_more : (address password next : Text) (more : List Text) → is_plain_word address ≡ true → is_plain_word password ≡ true → is_plain_word next ≡ true
     → fault_of account_app (codes "account" ∷ address ∷ password ∷ next ∷ more) ≡ kind.UnknownArgument ∷ []
 account_more address password next more plain also third =
     ap (faults_by (built account_app) (walk (built account_app).top.rules [] nothing_held (address ∷ password ∷ next ∷ more)))
@@ -128,7 +128,7 @@ unfolding clap_on_literals
 account_found_password address password = refl
 
 -- the values are the two words
-pub account_values : (address password : Text) → is_plain address ≡ true → is_plain password ≡ true
+pub account_values : (address password : Text) → is_plain_word address ≡ true → is_plain_word password ≡ true
     → (first_of (codes "address") (matches_of account_app (codes "account" ∷ address ∷ password ∷ [])) ≡ Some address)
     × (first_of (codes "password") (matches_of account_app (codes "account" ∷ address ∷ password ∷ [])) ≡ Some password)
 account_values address password plain also = (

@@ -15,14 +15,14 @@ use Rattle.clap.specs.declared.parser.matches.ArgMatches.{ArgMatches}
 use Rattle.clap.proofs.WalkLemmas.{first_value-rows}
 use Rattle.mail_store.proofs.ChangeLemmas.{and_left, and_right}
 use Rattle.setup_command.specs.private.Apps.{domain_app, account_app}
-use Rattle.setup_command.specs.PlainWords.{is_plain, IsCalled}
+use Rattle.setup_command.specs.PlainWords.{is_plain_word, IsCalled}
 use Rattle.setup_command.proofs.ReadLemmas.{domain_simple, account_simple, domain_none, domain_one, domain_more, domain_value, domain_is_simple, account_is_simple, account_none, account_one, account_two, account_more, account_values}
 
-first_plain : (word : Text) (rest : List Text) → list_all is_plain (word ∷ rest) ≡ true → is_plain word ≡ true
-first_plain word rest all = and_left (is_plain word) (list_all is_plain rest) all
+first_plain : (word : Text) (rest : List Text) → list_all is_plain_word (word ∷ rest) ≡ true → is_plain_word word ≡ true
+first_plain word rest all = and_left (is_plain_word word) (list_all is_plain_word rest) all
 
-rest_plain : (word : Text) (rest : List Text) → list_all is_plain (word ∷ rest) ≡ true → list_all is_plain rest ≡ true
-rest_plain word rest all = and_right (is_plain word) (list_all is_plain rest) all
+rest_plain : (word : Text) (rest : List Text) → list_all is_plain_word (word ∷ rest) ≡ true → list_all is_plain_word rest ≡ true
+rest_plain word rest all = and_right (is_plain_word word) (list_all is_plain_word rest) all
 
 -- the words behind one list's name are those behind the other's
 behind : (name : Text) (a b : List Text) → name ∷ a ≡ name ∷ b → a ≡ b
@@ -45,7 +45,7 @@ taken_refused kinds e none (inr among) other = rw none at among
 -- ---- one argument
 
 -- the words behind the name that are taken are one
-domain_word : (rest : List Text) → list_all is_plain rest ≡ true → fault_of domain_app (codes "domain" ∷ rest) ≡ [] → (word : Text) × (rest ≡ word ∷ []) × (is_plain word ≡ true)
+domain_word : (rest : List Text) → list_all is_plain_word rest ≡ true → fault_of domain_app (codes "domain" ∷ rest) ≡ [] → (word : Text) × (rest ≡ word ∷ []) × (is_plain_word word ≡ true)
 domain_word [] plain faultless = let differs = sym domain_none ∙ faultless in absurd (cc differs)
 domain_word (word ∷ []) plain faultless = (word, refl, first_plain word [] plain)
 domain_word (word ∷ next ∷ more) plain faultless =
@@ -74,7 +74,7 @@ domain_lacks : (words : List Text) (e : Error) → IsCalled (codes "domain") wor
     → (value : Text) → words ≡ codes "domain" ∷ value ∷ [] → ⊥
 domain_lacks words e called refused other value are =
     let rest_is : called.rest ≡ value ∷ [] = behind (codes "domain") called.rest (value ∷ []) (sym called.words_are ∙ are) in
-    let plain : is_plain value ≡ true = first_plain value [] (subst (λ (l : List Text). list_all is_plain l ≡ true) rest_is called.plain) in
+    let plain : is_plain_word value ≡ true = first_plain value [] (subst (λ (l : List Text). list_all is_plain_word l ≡ true) rest_is called.plain) in
     taken_refused (fault_of domain_app words) e (ap (fault_of domain_app) are ∙ domain_one value plain) refused other
 
 pub domain_refused : (app : App) (words : List Text) (e : Error) → app ≡ domain_app → IsCalled (codes "domain") words
@@ -85,8 +85,8 @@ domain_refused app words e app_is called refused other =
 -- ---- two arguments
 
 -- the words behind the name that are taken are two
-account_words : (rest : List Text) → list_all is_plain rest ≡ true → fault_of account_app (codes "account" ∷ rest) ≡ []
-    → (address password : Text) × (rest ≡ address ∷ password ∷ []) × (is_plain address ≡ true) × (is_plain password ≡ true)
+account_words : (rest : List Text) → list_all is_plain_word rest ≡ true → fault_of account_app (codes "account" ∷ rest) ≡ []
+    → (address password : Text) × (rest ≡ address ∷ password ∷ []) × (is_plain_word address ≡ true) × (is_plain_word password ≡ true)
 account_words [] plain faultless = let differs = sym account_none ∙ faultless in absurd (cc differs)
 account_words (address ∷ []) plain faultless = let differs = sym (account_one address (first_plain address [] plain)) ∙ faultless in absurd (cc differs)
 account_words (address ∷ password ∷ []) plain faultless =
@@ -137,7 +137,7 @@ account_lacks : (words : List Text) (e : Error) → IsCalled (codes "account") w
     → (address password : Text) → words ≡ codes "account" ∷ address ∷ password ∷ [] → ⊥
 account_lacks words e called refused other address password are =
     let rest_is : called.rest ≡ address ∷ password ∷ [] = behind (codes "account") called.rest (address ∷ password ∷ []) (sym called.words_are ∙ are) in
-    let plain = subst (λ (l : List Text). list_all is_plain l ≡ true) rest_is called.plain in
+    let plain = subst (λ (l : List Text). list_all is_plain_word l ≡ true) rest_is called.plain in
     taken_refused (fault_of account_app words) e
     (ap (fault_of account_app) are ∙ account_two address password (first_plain address (password ∷ []) plain) (first_plain password [] (rest_plain address (password ∷ []) plain))) refused other
 

@@ -3,12 +3,12 @@ use Rattle.std.specs.Prelude.{◌≡◌, ℕ, ◌==◌, Bool, true, false, not, 
 use Rattle.std.specs.List.{list_all}
 
 -- it isn't empty and doesn't begin with `-`
-abbrev pub is_plain : List ℕ → Bool
-is_plain [] = false
-is_plain (x ∷ word) = not (x == 45)
+abbrev pub is_plain_word : List ℕ → Bool
+is_plain_word [] = false
+is_plain_word (x ∷ word) = not (x == 45)
 
 -- this name, and behind it only such words
 pub record IsCalled (name : List ℕ) (words : List (List ℕ)) : Type 0 where
   pub rest : List (List ℕ)
   pub words_are : words ≡ name ∷ rest
-  pub plain : list_all is_plain rest ≡ true
+  pub plain : list_all is_plain_word rest ≡ true

@@ -3,30 +3,30 @@ use Rattle.std.specs.Prelude.{◌≡◌, ◌≢◌, ℕ, ◌≤◌, List, [], �
 use Rattle.ace_domains.specs.Domains.{normal_form}
 use Rattle.address_grammar.specs.declared.Address.{Address}
 use Rattle.address_grammar.specs.Addresses.{address_text}
-use Rattle.journal_records.specs.Addresses.{IsTextOf}
+use Rattle.journal_records.specs.Addresses.{IsTextOfAddress}
 use Rattle.journal_records.specs.declared.limits.TheConstants.{TEXT_MAX}
-use Rattle.setup_command.specs.PlainWords.{is_plain}
+use Rattle.setup_command.specs.PlainWords.{is_plain_word}
 
 -- It is the text of an address whose domain has a normal form, and whose own text is within the limit.
 pub record IsAccountText (text : List ℕ) (address : Address) : Type 0 where
-  pub is_text : IsTextOf text address
+  pub is_text : IsTextOfAddress text address
   pub form : normal_form address.domain ≢ None
   pub short : length (address_text address) ≤ TEXT_MAX
 
 -- `account`, such a text, and a password
-pub record IsAccount (words : List (List ℕ)) (address : Address) (password : List ℕ) : Type 0 where
+pub record IsAccountCommand (words : List (List ℕ)) (address : Address) (password : List ℕ) : Type 0 where
   pub text : List ℕ
   pub words_are : words ≡ codes "account" ∷ text ∷ password ∷ []
-  pub plain_text : is_plain text ≡ true
-  pub plain_password : is_plain password ≡ true
+  pub plain_text : is_plain_word text ≡ true
+  pub plain_password : is_plain_word password ≡ true
   pub says : IsAccountText text address
   pub short_password : length password ≤ TEXT_MAX
 
 -- `domain` and a domain
-pub record IsDomain (words : List (List ℕ)) (name : List ℕ) : Type 0 where
+pub record IsDomainCommand (words : List (List ℕ)) (name : List ℕ) : Type 0 where
   pub words_are : words ≡ codes "domain" ∷ name ∷ []
-  pub plain : is_plain name ≡ true
+  pub plain : is_plain_word name ≡ true
   pub form : normal_form name ≢ None
 
-abbrev pub IsHelp : List (List ℕ) → Type 0
-IsHelp words = words ≡ codes "help" ∷ []
+abbrev pub IsHelpCommand : List (List ℕ) → Type 0
+IsHelpCommand words = words ≡ codes "help" ∷ []

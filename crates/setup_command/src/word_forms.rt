@@ -5,9 +5,9 @@ ghost use Rattle.ace_domains.specs.Domains.{normal_form};
 ghost use Rattle.address_grammar.specs.Addresses.{address_text};
 ghost use Rattle.address_grammar.specs.Paths.{ComesInPath};
 ghost use Rattle.address_grammar.specs.declared.Address.{Address as AddressValue};
-ghost use Rattle.journal_records.specs.Addresses.{IsTextOf};
-ghost use Rattle.setup_command.specs.PlainWords.{IsCalled, is_plain as is_plain_word};
-ghost use Rattle.setup_command.specs.WordForms.{IsAccount, IsAccountText, IsDomain};
+ghost use Rattle.journal_records.specs.Addresses.{IsTextOfAddress};
+ghost use Rattle.setup_command.specs.PlainWords.{IsCalled, is_plain_word as is_plain_word};
+ghost use Rattle.setup_command.specs.WordForms.{IsAccountCommand, IsAccountText, IsDomainCommand};
 
 use crate::values::{one_value, two_values};
 use ace_domains::normal;
@@ -99,8 +99,8 @@ fn account_address(alloc: Global, text: &[u8]) -> Result<Option<Address>, Memory
 
 /// What the words of `account` say, or none where the words aren't such.
 pub fn read_account(alloc: Global, words: &Words) -> Result<Option<AccountWords>, Memory>
-    ensures some { IfOk result (λ found. IfSome found (λ said. IsAccount words.now said.address said.password)) }
-    ensures none { IfOk result (λ found. IfNone found ((address : AddressValue) (password : List ℕ) → ¬ IsAccount words.now address password)) }
+    ensures some { IfOk result (λ found. IfSome found (λ said. IsAccountCommand words.now said.address said.password)) }
+    ensures none { IfOk result (λ found. IfNone found ((address : AddressValue) (password : List ℕ) → ¬ IsAccountCommand words.now address password)) }
 {
     let list = list_of(alloc, words)?;
     if !is_called(&list, "account") {
@@ -121,8 +121,8 @@ pub fn read_account(alloc: Global, words: &Words) -> Result<Option<AccountWords>
 
 /// The domain that the words of `domain` name, or none where the words aren't such.
 pub fn read_domain(alloc: Global, words: &Words) -> Result<Option<String>, Memory>
-    ensures some { IfOk result (λ found. IfSome found (λ name. IsDomain words.now (string_bytes name))) }
-    ensures none { IfOk result (λ found. IfNone found ((name : List ℕ) → ¬ IsDomain words.now name)) }
+    ensures some { IfOk result (λ found. IfSome found (λ name. IsDomainCommand words.now (string_bytes name))) }
+    ensures none { IfOk result (λ found. IfNone found ((name : List ℕ) → ¬ IsDomainCommand words.now name)) }
 {
     let list = list_of(alloc, words)?;
     if !is_called(&list, "domain") {

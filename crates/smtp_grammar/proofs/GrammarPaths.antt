@@ -10,10 +10,10 @@ use Rattle.field_tokens.specs.declared.TokenKind.{TokenKind}
 use Rattle.field_tokens.specs.declared.TokenKind.TheVariants.{Atom, Quoted, Literal, Special, Gap, Comment}
 use Rattle.field_tokens.specs.Groups.{Inside, End, Plain, Pair, Nested, IsInside, inside_octets, depth_of}
 use Rattle.field_tokens.specs.Tokens.{AreTokens, IsToken, TokenValue, quoted_marks}
-use Rattle.field_tokens.specs.Squeezed.{is_comment}
+use Rattle.field_tokens.specs.Squeezed.{is_comment, is_special_kind, words_of}
 use Rattle.address_grammar.specs.declared.Address.{Address}
 use Rattle.address_grammar.specs.Addresses.{is_domain, is_one_literal}
-use Rattle.address_grammar.specs.private.Lexemes.{are_blank, are_dotted, is_blank_token, is_literal_kind, is_mark, is_part, is_special_kind, words_of}
+use Rattle.address_grammar.specs.private.Lexemes.{are_blank, are_dotted, is_blank_token, is_literal_kind, is_special_of, is_part}
 use Rattle.address_grammar.specs.Paths.{IsPathOf, in_angles}
 use Rattle.address_grammar.proofs.WritingLemmas.{mark_is}
 use Rattle.smtp_grammar.specs.declared.command.Place.TheVariants as place
@@ -25,7 +25,7 @@ use Rattle.smtp_grammar.proofs.PathOctets.{Passes, atoms_go, found_behind, found
 
 -- a token that may stand in a path: no comment, and of the specials a dot or `@`
 abbrev may_stand : TokenValue → Bool
-may_stand t = not (is_comment t.kind) && (not (is_special_kind t.kind) || (is_mark 46 t || is_mark 64 t))
+may_stand t = not (is_comment t.kind) && (not (is_special_kind t.kind) || (is_special_of 46 t || is_special_of 64 t))
 
 -- white goes on
 white_goes : (octets : List ℕ) → list_all is_white octets ≡ true → list_all goes_on octets ≡ true
@@ -49,10 +49,10 @@ passes_inside (Pair x more) is flat =
 passes_inside (Nested inside more) is flat = absurd (omega (arith, flat))
 
 -- a dot or `@`
-passes_mark : (octets : List ℕ) → (is_mark 46 (record { kind = Special; octets = octets }) || is_mark 64 (record { kind = Special; octets = octets })) ≡ true → Passes place.Plain octets place.Plain
+passes_mark : (octets : List ℕ) → (is_special_of 46 (record { kind = Special; octets = octets }) || is_special_of 64 (record { kind = Special; octets = octets })) ≡ true → Passes place.Plain octets place.Plain
 passes_mark octets h =
     let t : TokenValue = record { kind = Special; octets = octets } in
-    elim (or_cases (is_mark 46 t) (is_mark 64 t) h) [
+    elim (or_cases (is_special_of 46 t) (is_special_of 64 t) h) [
       | inl dot ↦ let is = ap (λ (t : TokenValue). t.octets) (mark_is 46 t dot) in rw is (passes_octet 46 refl)
       | inr at ↦ let is = ap (λ (t : TokenValue). t.octets) (mark_is 64 t at) in rw is (passes_octet 64 refl)
     ]
@@ -95,7 +95,7 @@ parted (t ∷ tokens) others text are may =
 
 -- of the specials it is a dot or `@`
 abbrev fits : TokenValue → Bool
-fits t = not (is_special_kind t.kind) || (is_mark 46 t || is_mark 64 t)
+fits t = not (is_special_kind t.kind) || (is_special_of 46 t || is_special_of 64 t)
 
 -- gaps and comments do
 blank_fits : (t : TokenValue) → is_blank_token t ≡ true → fits t ≡ true
@@ -139,15 +139,15 @@ part_fits quoted t part = by quoted t.kind t.octets part
     by false Special octets h = cc h
 
 -- a dot and `@` do
-mark_fits : (m : ℕ) (t : TokenValue) → fits (record { kind = Special; octets = m ∷ [] }) ≡ true → is_mark m t ≡ true → fits t ≡ true
+mark_fits : (m : ℕ) (t : TokenValue) → fits (record { kind = Special; octets = m ∷ [] }) ≡ true → is_special_of m t ≡ true → fits t ≡ true
 mark_fits m t fit mark = rw (mark_is m t mark) fit
 
 dotted_fit : (quoted : Bool) (words : List TokenValue) → are_dotted (is_part quoted) words ≡ true → list_all fits words ≡ true
 dotted_fit quoted [] h = refl
 dotted_fit quoted (w ∷ []) h = and_from (fits w) true (part_fits quoted w h) refl
 dotted_fit quoted (w ∷ d ∷ words) h =
-    let parts = and_parts (is_part quoted w) (is_mark 46 d && are_dotted (is_part quoted) words) h in
-    let others = and_parts (is_mark 46 d) (are_dotted (is_part quoted) words) parts.1 in
+    let parts = and_parts (is_part quoted w) (is_special_of 46 d && are_dotted (is_part quoted) words) h in
+    let others = and_parts (is_special_of 46 d) (are_dotted (is_part quoted) words) parts.1 in
     and_from (fits w) (fits d && list_all fits words) (part_fits quoted w parts.0)
     (and_from (fits d) (list_all fits words) (mark_fits 46 d refl others.0) (dotted_fit quoted words others.1))
 
@@ -196,14 +196,14 @@ record InAngles (text : List ℕ) : Type 0 where
   passes : Passes place.Plain inner place.Plain
 
 -- the closing bracket is the last token
-last_close : (close : TokenValue) (rest : List ℕ) → is_mark 62 close ≡ true → AreTokens Mail (close ∷ []) rest → rest ≡ 62 ∷ []
+last_close : (close : TokenValue) (rest : List ℕ) → is_special_of 62 close ≡ true → AreTokens Mail (close ∷ []) rest → rest ≡ 62 ∷ []
 last_close close rest closes are =
     let octets : close.octets ≡ 62 ∷ [] = ap (λ (t : TokenValue). t.octets) (mark_is 62 close closes) in
     are.1 ∙ ap (λ back. close.octets ++ back) are.3 ∙ ap (λ front. front ++ []) octets
 
 -- the opening bracket is the first token
-between_angles : (text : List ℕ) (open_mark close : TokenValue) (inner : List TokenValue) → AreTokens Mail (open_mark ∷ (inner ++ close ∷ [])) text → is_mark 60 open_mark ≡ true
-    → is_mark 62 close ≡ true → list_all may_stand inner ≡ true → InAngles text
+between_angles : (text : List ℕ) (open_mark close : TokenValue) (inner : List TokenValue) → AreTokens Mail (open_mark ∷ (inner ++ close ∷ [])) text → is_special_of 60 open_mark ≡ true
+    → is_special_of 62 close ≡ true → list_all may_stand inner ≡ true → InAngles text
 between_angles text open_mark close inner are opens closes may =
     let octets : open_mark.octets ≡ 60 ∷ [] = ap (λ (t : TokenValue). t.octets) (mark_is 60 open_mark opens) in
     let parts = parted inner (close ∷ []) are.0 are.3 may in

@@ -17,7 +17,7 @@ use Rattle.std.proofs.lemmas.List.Folds.{list_any-append}
 use Rattle.std.proofs.lemmas.List.Sums.{sum_by-append}
 use Rattle.std.proofs.lemmas.Map.Text.{is_eq-slice_cmp}
 use Rattle.std.proofs.lemmas.Slice.Eq.{bytes_eq-Decides}
-use Rattle.smtp_grammar.specs.Commands.{keyword_of, has_twice, parameter_of, is_malformed, are_malformed}
+use Rattle.smtp_grammar.specs.Commands.{parameter_keyword, has_twice, parameter_of, is_malformed, are_malformed}
 
 or_false : (b : Bool) → (b || false) ≡ b
 or_false true = refl
@@ -37,12 +37,12 @@ bytes_eq-turned : (xs ys : List ℕ) → bytes_eq xs ys ≡ bytes_eq ys xs
 bytes_eq-turned = nat_list_eq_equiv.symm
 
 -- one more word: its keyword may be that of an earlier one
-pub has_twice-push : (words : List (List ℕ)) (word : List ℕ) → has_twice (words ++ word ∷ []) ≡ (has_twice words || list_any (λ other. bytes_eq (keyword_of word) (keyword_of other)) words)
+pub has_twice-push : (words : List (List ℕ)) (word : List ℕ) → has_twice (words ++ word ∷ []) ≡ (has_twice words || list_any (λ other. bytes_eq (parameter_keyword word) (parameter_keyword other)) words)
 has_twice-push [] word = refl
 has_twice-push (first ∷ words) word =
     let later = has_twice-push words word in
-    let here = any-push (λ other. bytes_eq (keyword_of other) (keyword_of first)) words word in
-    rw (here, later) (four (list_any (λ other. bytes_eq (keyword_of other) (keyword_of first)) words) (bytes_eq (keyword_of word) (keyword_of first)) (has_twice words) (list_any (λ other. bytes_eq (keyword_of word) (keyword_of other)) words))
+    let here = any-push (λ other. bytes_eq (parameter_keyword other) (parameter_keyword first)) words word in
+    rw (here, later) (four (list_any (λ other. bytes_eq (parameter_keyword other) (parameter_keyword first)) words) (bytes_eq (parameter_keyword word) (parameter_keyword first)) (has_twice words) (list_any (λ other. bytes_eq (parameter_keyword word) (parameter_keyword other)) words))
   where
     four : (a b c d : Bool) → ((a || b) || (c || d)) ≡ ((a || c) || (b || d))
     four true b c d = refl
@@ -101,15 +101,15 @@ size-turn f words word more new old here most m n o h = rw (m, sum_by-append f w
 
 -- the telling that keywords or values are malformed, with one more word
 pub malformed-turn : (words : List (List ℕ)) (word : List ℕ) (more : List (List ℕ)) (new old here is_new : Bool) → more ≡ words ++ word ∷ [] → new ≡ (old || (here || not is_new)) → old ≡ are_malformed words
-    → here ≡ is_malformed (parameter_of word) → is_new ≡ not (list_any (λ other. bytes_eq (keyword_of word) (keyword_of other)) words) → new ≡ are_malformed more
+    → here ≡ is_malformed (parameter_of word) → is_new ≡ not (list_any (λ other. bytes_eq (parameter_keyword word) (parameter_keyword other)) words) → new ≡ are_malformed more
 malformed-turn words word more new old here is_new m n o h f =
-    let pushed = malformed-push new old (has_twice words) (list_any (λ word. is_malformed (parameter_of word)) words) here is_new (list_any (λ other. bytes_eq (keyword_of word) (keyword_of other)) words) n o f in
+    let pushed = malformed-push new old (has_twice words) (list_any (λ word. is_malformed (parameter_of word)) words) here is_new (list_any (λ other. bytes_eq (parameter_keyword word) (parameter_keyword other)) words) n o f in
     rw (m, has_twice-push words word, any-push (λ word. is_malformed (parameter_of word)) words word, ← h) pushed
 
 -- the keywords of a set, with one more word
-pub keywords-turn : (words : List (List ℕ)) (word : List ℕ) (more : List (List ℕ)) (old new : List (Vec ℕ)) (key : Vec ℕ) → more ≡ words ++ word ∷ [] → key.items ≡ keyword_of word
+pub keywords-turn : (words : List (List ℕ)) (word : List ℕ) (more : List (List ℕ)) (old new : List (Vec ℕ)) (key : Vec ℕ) → more ≡ words ++ word ∷ [] → key.items ≡ parameter_keyword word
     → new ≡ insert_key (λ x y. slice_cmp nat_cmp x.items y.items) old key
-    → ((q : List ℕ) → list_any (is_at (λ k. slice_cmp nat_cmp q k.items)) old ≡ list_any (λ word. bytes_eq q (keyword_of word)) words)
-    → (q : List ℕ) → list_any (is_at (λ k. slice_cmp nat_cmp q k.items)) new ≡ list_any (λ word. bytes_eq q (keyword_of word)) more
+    → ((q : List ℕ) → list_any (is_at (λ k. slice_cmp nat_cmp q k.items)) old ≡ list_any (λ word. bytes_eq q (parameter_keyword word)) words)
+    → (q : List ℕ) → list_any (is_at (λ k. slice_cmp nat_cmp q k.items)) new ≡ list_any (λ word. bytes_eq q (parameter_keyword word)) more
 keywords-turn words word more old new key m k n o q =
-    ap (list_any (is_at (λ (k : Vec ℕ). slice_cmp nat_cmp q k.items))) n ∙ insert-any q old key ∙ rw (m, any-push (λ word. bytes_eq q (keyword_of word)) words word, o q, k) refl
+    ap (list_any (is_at (λ (k : Vec ℕ). slice_cmp nat_cmp q k.items))) n ∙ insert-any q old key ∙ rw (m, any-push (λ word. bytes_eq q (parameter_keyword word)) words word, o q, k) refl

@@ -7,7 +7,7 @@ use Rattle.std.specs.Char.{to_ascii_lowercase}
 use Rattle.std.proofs.lemmas.List.{at_drop_more, at_drop_all, length-map, length-take}
 use Rattle.mail_wire.specs.Octets.{same_name}
 use Rattle.smtp_grammar.specs.declared.command.Place.{Place}
-use Rattle.smtp_grammar.specs.Commands.{path_len, stands_plain, place_after, behind_word}
+use Rattle.smtp_grammar.specs.Commands.{path_len, stands_plain, path_place_after, behind_word}
 
 -- more octets before a length
 map-map : (n : ℕ) (o : Option ℕ) → option_map (λ m. m + n) (option_map (λ m. m + 1) o) ≡ option_map (λ m. m + (n + 1)) o
@@ -23,9 +23,9 @@ unfolding path_len
 len-comment n place x rest goes begins = rw (goes, begins) refl
 
 len-next : (n : ℕ) (place : Place) (x : ℕ) (rest : List ℕ) → stands_plain 62 place x ≡ false → stands_plain 40 place x ≡ false
-    → option_map (λ m. m + n) (path_len place (x ∷ rest)) ≡ option_map (λ m. m + (n + 1)) (path_len (place_after place x) rest)
+    → option_map (λ m. m + n) (path_len place (x ∷ rest)) ≡ option_map (λ m. m + (n + 1)) (path_len (path_place_after place x) rest)
 unfolding path_len
-len-next n place x rest goes plain = rw (goes, plain) (map-map n (path_len (place_after place x) rest))
+len-next n place x rest goes plain = rw (goes, plain) (map-map n (path_len (path_place_after place x) rest))
 
 len-nil : (n : ℕ) (place : Place) → option_map (λ m. m + n) (path_len place []) ≡ None
 unfolding path_len
@@ -46,7 +46,7 @@ turn-comment whole n at place text so_far here goes begins =
 -- the path goes on behind this octet
 pub turn-next : (whole : Option ℕ) (n at : ℕ) (place : Place) (text : List ℕ) → whole ≡ option_map (λ m. m + n) (path_len place (drop at text)) → at < length text
     → stands_plain 62 place (get_or text at 0) ≡ false → stands_plain 40 place (get_or text at 0) ≡ false
-    → whole ≡ option_map (λ m. m + (n + 1)) (path_len (place_after place (get_or text at 0)) (drop (at + 1) text))
+    → whole ≡ option_map (λ m. m + (n + 1)) (path_len (path_place_after place (get_or text at 0)) (drop (at + 1) text))
 turn-next whole n at place text so_far here goes plain =
     so_far ∙ at_drop_more (λ (rest : List ℕ). option_map (λ m. m + n) (path_len place rest)) text at 0 here ∙ len-next n place (get_or text at 0) (drop (at + 1) text) goes plain
 

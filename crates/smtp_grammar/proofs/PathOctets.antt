@@ -21,13 +21,14 @@ use Rattle.field_tokens.specs.TokenOctets.{is_atom_octet}
 use Rattle.field_tokens.specs.Tokens.{TokenValue, literal_marks}
 use Rattle.address_grammar.specs.declared.Address.{Address}
 use Rattle.address_grammar.specs.Addresses.{IsAddress, is_domain, is_dot_atom, is_one_literal, is_some_atom, quoted_octet, quoted_string, local_text, address_text}
-use Rattle.address_grammar.specs.private.Lexemes.{are_dotted, content_of, contents, is_atom_kind, is_literal_kind, is_mark, is_part, words_of}
+use Rattle.address_grammar.specs.private.Lexemes.{are_dotted, said_content, contents, is_literal_kind, is_special_of, is_part}
 use Rattle.address_grammar.specs.Paths.{ComesInPath, in_angles}
 use Rattle.address_grammar.proofs.SoundLemmas.{IsSound, Shape, contents-words, sound_front, sound_rest, sound_words, tokens_sound}
 use Rattle.address_grammar.proofs.WritingLemmas.{mark_is}
 use Rattle.smtp_grammar.specs.declared.command.Place.{Place}
 use Rattle.smtp_grammar.specs.declared.command.Place.TheVariants as place
-use Rattle.smtp_grammar.specs.Commands.{behind_word, path_and_rest, path_behind, path_in, path_len, place_after, stands_apart, stands_plain}
+use Rattle.smtp_grammar.specs.Commands.{behind_word, path_and_rest, path_behind, path_in, path_len, path_place_after, stands_apart, stands_plain}
+use Rattle.field_tokens.specs.Squeezed.{is_atom_kind, words_of}
 
 -- ---- octets that a path goes on with
 
@@ -57,7 +58,7 @@ pub plain_none : PassesPlain []
 plain_none = passes_none place.Plain
 
 -- one octet
-pub passes_one : (x : ℕ) (at : Place) → stands_plain 62 at x ≡ false → stands_plain 40 at x ≡ false → Passes at (x ∷ []) (place_after at x)
+pub passes_one : (x : ℕ) (at : Place) → stands_plain 62 at x ≡ false → stands_plain 40 at x ≡ false → Passes at (x ∷ []) (path_place_after at x)
 unfolding path_len
 passes_one x at goes plain rest = rw (goes, plain) refl
 
@@ -95,7 +96,7 @@ going_on x h =
 pub passes_octet : (x : ℕ) → goes_on x ≡ true → Passes place.Plain (x ∷ []) place.Plain
 passes_octet x h =
     let is = going_on x h in
-    let stays : place_after place.Plain x ≡ place.Plain = rw (is.no_quote, is.no_literal) refl in
+    let stays : path_place_after place.Plain x ≡ place.Plain = rw (is.no_quote, is.no_literal) refl in
     subst (Passes place.Plain (x ∷ [])) stays (passes_one x place.Plain is.no_end is.no_comment)
 
 -- and behind several
@@ -148,7 +149,7 @@ passes_quoted_octet x = elim (cases_Bool ((x == 34) || (x == 92))) [
   | inl mark ↦ rw (mark) (passes_both (92 ∷ []) (x ∷ []) place.Quoted place.QuotedPair place.Quoted (passes_one 92 place.Quoted refl refl) (passes_one x place.QuotedPair refl refl))
   | inr other ↦
       let parts = or_parts (x == 34) (x == 92) other in
-      let stays : place_after place.Quoted x ≡ place.Quoted = rw (parts.0, parts.1) refl in
+      let stays : path_place_after place.Quoted x ≡ place.Quoted = rw (parts.0, parts.1) refl in
       rw (other) (subst (Passes place.Quoted (x ∷ [])) stays (passes_one x place.Quoted refl refl))
 ]
 
@@ -176,7 +177,7 @@ passes_local local = elim (cases_Bool (is_dot_atom local)) [
 -- ---- domains
 
 -- what an atom says
-atom_token_goes : (kind : TokenKind) (octets : List ℕ) → is_atom_kind kind ≡ true → Shape kind octets → list_all goes_on (content_of kind octets) ≡ true
+atom_token_goes : (kind : TokenKind) (octets : List ℕ) → is_atom_kind kind ≡ true → Shape kind octets → list_all goes_on (said_content kind octets) ≡ true
 atom_token_goes Atom octets h shape = atoms_go octets shape.1
 atom_token_goes Quoted octets h shape = cc h
 atom_token_goes Literal octets h shape = cc h
@@ -187,18 +188,18 @@ atom_token_goes Comment octets h shape = refl
 -- what atoms divided by dots say
 dotted_go : (ws : List TokenValue) → are_dotted (is_part false) ws ≡ true → AllByRecursion IsSound ws → list_all goes_on (contents ws) ≡ true
 dotted_go [] h s = refl
-dotted_go (w ∷ []) h s = both_go (content_of w.kind w.octets) [] (atom_token_goes w.kind w.octets h s.0.shape) refl
+dotted_go (w ∷ []) h s = both_go (said_content w.kind w.octets) [] (atom_token_goes w.kind w.octets h s.0.shape) refl
 dotted_go (w ∷ d ∷ ws) h s =
-    let parts = and_parts (is_part false w) (is_mark 46 d && are_dotted (is_part false) ws) h in
-    let others = and_parts (is_mark 46 d) (are_dotted (is_part false) ws) parts.1 in
+    let parts = and_parts (is_part false w) (is_special_of 46 d && are_dotted (is_part false) ws) h in
+    let others = and_parts (is_special_of 46 d) (are_dotted (is_part false) ws) parts.1 in
     rw (mark_is 46 d others.0)
-    (both_go (content_of w.kind w.octets) (46 ∷ contents ws) (atom_token_goes w.kind w.octets parts.0 s.0.shape) (dotted_go ws others.1 s.1.1))
+    (both_go (said_content w.kind w.octets) (46 ∷ contents ws) (atom_token_goes w.kind w.octets parts.0 s.0.shape) (dotted_go ws others.1 s.1.1))
 
 -- what stands in a literal, in which no other one may stand
 passes_inside : (inside : Inside) → IsInside literal_marks inside → depth_of inside < 1 → Passes place.Literal (inside_octets literal_marks inside) place.Literal
 passes_inside End is flat = passes_none place.Literal
 passes_inside (Plain x more) is flat =
-    let stays : place_after place.Literal x ≡ place.Literal = rw (ne_eqb x 93 is.1, ne_eqb x 92 is.2) refl in
+    let stays : path_place_after place.Literal x ≡ place.Literal = rw (ne_eqb x 93 is.1, ne_eqb x 92 is.2) refl in
     passes_both (x ∷ []) (inside_octets literal_marks more) place.Literal place.Literal place.Literal
     (subst (Passes place.Literal (x ∷ [])) stays (passes_one x place.Literal refl refl)) (passes_inside more is.4 flat)
 passes_inside (Pair x more) is flat =
@@ -207,7 +208,7 @@ passes_inside (Pair x more) is flat =
 passes_inside (Nested inside more) is flat = absurd (omega (arith, flat))
 
 -- a literal
-pub passes_literal : (kind : TokenKind) (octets : List ℕ) → is_literal_kind kind ≡ true → Shape kind octets → Passes place.Plain (content_of kind octets) place.Plain
+pub passes_literal : (kind : TokenKind) (octets : List ℕ) → is_literal_kind kind ≡ true → Shape kind octets → Passes place.Plain (said_content kind octets) place.Plain
 passes_literal Literal octets h shape =
     let inside = inside_octets literal_marks shape.inside in
     rw (shape.spelled)
@@ -223,7 +224,7 @@ passes_literal Comment octets h shape = cc h
 passes_one_literal : (ws : List TokenValue) → is_one_literal ws ≡ true → AllByRecursion IsSound ws → Passes place.Plain (contents ws) place.Plain
 passes_one_literal [] h s = cc h
 passes_one_literal (w ∷ []) h s =
-    passes_both (content_of w.kind w.octets) [] place.Plain place.Plain place.Plain (passes_literal w.kind w.octets h s.0.shape) (passes_none place.Plain)
+    passes_both (said_content w.kind w.octets) [] place.Plain place.Plain place.Plain (passes_literal w.kind w.octets h s.0.shape) (passes_none place.Plain)
 passes_one_literal (w ∷ v ∷ ws) h s = cc h
 
 -- what a domain says

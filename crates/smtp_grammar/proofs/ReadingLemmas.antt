@@ -15,8 +15,8 @@ use Rattle.mail_wire.specs.Dots.{unstuffed, unstuffed_line}
 use Rattle.mail_wire.specs.Lines.{Cut, begun_with, first_line, is_crlf}
 use Rattle.mail_wire.proofs.FirstLineLemmas.{put, first_line-other, put_nothing, put_more}
 use Rattle.smtp_grammar.specs.Data.{data_cut}
-use Rattle.smtp_grammar.specs.Reading.{HasEnded, HasRead, IsBounded, IsDataLine, KeepsAs, SayTooMuch, Takes, last_four}
-use Rattle.smtp_grammar.specs.private.LinesRead.{EndsLine, HasRoom, TakesLine}
+use Rattle.smtp_grammar.specs.Reading.{DataHaveEnded, HasRead, IsBounded, IsDataLine, KeepsAs, SayTooMuch, TakesOfPiece, last_four}
+use Rattle.smtp_grammar.specs.private.LinesRead.{EndsLine, DataHaveRoom, TakesLine}
 use Rattle.smtp_grammar.specs.declared.data.DataReader.{DataReader}
 use Rattle.smtp_grammar.proofs.DataLemmas.{data_cut-stays}
 use Rattle.smtp_grammar.proofs.DataLines.{AreDataLines, data_cut-last, data_cut-lines, data_cut-none, is_first, last_line, none_first, nothing_unstuffed, says_front, unput, unstuffed-concat, unstuffed-lines}
@@ -350,7 +350,7 @@ tail_kept line front more (inl is) = ap (λ octets. last_four (octets ++ more)) 
 tail_kept line front more (inr is) = ap (λ octets. last_four (octets ++ more)) is ∙ four_left front more
 
 -- without room the data say too much
-no_room : (reader : DataReader) (octets more : List ℕ) (read : HasRead reader octets) → first_line (read.front ++ more) ≡ None → (HasRoom reader more → ⊥) → (b : Bool) → reader.dropped ≡ b
+no_room : (reader : DataReader) (octets more : List ℕ) (read : HasRead reader octets) → first_line (read.front ++ more) ≡ None → (DataHaveRoom reader more → ⊥) → (b : Bool) → reader.dropped ≡ b
     → SayTooMuch reader.limit (concat read.lines ++ (read.front ++ more))
 no_room reader octets more read none lacks true dropped =
     let keeps = keeps_as reader read.lines read.front true reader.dropped (sym dropped) read.keeps in
@@ -370,7 +370,7 @@ no_room reader octets more read none lacks false dropped =
     ]
 
 -- the data are dropped
-pub front_dropped : (old new : DataReader) (octets more : List ℕ) → (HasRoom old more → ⊥) → new.dropped ≡ true → new.content ≡ [] → new.limit ≡ old.limit → new.line ≡ last_four (old.line ++ more)
+pub front_dropped : (old new : DataReader) (octets more : List ℕ) → (DataHaveRoom old more → ⊥) → new.dropped ≡ true → new.content ≡ [] → new.limit ≡ old.limit → new.line ≡ last_four (old.line ++ more)
     → HasRead old octets → first_line (old.line ++ more) ≡ None → HasRead new (octets ++ more)
 front_dropped old new octets more lacks dropped content limit line read none =
     let still = none_with old.line read.front more read.unended (kept old octets read) none in
@@ -386,7 +386,7 @@ front_dropped old new octets more lacks dropped content limit line read none =
 
 -- what was said of data that were dropped, or kept
 ended_by : (reader : DataReader) (octets part : List ℕ) (read : HasRead reader octets) → data_cut (octets ++ part) ≡ Some (record { line = concat read.lines; rest = [] })
-    → (b : Bool) → reader.dropped ≡ b → HasEnded reader (concat read.lines)
+    → (b : Bool) → reader.dropped ≡ b → DataHaveEnded reader (concat read.lines)
 ended_by reader octets part read is true dropped =
     let keeps = keeps_as reader read.lines read.front true reader.dropped (sym dropped) read.keeps in
     let long = keeps.long part _ (ap (λ all. data_cut (all ++ part)) (sym read.octets_are) ∙ is) in
@@ -397,7 +397,7 @@ ended_by reader octets part read is false dropped =
 
 -- the last line ends the data
 pub part_last : (reader : DataReader) (octets part : List ℕ) → reader.line ++ part ≡ last_line → HasRead reader octets → EndsLine reader part
-    → (line : List ℕ) × (data_cut (octets ++ part) ≡ Some (record { line = line; rest = [] })) × HasEnded reader line
+    → (line : List ℕ) × (data_cut (octets ++ part) ≡ Some (record { line = line; rest = [] })) × DataHaveEnded reader line
 part_last reader octets part last read ends =
     let whole = ends_with reader.line read.front part read.unended (kept reader octets read) ends in
     let is_last = last_kept reader.line read.front part (kept reader octets read) last in
@@ -445,7 +445,7 @@ taken_line old reader new piece rest used end is taken finds fits takes limit bo
     }
 
 -- all was taken
-pub taken_all : (old new : DataReader) (piece : List ℕ) (used : ℕ) → length piece ≤ used → HasTaken old new piece used → (octets : List ℕ) → HasRead old octets → Takes new octets piece None
+pub taken_all : (old new : DataReader) (piece : List ℕ) (used : ℕ) → length piece ≤ used → HasTaken old new piece used → (octets : List ℕ) → HasRead old octets → TakesOfPiece new octets piece None
 taken_all old new piece used all taken octets read =
     let here : HasRead new (octets ++ piece) = rw (take_all used piece all) at (taken.read octets read) in
     (read_unended new (octets ++ piece) here, here)
@@ -453,7 +453,7 @@ taken_all old new piece used all taken octets read =
 -- the front of a line was taken
 pub taken_front : (old reader new : DataReader) (piece rest : List ℕ) (used : ℕ) → rest ≡ drop used piece → HasTaken old reader piece used
     → (first_line reader.line ≡ None → first_line (reader.line ++ rest) ≡ None)
-    → ((octets : List ℕ) → HasRead reader octets → first_line (reader.line ++ rest) ≡ None → HasRead new (octets ++ rest)) → (octets : List ℕ) → HasRead old octets → Takes new octets piece None
+    → ((octets : List ℕ) → HasRead reader octets → first_line (reader.line ++ rest) ≡ None → HasRead new (octets ++ rest)) → (octets : List ℕ) → HasRead old octets → TakesOfPiece new octets piece None
 taken_front old reader new piece rest used is taken finds takes octets read =
     let before = taken.read octets read in
     let behind = takes (octets ++ take used piece) before (finds (line_unended reader (octets ++ take used piece) before)) in
@@ -465,7 +465,7 @@ taken_front old reader new piece rest used is taken finds takes octets read =
 -- the last line was taken
 pub taken_end : (old reader new : DataReader) (piece rest : List ℕ) (used end : ℕ) → rest ≡ drop used piece → HasTaken old reader piece used → FindsEnd reader rest end → 0 < end → end ≤ length rest
     → ((octets : List ℕ) → HasRead reader octets → EndsLine reader (take end rest) → TakesLine new (octets ++ take end rest) true) → (octets : List ℕ) → HasRead old octets
-    → Takes new octets piece (Some (used + end))
+    → TakesOfPiece new octets piece (Some (used + end))
 taken_end old reader new piece rest used end is taken finds some fits takes octets read =
     let here = taken.read octets read in
     let ended = takes (octets ++ take used piece) here (ends_line reader (octets ++ take used piece) rest end here finds) in

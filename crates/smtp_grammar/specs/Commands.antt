@@ -70,12 +70,12 @@ is_client name = nat_lt 0 (length name) && nat_le (length name) 255 && list_all 
 -- ---- the path of MAIL and RCPT
 
 -- The place behind an octet: 34 is a quote, 91 and 93 are the brackets of a literal, and 92 is a backslash, which takes the next octet with it in quotes and in a literal.
-abbrev pub place_after : Place → ℕ → Place
-place_after place.Plain x = if x == 34 then place.Quoted else (if x == 91 then place.Literal else place.Plain)
-place_after place.Quoted x = if x == 34 then place.Plain else (if x == 92 then place.QuotedPair else place.Quoted)
-place_after place.QuotedPair x = place.Quoted
-place_after place.Literal x = if x == 93 then place.Plain else (if x == 92 then place.LiteralPair else place.Literal)
-place_after place.LiteralPair x = place.Literal
+abbrev pub path_place_after : Place → ℕ → Place
+path_place_after place.Plain x = if x == 34 then place.Quoted else (if x == 91 then place.Literal else place.Plain)
+path_place_after place.Quoted x = if x == 34 then place.Plain else (if x == 92 then place.QuotedPair else place.Quoted)
+path_place_after place.QuotedPair x = place.Quoted
+path_place_after place.Literal x = if x == 93 then place.Plain else (if x == 92 then place.LiteralPair else place.Literal)
+path_place_after place.LiteralPair x = place.Literal
 
 -- this octet stands here, outside of quotes and of a literal
 abbrev pub stands_plain : ℕ → Place → ℕ → Bool
@@ -91,7 +91,7 @@ path_len place [] = None
 path_len place (x ∷ rest) =
     if stands_plain 62 place x then Some 1
     else if stands_plain 40 place x then None
-    else option_map (λ n. n + 1) (path_len (place_after place x) rest)
+    else option_map (λ n. n + 1) (path_len (path_place_after place x) rest)
 
 -- without one space in front, if there is one
 abbrev pub behind_space : List ℕ → List ℕ
@@ -103,8 +103,8 @@ abbrev pub behind_word : List ℕ → List ℕ → Option (List ℕ)
 behind_word word text = if same_name (take (length word) text) word then Some (behind_space (drop (length word) text)) else None
 
 -- the words that white divides
-abbrev pub words_of : List ℕ → List (List ℕ)
-words_of text = filter (λ word. not (length word == 0)) (slice_split is_white text)
+abbrev pub white_words : List ℕ → List (List ℕ)
+white_words text = filter (λ word. not (length word == 0)) (slice_split is_white text)
 
 -- A path, which begins with `<`, and what stands behind it, which white divides from it.
 pub record PathAndRest : Type 0 where
@@ -137,12 +137,12 @@ abbrev pub is_sign : ℕ → Bool
 is_sign x = x == 61
 
 -- what stands before the first `=`, or all where none is there, in lower case
-abbrev pub keyword_of : List ℕ → List ℕ
-keyword_of word = map to_ascii_lowercase (before_first is_sign word)
+abbrev pub parameter_keyword : List ℕ → List ℕ
+parameter_keyword word = map to_ascii_lowercase (before_first is_sign word)
 
 -- what stands behind the first `=`, where one is there
-abbrev pub value_of : List ℕ → Option (List ℕ)
-value_of word = option_map (λ at. drop (at + 1) word) (position is_sign word)
+abbrev pub parameter_value : List ℕ → Option (List ℕ)
+parameter_value word = option_map (λ at. drop (at + 1) word) (position is_sign word)
 
 -- SIZE with this number, or with none
 abbrev pub size_said : Option ℕ → Parameter
@@ -170,12 +170,12 @@ parameter_named keyword value =
     else (if bytes_eq keyword (codes "smtputf8") then smtputf8_parameter value else parameter.Unknown))
 
 abbrev pub parameter_of : List ℕ → Parameter
-parameter_of word = parameter_named (keyword_of word) (value_of word)
+parameter_of word = parameter_named (parameter_keyword word) (parameter_value word)
 
 -- a keyword stands there twice
 abbrev pub has_twice : List (List ℕ) → Bool
 has_twice [] = false
-has_twice (word ∷ words) = list_any (λ other. bytes_eq (keyword_of other) (keyword_of word)) words || has_twice words
+has_twice (word ∷ words) = list_any (λ other. bytes_eq (parameter_keyword other) (parameter_keyword word)) words || has_twice words
 
 abbrev pub is_malformed : Parameter → Bool
 is_malformed (parameter.Size octets) = false

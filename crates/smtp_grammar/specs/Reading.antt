@@ -50,13 +50,13 @@ pub record HasRead (reader : DataReader) (octets : List ℕ) : Type 0 where
   pub bounded : IsBounded reader
 
 -- what lines of data say, and none where that is more than the limit
-abbrev pub Says : (limit : ℕ) (line : List ℕ) → Option (List ℕ) → Type 0
-Says limit line (Some content) = (content ≡ unstuffed line) × (length content ≤ limit)
-Says limit line None = limit < length (unstuffed line)
+abbrev pub DataSay : (limit : ℕ) (line : List ℕ) → Option (List ℕ) → Type 0
+DataSay limit line (Some content) = (content ≡ unstuffed line) × (length content ≤ limit)
+DataSay limit line None = limit < length (unstuffed line)
 
 -- the data have ended, and were these lines
-abbrev pub HasEnded : (reader : DataReader) (line : List ℕ) → Type 0
-HasEnded reader line = Says reader.limit line (if reader.dropped then None else Some reader.content)
+abbrev pub DataHaveEnded : (reader : DataReader) (line : List ℕ) → Type 0
+DataHaveEnded reader line = DataSay reader.limit line (if reader.dropped then None else Some reader.content)
 
 -- the end of the data stands in the piece, so many octets of which are theirs
 pub record HasFoundEnd (reader : DataReader) (octets piece : List ℕ) (used : ℕ) : Type 0 where
@@ -64,9 +64,9 @@ pub record HasFoundEnd (reader : DataReader) (octets piece : List ℕ) (used : �
   pub fits : used ≤ length piece
   pub line : List ℕ
   pub cut : data_cut (octets ++ piece) ≡ Some (record { line = line; rest = drop used piece })
-  pub ended : HasEnded reader line
+  pub ended : DataHaveEnded reader line
 
 -- what a reader that had read these octets took of a piece
-abbrev pub Takes : (reader : DataReader) (octets piece : List ℕ) (found : Option ℕ) → Type 0
-Takes reader octets piece None = (data_cut (octets ++ piece) ≡ None) × HasRead reader (octets ++ piece)
-Takes reader octets piece (Some used) = HasFoundEnd reader octets piece used
+abbrev pub TakesOfPiece : (reader : DataReader) (octets piece : List ℕ) (found : Option ℕ) → Type 0
+TakesOfPiece reader octets piece None = (data_cut (octets ++ piece) ≡ None) × HasRead reader (octets ++ piece)
+TakesOfPiece reader octets piece (Some used) = HasFoundEnd reader octets piece used

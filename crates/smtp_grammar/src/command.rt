@@ -4,7 +4,7 @@ ghost use Rattle.std.specs.List.{list_any, list_all, position_or_len, before_fir
 ghost use Rattle.std.specs.Option.{option_copied};
 ghost use Rattle.mail_wire.specs.Octets.{is_white, is_black};
 ghost use Rattle.smtp_grammar.specs.declared.command.Place.TheVariants.{Plain};
-ghost use Rattle.smtp_grammar.specs.Commands.{command_of, verb_of, before_white, after_white, is_client as is_client_of, is_client_octet, place_after, stands_plain, path_len, behind_word, behind_space, begins_path, stands_apart, path_behind as path_behind_of, words_of, are_malformed, is_malformed, is_unknown, is_smtputf8, is_sign, value_of, size_said as size_said_of, size_parameter, body_parameter, parameter_of, announced};
+ghost use Rattle.smtp_grammar.specs.Commands.{command_of, verb_of, before_white, after_white, is_client as is_client_of, is_client_octet, path_place_after, stands_plain, path_len, behind_word, behind_space, begins_path, stands_apart, path_behind as path_behind_of, white_words, are_malformed, is_malformed, is_unknown, is_smtputf8, is_sign, parameter_value, size_said as size_said_of, size_parameter, body_parameter, parameter_of, announced};
 
 use mail_wire::{Memory, is_same_name, is_white, read_number};
 use std::alloc::Global;
@@ -141,7 +141,7 @@ enum Place {
 }
 
 fn place_after(place: Place, octet: u8) -> Place
-    ensures { result ≡ place_after place octet }
+    ensures { result ≡ path_place_after place octet }
 {
     match place {
         Place::Plain => match octet {
@@ -307,7 +307,7 @@ fn keyword_of(word: &[u8]) -> &[u8]
 }
 
 fn value_of(word: &[u8]) -> Option<&[u8]>
-    ensures { option_copied result ≡ value_of word.now }
+    ensures { option_copied result ≡ parameter_value word.now }
 {
     let (_, value) = word.split_at(sign_at(word)? + 1);
     Some(value)
@@ -370,10 +370,10 @@ impl Parameters {
 
 /// The parameters that the words behind a path are.
 pub fn read_parameters(alloc: Global, rest: &[u8]) -> Result<Parameters, Memory>
-    ensures malformed { IfOk result (λ read. read.malformed ≡ are_malformed (words_of rest.now)) }
-    ensures unknown { IfOk result (λ read. read.unknown ≡ list_any (λ word. is_unknown (parameter_of word)) (words_of rest.now)) }
-    ensures smtputf8 { IfOk result (λ read. read.smtputf8 ≡ list_any (λ word. is_smtputf8 (parameter_of word)) (words_of rest.now)) }
-    ensures size { IfOk result (λ read. read.size ≡ min (sum_by (λ word. announced (parameter_of word)) (words_of rest.now)) (2 ^ 64 - 1)) }
+    ensures malformed { IfOk result (λ read. read.malformed ≡ are_malformed (white_words rest.now)) }
+    ensures unknown { IfOk result (λ read. read.unknown ≡ list_any (λ word. is_unknown (parameter_of word)) (white_words rest.now)) }
+    ensures smtputf8 { IfOk result (λ read. read.smtputf8 ≡ list_any (λ word. is_smtputf8 (parameter_of word)) (white_words rest.now)) }
+    ensures size { IfOk result (λ read. read.size ≡ min (sum_by (λ word. announced (parameter_of word)) (white_words rest.now)) (2 ^ 64 - 1)) }
 {
     let mut keywords = BTreeSet::new(alloc);
     let mut read = Parameters {

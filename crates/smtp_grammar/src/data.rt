@@ -2,8 +2,8 @@
 ghost use Rattle.std.specs.Prelude.{◌≡◌, ◌↔◌, ℕ, List, [], ◌++◌, None, IfOk, IsTrue, OnOk, codes, length};
 ghost use Rattle.mail_wire.specs.Dots.{unstuffed_line};
 ghost use Rattle.mail_wire.specs.Lines.{first_line};
-ghost use Rattle.smtp_grammar.specs.Reading.{HasEnded, HasRead, IsBounded, Says, Takes, last_four};
-ghost use Rattle.smtp_grammar.specs.private.LinesRead.{EndsLine, HasRoom, TakesLine};
+ghost use Rattle.smtp_grammar.specs.Reading.{DataHaveEnded, HasRead, IsBounded, DataSay, TakesOfPiece, last_four};
+ghost use Rattle.smtp_grammar.specs.private.LinesRead.{EndsLine, DataHaveRoom, TakesLine};
 
 use mail_wire::{Memory, Octets, line_end};
 use std::alloc::Global;
@@ -84,7 +84,7 @@ impl DataReader {
     // Whether more of the front of a line is kept: the data may still say no more than the limit. The line may lose a dot, and one of
     // a dot and CR may be the last.
     fn has_room(&self, more: &[u8]) -> bool
-        ensures { IsTrue result ↔ HasRoom self.now more.now }
+        ensures { IsTrue result ↔ DataHaveRoom self.now more.now }
     {
         let front = self.line.len().saturating_add(more.len());
         !self.dropped && self.content.len().saturating_add(front) <= self.limit as usize + 2
@@ -142,7 +142,7 @@ impl DataReader {
     /// Takes data as far as they are in the piece: how many of its octets are theirs, with the line that ends them; none where they
     /// go on.
     pub fn take(&mut self, piece: &[u8]) -> Result<Option<usize>, Memory>
-        ensures takes { IfOk result (λ found. (octets : List ℕ) → HasRead self.old octets → Takes self.new octets piece.now found) }
+        ensures takes { IfOk result (λ found. (octets : List ℕ) → HasRead self.old octets → TakesOfPiece self.new octets piece.now found) }
         ensures limit { self.new.limit ≡ self.old.limit }
         ensures bounded { IfOk result (λ _. IsBounded self.old → IsBounded self.new) }
     {
@@ -163,7 +163,7 @@ impl DataReader {
 
     /// What the data say; none where that is more than the limit.
     pub fn into_content(self) -> Option<Octets>
-        ensures { (line : List ℕ) → HasEnded self line → Says self.limit line result }
+        ensures { (line : List ℕ) → DataHaveEnded self line → DataSay self.limit line result }
     {
         if self.dropped {
             None

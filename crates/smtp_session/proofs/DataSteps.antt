@@ -17,7 +17,7 @@ use Rattle.session_core.specs.Steps.{Steps}
 use Rattle.session_core.specs.declared.desk.Desk.{Desk}
 use Rattle.session_core.proofs.StepLemmas.{StepsBy-turn, StepsBy-fails, StepsBy-waits}
 use Rattle.smtp_grammar.specs.Data.{data_cut}
-use Rattle.smtp_grammar.specs.Reading.{HasEnded, HasRead, Takes}
+use Rattle.smtp_grammar.specs.Reading.{DataHaveEnded, HasRead, TakesOfPiece}
 use Rattle.smtp_grammar.specs.declared.data.DataReader.{DataReader}
 use Rattle.smtp_session.specs.declared.session.SmtpMachine.{SmtpMachine}
 use Rattle.smtp_session.specs.declared.states.Client.{Client}
@@ -36,9 +36,9 @@ abbrev pub taking : Smtp Data → DataReader → SmtpMachine
 taking session reader = record { state = smtp.Data session; reader = reader }
 
 -- what was found in a piece is this
-pub takes_as : (reader next : DataReader) (piece : List ℕ) (found other : Option ℕ) → found ≡ other → ((octets : List ℕ) → HasRead reader octets → Takes next octets piece found)
-    → (octets : List ℕ) → HasRead reader octets → Takes next octets piece other
-takes_as reader next piece found other same takes octets read = subst (λ (f : Option ℕ). Takes next octets piece f) same (takes octets read)
+pub takes_as : (reader next : DataReader) (piece : List ℕ) (found other : Option ℕ) → found ≡ other → ((octets : List ℕ) → HasRead reader octets → TakesOfPiece next octets piece found)
+    → (octets : List ℕ) → HasRead reader octets → TakesOfPiece next octets piece other
+takes_as reader next piece found other same takes octets read = subst (λ (f : Option ℕ). TakesOfPiece next octets piece f) same (takes octets read)
 
 -- ---- the turn of data
 
@@ -73,8 +73,8 @@ finished_greeted meanings session store moment octets =
 
 -- data whose end was carried out
 pub Steps-data : (a b : Around) (session : Smtp Data) (reader ended : DataReader) (kept keeps piece : List ℕ) (n : ℕ) (moment : Moment) (greets : Smtp Greeted) (next : SmtpMachine) → IsTold a.clock moment
-    → ((octets : List ℕ) → HasRead reader octets → Takes ended octets piece (Some n))
-    → WithMeanings (λ meanings. (lines : List ℕ) → HasEnded ended lines → Does line_octets a b None (acts_in (finished meanings session a.desk.store moment (unstuffed lines))))
+    → ((octets : List ℕ) → HasRead reader octets → TakesOfPiece ended octets piece (Some n))
+    → WithMeanings (λ meanings. (lines : List ℕ) → DataHaveEnded ended lines → Does line_octets a b None (acts_in (finished meanings session a.desk.store moment (unstuffed lines))))
     → greets.state.client ≡ session.state.client → next.state ≡ smtp.Greeted greets → IsFirst next b.desk → keeps ≡ []
     → Steps smtp_protocol SmtpStands a b (taking session reader) kept keeps piece (Ok (record { next = Some next; used = n }))
 Steps-data a b session reader ended kept keeps piece n moment greets next told takes does client state_is first nothing = rw nothing (record {
@@ -93,8 +93,8 @@ Steps-data a b session reader ended kept keeps piece n moment greets next told t
 
 -- data in whose end a fault was met
 pub Steps-data_fails : (a b : Around) (session : Smtp Data) (reader ended : DataReader) (kept keeps piece : List ℕ) (n : ℕ) (moment : Moment) (met : Fault) → IsTold a.clock moment
-    → ((octets : List ℕ) → HasRead reader octets → Takes ended octets piece (Some n))
-    → WithMeanings (λ meanings. (lines : List ℕ) → HasEnded ended lines → Does line_octets a b (Some met) (acts_in (finished meanings session a.desk.store moment (unstuffed lines))))
+    → ((octets : List ℕ) → HasRead reader octets → TakesOfPiece ended octets piece (Some n))
+    → WithMeanings (λ meanings. (lines : List ℕ) → DataHaveEnded ended lines → Does line_octets a b (Some met) (acts_in (finished meanings session a.desk.store moment (unstuffed lines))))
     → Steps smtp_protocol SmtpStands a b (taking session reader) kept keeps piece (Err met)
 Steps-data_fails a b session reader ended kept keeps piece n moment met told takes does = record {
   told = moment ∷ [];
@@ -109,7 +109,7 @@ Steps-data_fails a b session reader ended kept keeps piece n moment met told tak
 }
 
 -- no end: the reader has what is needed
-pub Steps-data_wait : (a : Around) (session : Smtp Data) (reader next : DataReader) (kept keeps piece : List ℕ) → ((octets : List ℕ) → HasRead reader octets → Takes next octets piece None)
+pub Steps-data_wait : (a : Around) (session : Smtp Data) (reader next : DataReader) (kept keeps piece : List ℕ) → ((octets : List ℕ) → HasRead reader octets → TakesOfPiece next octets piece None)
     → Steps smtp_protocol SmtpStands a a (taking session reader) kept keeps piece (Ok (record { next = Some (taking session next); used = length piece }))
 Steps-data_wait a session reader next kept keeps piece takes = record {
   told = [];

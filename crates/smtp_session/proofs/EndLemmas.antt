@@ -10,15 +10,15 @@ use Rattle.mail_store.specs.StoreState.{StoreState}
 use Rattle.journal_records.specs.Stored.{IsStored}
 use Rattle.mail_store.specs.declared.delivery.Delivery.{Delivery}
 use Rattle.session_core.specs.Around.{Around}
-use Rattle.session_core.specs.Desks.{IsName}
+use Rattle.session_core.specs.Desks.{IsStoreName}
 use Rattle.session_core.specs.Doing.{Does, Makes, Replies}
 use Rattle.session_core.specs.Meanings.{Meanings}
 use Rattle.session_core.specs.Moments.{IsMoment, Moment}
 use Rattle.session_core.proofs.DoingLemmas.{Does-changes, Does-replies}
-use Rattle.smtp_grammar.specs.Reading.{Says}
+use Rattle.smtp_grammar.specs.Reading.{DataSay}
 use Rattle.smtp_session.specs.declared.states.Client.{Client}
 use Rattle.smtp_session.specs.declared.states.Envelope.{Envelope}
-use Rattle.smtp_session.specs.Machine.{Step, acts_in, collecting, delivery_of, end_by, end_data, greeted, recipient_count, too_large, trace}
+use Rattle.smtp_session.specs.Machine.{Step, acts_in, collecting, delivery_of, end_by, end_data, greeted, envelope_recipient_count, too_large, trace}
 use Rattle.smtp_session.specs.Session.{KnowsState, line_octets, reply_octets}
 use Rattle.smtp_session.specs.Trace.{return_path}
 use Rattle.smtp_session.proofs.KeptLemmas.{delivery-deliverable}
@@ -47,7 +47,7 @@ first_of large a b p = rw p refl
 
 -- data that say more octets than the limit are too large
 too_large_is : (meanings : Meanings) (store : StoreState) (client : Client) (envelope : Envelope) (moment : Moment) (octets : List ℕ)
-    → 0 < recipient_count envelope → store.message_max < length octets → end_data meanings store client envelope moment octets ≡ too_large (greeted client)
+    → 0 < envelope_recipient_count envelope → store.message_max < length octets → end_data meanings store client envelope moment octets ≡ too_large (greeted client)
 too_large_is meanings store client envelope moment octets some long =
     let from = trace store client envelope moment in
     first_of (has_large_octets store.message_max (delivery_of store client envelope moment octets)) _ _
@@ -56,12 +56,12 @@ too_large_is meanings store client envelope moment octets some long =
 
 -- what was dropped is refused
 pub dropped_is : (meanings : Meanings) (limit : ℕ) (store : StoreState) (client : Client) (envelope : Envelope) (moment : Moment) (lines : List ℕ) → KnowsState store (collecting client envelope)
-    → limit ≡ store.message_max → Says limit lines None → end_data meanings store client envelope moment (unstuffed lines) ≡ too_large (greeted client)
+    → limit ≡ store.message_max → DataSay limit lines None → end_data meanings store client envelope moment (unstuffed lines) ≡ too_large (greeted client)
 dropped_is meanings limit store client envelope moment lines knows same says =
     let long = says in too_large_is meanings store client envelope moment (unstuffed lines) knows.2 (omega (arith, same, long))
 
 -- what was read of data that were dropped
-pub said_none : (limit : ℕ) (lines : List ℕ) (found : Option (List ℕ)) → ((content : List ℕ) → found ≡ Some content → ⊥) → Says limit lines found → Says limit lines None
+pub said_none : (limit : ℕ) (lines : List ℕ) (found : Option (List ℕ)) → ((content : List ℕ) → found ≡ Some content → ⊥) → DataSay limit lines found → DataSay limit lines None
 said_none limit lines None none says = says
 said_none limit lines (Some content) none says = absurd (none content refl)
 
@@ -83,12 +83,12 @@ Does-same a b met first taken is does = rw (← is) does
 
 -- what is delivered is what is due at the end of the data
 pub end_is : (meanings : Meanings) (limit : ℕ) (store : StoreState) (client : Client) (envelope : Envelope) (moment : Moment) (lines content octets : List ℕ) (delivery : Delivery)
-    → Says limit lines (Some content) → octets ≡ content → delivery ≡ delivery_of store client envelope moment content
+    → DataSay limit lines (Some content) → octets ≡ content → delivery ≡ delivery_of store client envelope moment content
     → end_by (meanings.has_tree octets) store client delivery ≡ end_data meanings store client envelope moment (unstuffed lines)
 end_is meanings limit store client envelope moment lines content octets delivery says same made = rw (← says.0, same, made) refl
 
 -- and may be delivered
 pub end_deliverable : (store : StoreState) (client : Client) (envelope : Envelope) (moment : Moment) (octets : List ℕ) (delivery : Delivery) → KnowsState store (collecting client envelope)
-    → IsName (name_of store.kept) → (seconds : ℕ) × IsMoment seconds moment → delivery ≡ delivery_of store client envelope moment octets → IsStored octets → IsDeliverable store delivery
+    → IsStoreName (name_of store.kept) → (seconds : ℕ) × IsMoment seconds moment → delivery ≡ delivery_of store client envelope moment octets → IsStored octets → IsDeliverable store delivery
 end_deliverable store client envelope moment octets delivery knows named (seconds, is) made stored =
     rw made (delivery-deliverable store client envelope moment octets seconds knows.1 knows.0 named is stored)

@@ -16,7 +16,7 @@ use Rattle.mail_store.specs.Answers.{IsFold}
 use Rattle.journal_records.specs.Addresses.{path_text}
 use Rattle.mail_store.specs.Changing.{copy_for, delivered, delivery_refusal, has_large_octets, inboxes_of, queued}
 use Rattle.mail_store.specs.private.Delivering.{copied}
-use Rattle.mail_store.specs.Kept.{Kept, nothing, after, after_all, first_folder, inbox_of}
+use Rattle.mail_store.specs.Kept.{Kept, nothing, after_record, after_all, first_folder, inbox_of}
 use Rattle.mail_store.specs.StoreState.{StoreState}
 use Rattle.mail_store.proofs.ChangeLemmas.{after_all-append}
 use Rattle.mail_store.proofs.DeliveryLemmas.{after-copies}
@@ -91,7 +91,7 @@ now_found account at (folder ∷ folders) one own =
 abbrev pub HaveInboxes : Kept → Type 0
 HaveInboxes kept = (account : ℕ) → account < length kept.accounts → IsSome (inbox_of kept account)
 
-inboxes_after : (kept : Kept) (one : Record) → HaveInboxes kept → HaveInboxes (after kept one)
+inboxes_after : (kept : Kept) (one : Record) → HaveInboxes kept → HaveInboxes (after_record kept one)
 inboxes_after kept (records.Account address password) have = λ account there.
     elim (cases_eq (length kept.accounts) account) [
       | inl own ↦ now_found account 0 kept.folders _ own
@@ -107,7 +107,7 @@ inboxes_after kept (records.Settle entry index) have = have
 
 pub inboxes_after_all : (kept : Kept) (all : List Record) → HaveInboxes kept → HaveInboxes (after_all kept all)
 inboxes_after_all kept [] have = have
-inboxes_after_all kept (one ∷ others) have = inboxes_after_all (after kept one) others (inboxes_after kept one have)
+inboxes_after_all kept (one ∷ others) have = inboxes_after_all (after_record kept one) others (inboxes_after kept one have)
 
 -- so it is in every store
 pub have_inboxes : (kept : Kept) → IsFold kept → HaveInboxes kept

@@ -14,7 +14,7 @@ use Rattle.mail_wire.specs.Dates.{IsDateText, IsInternalDate}
 use Rattle.mail_wire.specs.Lines.{crlf}
 use Rattle.mail_wire.specs.Octets.{is_line_end, same_name}
 use Rattle.mail_wire.proofs.Folded.{IsFolded-plain}
-use Rattle.ace_domains.specs.Domains.{is_name_octet as is_domain_octet}
+use Rattle.ace_domains.specs.Domains.{is_host_octet as is_domain_octet}
 use Rattle.ace_domains.proofs.FormLemmas.{form_name}
 use Rattle.address_grammar.specs.declared.Address.{Address}
 use Rattle.address_grammar.specs.Addresses.{address_text}
@@ -33,7 +33,7 @@ use Rattle.mail_store.specs.StoreState.{StoreState}
 use Rattle.smtp_grammar.specs.Commands.{is_client, is_client_octet}
 use Rattle.smtp_session.specs.Machine.{delivery_of, trace}
 use Rattle.smtp_session.specs.Session.{Knows}
-use Rattle.session_core.specs.Desks.{IsName}
+use Rattle.session_core.specs.Desks.{IsStoreName}
 use Rattle.smtp_session.specs.Trace.{protocol, received, return_path}
 use Rattle.session_core.specs.Moments.{Moment, IsMoment}
 use Rattle.smtp_session.specs.declared.states.Client.{Client}
@@ -316,7 +316,7 @@ domain_octet : (x : ℕ) → is_domain_octet x ≡ true → is_printed x ≡ tru
 domain_octet x is = grind (arith, nat_tests)
 
 -- and so is a store's
-name_printed : (name : List ℕ) → IsName name → IsPrinted name
+name_printed : (name : List ℕ) → IsStoreName name → IsPrinted name
 name_printed name (inl form) = record { octets = pass-weaker is_domain_octet is_printed domain_octet name (form_name name name form).octets }
 name_printed name (inr local) = subst IsPrinted (sym local) (printed (codes "localhost") refl)
 
@@ -371,7 +371,7 @@ date_printed seconds text p =
     rw p.spelled (behind (printed_first 26 all) (printed (codes "+0000") refl))
 
 -- the field of where a message came from is another field
-pub received-other : (client name date : List ℕ) (seconds : ℕ) → is_client client ≡ true → IsName name → IsDateText seconds date → (smtputf8 extended : Bool)
+pub received-other : (client name date : List ℕ) (seconds : ℕ) → is_client client ≡ true → IsStoreName name → IsDateText seconds date → (smtputf8 extended : Bool)
     → IsOtherField (received client name (protocol smtputf8 extended) date)
 received-other client name date seconds of_client of_name of_date smtputf8 extended =
     let way = protocol smtputf8 extended in
@@ -391,7 +391,7 @@ behind_field field octets other stored =
     record { entities = found.0; tree = rw (append-nil field) at found.1 }
 
 -- what waits for others may be kept
-pub kept-stored : (client name date octets : List ℕ) (seconds : ℕ) → is_client client ≡ true → IsName name → IsDateText seconds date → IsStored octets → (smtputf8 extended : Bool)
+pub kept-stored : (client name date octets : List ℕ) (seconds : ℕ) → is_client client ≡ true → IsStoreName name → IsDateText seconds date → IsStored octets → (smtputf8 extended : Bool)
     → IsStored (received client name (protocol smtputf8 extended) date ++ octets)
 kept-stored client name date octets seconds of_client of_name of_date stored smtputf8 extended =
     behind_field (received client name (protocol smtputf8 extended) date) octets (received-other client name date seconds of_client of_name of_date smtputf8 extended) stored
@@ -407,7 +407,7 @@ path_comes (Some address) sendable = sendable.0
 
 -- what the end of data keeps may be delivered
 pub delivery-deliverable : (store : StoreState) (client : Client) (envelope : Envelope) (moment : Moment) (octets : List ℕ) (seconds : ℕ)
-    → Knows store envelope → is_client client.name ≡ true → IsName (name_of store.kept) → IsMoment seconds moment → IsStored octets
+    → Knows store envelope → is_client client.name ≡ true → IsStoreName (name_of store.kept) → IsMoment seconds moment → IsStored octets
     → IsDeliverable store (delivery_of store client envelope moment octets)
 delivery-deliverable store client envelope moment octets seconds knows of_client of_name of_moment stored =
     let remote = kept-stored client.name (name_of store.kept) moment.date octets seconds of_client of_name of_moment.date stored envelope.smtputf8 client.extended in

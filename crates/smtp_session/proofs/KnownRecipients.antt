@@ -15,7 +15,7 @@ use Rattle.smtp_grammar.specs.Commands.{announced, are_malformed, is_client, is_
 use Rattle.smtp_session.specs.declared.states.Client.{Client}
 use Rattle.smtp_session.specs.declared.states.Envelope.{Envelope}
 use Rattle.smtp_session.specs.Intake.{AreRecipients, KnowsRecipients}
-use Rattle.smtp_session.specs.Machine.{State, Step, alone, collecting, data_step, ended, envelope_of, fresh, greeted, is_same_remote, lacks_smtputf8, mail, mail_by, mail_step, mail_to, path_read, rcpt_local, rcpt_remote, rcpt_step, rcpt_to, recipient_count, reset, step, with_room, words_behind}
+use Rattle.smtp_session.specs.Machine.{State, Step, alone, collecting, data_step, ended, envelope_of, fresh, greeted, is_same_remote, lacks_smtputf8, mail, mail_by, mail_step, mail_to, path_read, rcpt_local, rcpt_remote, rcpt_step, rcpt_to, envelope_recipient_count, reset, step, with_room, words_behind}
 use Rattle.session_core.specs.Meanings.{Meanings}
 
 -- ---- one more recipient
@@ -56,7 +56,7 @@ room-known : (kept : Kept) (there : Bool) (client : Client) (envelope with_one :
     → KnowsRecipients kept (with_room there client envelope with_one).state
 room-known kept there client envelope with_one known more =
     let P : Step → Type 0 = λ taken. KnowsRecipients kept taken.state in
-    cond_both there _ _ P (λ old. known) (λ new. cond_both (nat_lt (recipient_count envelope) RECIPIENTS_MAX) _ _ P (λ room. more new) (λ full. known))
+    cond_both there _ _ P (λ old. known) (λ new. cond_both (nat_lt (envelope_recipient_count envelope) RECIPIENTS_MAX) _ _ P (λ room. more new) (λ full. known))
 
 local-known : (kept : Kept) (client : Client) (envelope : Envelope) (found : Option ℕ) → AreRecipients kept envelope → IfSome found (λ account. account < length kept.accounts)
     → KnowsRecipients kept (rcpt_local client envelope found).state
@@ -126,7 +126,7 @@ mail-known meanings ended store argument known = tt
 data-known : (kept : Kept) (state : State) → KnowsRecipients kept state → KnowsRecipients kept (data_step state).state
 data-known kept (mail client envelope) known =
     let P : Step → Type 0 = λ taken. KnowsRecipients kept taken.state in
-    cond_both (recipient_count envelope == 0) _ _ P (λ none. known) (λ some. known)
+    cond_both (envelope_recipient_count envelope == 0) _ _ P (λ none. known) (λ some. known)
 data-known kept fresh known = tt
 data-known kept (greeted client) known = tt
 data-known kept (collecting client envelope) known = known

@@ -10,16 +10,16 @@ use Rattle.mail_store.specs.StoreState.{StoreState}
 use Rattle.mail_store.specs.declared.limits.TheConstants.{RECIPIENTS_MAX}
 use Rattle.smtp_session.specs.declared.states.Client.{Client}
 use Rattle.smtp_session.specs.declared.states.Envelope.{Envelope}
-use Rattle.smtp_session.specs.Machine.{mail, says, accepted, recipient_count, is_same_remote, rcpt_local, rcpt_remote}
+use Rattle.smtp_session.specs.Machine.{mail, says, accepted, envelope_recipient_count, is_same_remote, rcpt_local, rcpt_remote}
 use Rattle.smtp_session.specs.Session.{Knows}
 
 -- an envelope that isn't full has room
-pub room-left : (envelope : Envelope) → not (nat_lt (recipient_count envelope) RECIPIENTS_MAX) ≡ false → recipient_count envelope < RECIPIENTS_MAX
+pub room-left : (envelope : Envelope) → not (nat_lt (envelope_recipient_count envelope) RECIPIENTS_MAX) ≡ false → envelope_recipient_count envelope < RECIPIENTS_MAX
 room-left envelope open_yet = grind (arith, nat_tests)
 
 -- an account that the store has is put last
 pub knows-account : (store : StoreState) (envelope : Envelope) (account : ℕ) → Knows store envelope → account < length store.kept.accounts
-    → recipient_count envelope < RECIPIENTS_MAX → Knows store (record envelope { local = envelope.local ++ account ∷ [] })
+    → envelope_recipient_count envelope < RECIPIENTS_MAX → Knows store (record envelope { local = envelope.local ++ account ∷ [] })
 knows-account store envelope account knows here room = record {
   local = All-push (λ (a : ℕ). a < length store.kept.accounts) envelope.local account knows.local here;
   path = knows.path;
@@ -29,7 +29,7 @@ knows-account store envelope account knows here room = record {
 
 -- an address that may be kept is put last
 pub knows-address : (store : StoreState) (envelope : Envelope) (address : Address) → Knows store envelope → IsSendable address
-    → recipient_count envelope < RECIPIENTS_MAX → Knows store (record envelope { remote = envelope.remote ++ address ∷ [] })
+    → envelope_recipient_count envelope < RECIPIENTS_MAX → Knows store (record envelope { remote = envelope.remote ++ address ∷ [] })
 knows-address store envelope address knows sendable room = record {
   local = knows.local;
   path = knows.path;
@@ -39,22 +39,22 @@ knows-address store envelope address knows sendable room = record {
 
 -- one that isn't there yet is put last where there is room
 pub remote_added : (client : Client) (envelope : Envelope) (address : Address) → list_any (λ other. is_same_remote other address) envelope.remote ≡ false
-    → recipient_count envelope < RECIPIENTS_MAX → rcpt_remote client envelope address ≡ accepted (mail client (record envelope { remote = envelope.remote ++ address ∷ [] }))
+    → envelope_recipient_count envelope < RECIPIENTS_MAX → rcpt_remote client envelope address ≡ accepted (mail client (record envelope { remote = envelope.remote ++ address ∷ [] }))
 remote_added client envelope address new room =
-    let test : nat_lt (recipient_count envelope) RECIPIENTS_MAX ≡ true = grind (arith, nat_tests) in
+    let test : nat_lt (envelope_recipient_count envelope) RECIPIENTS_MAX ≡ true = grind (arith, nat_tests) in
     rw (new, test) refl
 
 -- an account that isn't there yet is put last where there is room
 pub local_added : (client : Client) (envelope : Envelope) (account : ℕ) → list_any (λ other. other == account) envelope.local ≡ false
-    → recipient_count envelope < RECIPIENTS_MAX → rcpt_local client envelope (Some account) ≡ accepted (mail client (record envelope { local = envelope.local ++ account ∷ [] }))
+    → envelope_recipient_count envelope < RECIPIENTS_MAX → rcpt_local client envelope (Some account) ≡ accepted (mail client (record envelope { local = envelope.local ++ account ∷ [] }))
 local_added client envelope account new room =
-    let test : nat_lt (recipient_count envelope) RECIPIENTS_MAX ≡ true = grind (arith, nat_tests) in
+    let test : nat_lt (envelope_recipient_count envelope) RECIPIENTS_MAX ≡ true = grind (arith, nat_tests) in
     rw (new, test) refl
 
 -- one that isn't there yet is refused where there is no room
 pub remote_refused : (client : Client) (envelope : Envelope) (address : Address) → list_any (λ other. is_same_remote other address) envelope.remote ≡ false
-    → not (nat_lt (recipient_count envelope) RECIPIENTS_MAX) ≡ true
+    → not (nat_lt (envelope_recipient_count envelope) RECIPIENTS_MAX) ≡ true
     → rcpt_remote client envelope address ≡ says (codes "452 4.5.3 too many recipients") (mail client envelope)
 remote_refused client envelope address new full =
-    let test : nat_lt (recipient_count envelope) RECIPIENTS_MAX ≡ false = grind (arith, nat_tests) in
+    let test : nat_lt (envelope_recipient_count envelope) RECIPIENTS_MAX ≡ false = grind (arith, nat_tests) in
     rw (new, test) refl

@@ -7,7 +7,7 @@ use Rattle.std.proofs.lemmas.List.Splits.{slice_split-cons_no}
 use Rattle.mail_wire.specs.Octets.{is_white}
 use Rattle.mail_wire.specs.declared.values.Memory.{Memory}
 use Rattle.mail_store.specs.StoreState.{StoreState}
-use Rattle.smtp_grammar.specs.Commands.{PathAndRest, words_of}
+use Rattle.smtp_grammar.specs.Commands.{PathAndRest, white_words}
 use Rattle.smtp_session.specs.declared.rows.Reply.{Reply}
 use Rattle.smtp_session.specs.declared.states.SmtpState.{SmtpState}
 use Rattle.smtp_session.specs.Machine.{State, alone}
@@ -22,8 +22,8 @@ some_by x [] = refl
 some_by x (part ∷ parts) = rw (not_zero (length part)) (not_zero (length (filter (λ word. not (length word == 0)) parts)))
 
 -- what blank_words says, with one octet more
-blank_by : (x : ℕ) (text : List ℕ) (b : Bool) → is_white x ≡ b → list_all is_white text ≡ (length (words_of text) == 0)
-    → list_all is_white (x ∷ text) ≡ (length (words_of (x ∷ text)) == 0)
+blank_by : (x : ℕ) (text : List ℕ) (b : Bool) → is_white x ≡ b → list_all is_white text ≡ (length (white_words text) == 0)
+    → list_all is_white (x ∷ text) ≡ (length (white_words (x ∷ text)) == 0)
 blank_by x text true is rest = rw is rest
 blank_by x text false is rest =
     let none : list_all is_white (x ∷ text) ≡ false = rw is refl in
@@ -31,7 +31,7 @@ blank_by x text false is rest =
     none ∙ sym (words ∙ some_by x (slice_split is_white text))
 
 -- a text has no words where all of it is white
-pub blank_words : (text : List ℕ) → list_all is_white text ≡ (length (words_of text) == 0)
+pub blank_words : (text : List ℕ) → list_all is_white text ≡ (length (white_words text) == 0)
 blank_words [] = refl
 blank_words (x ∷ text) = blank_by x text (is_white x) refl (blank_words text)
 

@@ -16,7 +16,7 @@ use Rattle.session_core.specs.Turns.{Turn}
 use Rattle.session_core.proofs.DoneLemmas.{changes_in-acts}
 use Rattle.session_core.proofs.StoreTurns.{Tracks, all_track}
 use Rattle.smtp_session.specs.Machine.{State, collecting, end_data, ended, fresh, greeted, mail, step}
-use Rattle.smtp_session.specs.Session.{Machine, data_turn, line_too_long, line_turn, next_moment, next_turn, turn_in, turns_of}
+use Rattle.smtp_session.specs.Session.{Machine, data_turn, line_too_long, line_turn, next_moment, next_turn, turn_from, turns_of}
 use Rattle.smtp_session.specs.declared.states.Client.{Client}
 use Rattle.smtp_session.specs.declared.states.Envelope.{Envelope}
 
@@ -41,7 +41,7 @@ data_tracks meanings machine client envelope (Some cut) turn is =
     let taken = end_data meanings machine.store client envelope (next_moment machine.moments) (unstuffed cut.line) in
     subst (TracksStore machine) (same_Some _ _ is) (with_changes machine.store taken.changes taken.reply)
 
-turn_tracks : (meanings : Meanings) (state : State) (machine : Machine) (octets : List ℕ) (turn : Turn Machine (Act (List ℕ))) → turn_in meanings state machine octets ≡ Some turn → TracksStore machine turn
+turn_tracks : (meanings : Meanings) (state : State) (machine : Machine) (octets : List ℕ) (turn : Turn Machine (Act (List ℕ))) → turn_from meanings state machine octets ≡ Some turn → TracksStore machine turn
 turn_tracks meanings fresh machine octets turn is = line_tracks meanings machine (next_line octets) turn is
 turn_tracks meanings (greeted client) machine octets turn is = line_tracks meanings machine (next_line octets) turn is
 turn_tracks meanings (mail client envelope) machine octets turn is = line_tracks meanings machine (next_line octets) turn is

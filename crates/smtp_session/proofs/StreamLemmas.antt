@@ -27,8 +27,8 @@ use Rattle.smtp_session.specs.declared.states.Envelope.{Envelope}
 use Rattle.smtp_session.specs.Intake.{AreRecipients, IsKeptOnce, KeepsAccepted, KnowsRecipients, Keeps, NoMore, Says, acceptance, stored_line}
 use Rattle.smtp_session.specs.Machine.{State, fresh, greeted, mail, collecting, ended, Step, acts_in, delivery_of, end_by, end_data, step}
 use Rattle.session_core.specs.Meanings.{Meanings}
-use Rattle.smtp_session.specs.Session.{Machine, after_step, data_turn, later, line_too_long, line_turn, next_moment, next_turn, start_of, turn_in, turns_of}
-use Rattle.session_core.specs.Desks.{IsName}
+use Rattle.smtp_session.specs.Session.{Machine, after_step, data_turn, later_moments, line_too_long, line_turn, next_moment, next_turn, start_of, turn_from, turns_of}
+use Rattle.session_core.specs.Desks.{IsStoreName}
 use Rattle.session_core.specs.Moments.{Moment}
 use Rattle.smtp_session.proofs.IntakeLemmas.{HaveInboxes, delivered_once, have_inboxes, inboxes_after_all}
 use Rattle.smtp_session.proofs.KnownRecipients.{step-recipients}
@@ -45,14 +45,14 @@ differs_at : (k : ℕ) (line : List ℕ) → (slice_index_or line k 0 == slice_i
 differs_at k line other same = absurd (cc (sym other ∙ eq-eqb _ _ (ap (λ l. slice_index_or l k 0) same)))
 
 -- no name has a space
-no_name : IsName (codes "2.0.0 stored") → ⊥
+no_name : IsStoreName (codes "2.0.0 stored") → ⊥
 no_name (inl text) = let is = (form_name (codes "2.0.0 stored") (codes "2.0.0 stored") text).octets in cc is
 no_name (inr local) = let two : 50 ≡ 108 = ap (λ l. slice_index_or l 0 0) local in omega (arith, two)
 
-no_greeting : (name : List ℕ) → IsName name → IsOther (codes "250 " ++ name)
-no_greeting name named same = no_name (subst IsName (ap (drop 4) same) named)
+no_greeting : (name : List ℕ) → IsStoreName name → IsOther (codes "250 " ++ name)
+no_greeting name named same = no_name (subst IsStoreName (ap (drop 4) same) named)
 
-other_lines : (store : StoreState) → IsName (name_of store.kept) → SaidLines IsOther store
+other_lines : (store : StoreState) → IsStoreName (name_of store.kept) → SaidLines IsOther store
 other_lines store named = record {
   greeting = no_greeting (name_of store.kept) named;
   first_offer = differs_at 3 (codes "250-" ++ name_of store.kept) refl;
@@ -82,7 +82,7 @@ other_lines store named = record {
 record Stays (machine : Machine) : Type 0 where
   inboxes : HaveInboxes machine.store.kept
   recipients : KnowsRecipients machine.store.kept machine.state
-  named : IsName (name_of machine.store.kept)
+  named : IsStoreName (name_of machine.store.kept)
 
 -- what one turn brings
 data Brings (store : StoreState) (turn : Turn Machine (Act (List ℕ))) : Type 0 where
@@ -138,7 +138,7 @@ ends_by is_message store client delivery =
 
 -- the end of data
 end_turn : (store : StoreState) (client : Client) (delivery : Delivery) (envelope : Envelope) (moments : List Moment) (rest : List ℕ) (taken : Step)
-    → delivery.local ≡ envelope.local → delivery.remote ≡ envelope.remote → HaveInboxes store.kept → AreRecipients store.kept envelope → IsName (name_of store.kept)
+    → delivery.local ≡ envelope.local → delivery.remote ≡ envelope.remote → HaveInboxes store.kept → AreRecipients store.kept envelope → IsStoreName (name_of store.kept)
     → Ends store client delivery taken → IsTurn store (record { parts = acts_in taken; after = after_step store moments taken; rest = rest })
 end_turn store client delivery envelope moments rest taken local remote have are named (Stored is) =
     let records = delivered store.kept delivery in
@@ -166,11 +166,11 @@ data_brings meanings machine client envelope (Some cut) turn stays are is =
     let moment = next_moment machine.moments in
     let delivery = delivery_of machine.store client envelope moment (unstuffed cut.line) in
     subst (IsTurn machine.store) (same_Some _ _ is)
-    (end_turn machine.store client delivery envelope (later machine.moments) cut.rest (end_data meanings machine.store client envelope moment (unstuffed cut.line)) refl refl
+    (end_turn machine.store client delivery envelope (later_moments machine.moments) cut.rest (end_data meanings machine.store client envelope moment (unstuffed cut.line)) refl refl
     stays.inboxes are stays.named (ends_by (meanings.has_tree (unstuffed cut.line)) machine.store client delivery))
 
 turn_brings : (meanings : Meanings) (state : State) (machine : Machine) (octets : List ℕ) (turn : Turn Machine (Act (List ℕ))) → Stays machine
-    → KnowsRecipients machine.store.kept state → turn_in meanings state machine octets ≡ Some turn → IsTurn machine.store turn
+    → KnowsRecipients machine.store.kept state → turn_from meanings state machine octets ≡ Some turn → IsTurn machine.store turn
 turn_brings meanings fresh machine octets turn stays known is = line_brings meanings machine (next_line octets) turn stays is
 turn_brings meanings (greeted client) machine octets turn stays known is = line_brings meanings machine (next_line octets) turn stays is
 turn_brings meanings (mail client envelope) machine octets turn stays known is = line_brings meanings machine (next_line octets) turn stays is
@@ -207,10 +207,10 @@ turns_keep meanings zero machine octets low stays (Some turn) is =
 turns_keep meanings (suc n) machine octets low stays (Some turn) is =
     let shorter = (framed_by meanings).shorter machine octets turn is in
     let one = next_brings meanings machine octets turn stays is in
-    let later = turns_keep meanings n turn.after turn.rest (omega (arith, shorter, low)) one.stays (next_turn meanings turn.after turn.rest) refl in
-    rw (all_turns-go (next_turn meanings) (framed_by meanings) machine octets turn is) (behind_turn machine.store turn _ one.brings later)
+    let later_moments = turns_keep meanings n turn.after turn.rest (omega (arith, shorter, low)) one.stays (next_turn meanings turn.after turn.rest) refl in
+    rw (all_turns-go (next_turn meanings) (framed_by meanings) machine octets turn is) (behind_turn machine.store turn _ one.brings later_moments)
 
-pub stream_kept : (meanings : Meanings) (store : StoreState) (moments : List Moment) (octets : List ℕ) → IsFold store.kept → IsName (name_of store.kept)
+pub stream_kept : (meanings : Meanings) (store : StoreState) (moments : List Moment) (octets : List ℕ) → IsFold store.kept → IsStoreName (name_of store.kept)
     → KeepsAccepted store (turns_of meanings (start_of store moments) octets).parts
 stream_kept meanings store moments octets fold named =
     let start = start_of store moments in

@@ -25,10 +25,10 @@ use Rattle.mail_wire.proofs.DotLemmas.{unstuffed_back}
 use Rattle.smtp_session.specs.declared.states.Client.{Client}
 use Rattle.smtp_session.specs.declared.states.Envelope.{Envelope}
 use Rattle.smtp_session.specs.Intake.{acceptance, stored_line}
-use Rattle.smtp_session.specs.Machine.{Step, acts_in, collecting, delivery_of, end_by, end_data, greeted, mail, recipient_count, says, step}
+use Rattle.smtp_session.specs.Machine.{Step, acts_in, collecting, delivery_of, end_by, end_data, greeted, mail, envelope_recipient_count, says, step}
 use Rattle.session_core.specs.Meanings.{Meanings, TellsTrees}
 use Rattle.smtp_session.specs.Room.{IsWithinLimits}
-use Rattle.smtp_session.specs.Session.{Machine, after_step, data_turn, later, next_moment, next_turn, turns_of}
+use Rattle.smtp_session.specs.Session.{Machine, after_step, data_turn, later_moments, next_moment, next_turn, turns_of}
 use Rattle.session_core.specs.Moments.{Moment}
 use Rattle.smtp_session.specs.SmtpLaws.{framed_by}
 
@@ -111,10 +111,10 @@ data_accepted meanings store client envelope moment octets tells tree within =
 some_recipients : (count : ℕ) → 0 < count → (count == 0) ≡ false
 some_recipients count some = grind (arith, nat_tests)
 
-pub data_begin : (meanings : Meanings) (client : Client) (envelope : Envelope) (store : StoreState) (argument : List ℕ) → 0 < recipient_count envelope
+pub data_begin : (meanings : Meanings) (client : Client) (envelope : Envelope) (store : StoreState) (argument : List ℕ) → 0 < envelope_recipient_count envelope
     → step meanings (mail client envelope) store verb.Data argument ≡ says (codes "354 go ahead") (collecting client envelope)
 unfolding step
-data_begin meanings client envelope store argument some = rw (some_recipients (recipient_count envelope) some) refl
+data_begin meanings client envelope store argument some = rw (some_recipients (envelope_recipient_count envelope) some) refl
 
 -- the data are read up to their end
 first_turn : (meanings : Meanings) (store : StoreState) (client : Client) (envelope : Envelope) (moments : List Moment) (octets : List ℕ) (cut : Cut) → data_cut octets ≡ Some cut
@@ -126,20 +126,20 @@ first_turn meanings store client envelope moments octets cut found =
 
 -- what a step and the turns behind it bring
 abbrev brings : Meanings → StoreState → List Moment → List ℕ → Step → Turn Machine (Act (List ℕ))
-brings meanings store moments rest taken = behind (acts_in taken) (turns_of meanings (after_step store (later moments) taken) rest)
+brings meanings store moments rest taken = behind (acts_in taken) (turns_of meanings (after_step store (later_moments moments) taken) rest)
 
 pub sent_kept : (meanings : Meanings) (store : StoreState) (client : Client) (envelope : Envelope) (moments : List Moment) (octets rest : List ℕ) → TellsTrees meanings.has_tree
     → IsEnded octets → IsStored octets → let delivery = delivery_of store client envelope (next_moment moments) octets in IsWithinLimits store delivery
     → turns_of meanings (record { state = collecting client envelope; store = store; moments = moments }) (sent octets rest)
     ≡ behind (changes (delivered store.kept delivery) ∷ gives stored_line ∷ [])
-    (turns_of meanings (record { state = greeted client; store = with_records store (delivered store.kept delivery); moments = later moments }) rest)
+    (turns_of meanings (record { state = greeted client; store = with_records store (delivered store.kept delivery); moments = later_moments moments }) rest)
 sent_kept meanings store client envelope moments octets rest tells ended tree within =
     let machine : Machine = record { state = collecting client envelope; store = store; moments = moments } in
     let moment = next_moment moments in
     let delivery = delivery_of store client envelope moment octets in
     let records = delivered store.kept delivery in
     let next : List Record → Turn Machine (Act (List ℕ)) = λ all.
-    behind (changes records ∷ gives stored_line ∷ []) (turns_of meanings (record { state = greeted client; store = with_records store all; moments = later moments }) rest) in
+    behind (changes records ∷ gives stored_line ∷ []) (turns_of meanings (record { state = greeted client; store = with_records store all; moments = later_moments moments }) rest) in
     let whole : Cut = record { line = stuffed octets; rest = rest } in
     all_turns-go (next_turn meanings) (framed_by meanings) machine (sent octets rest) (data_turn meanings machine client envelope whole)
     (first_turn meanings store client envelope moments (sent octets rest) whole (sent_found octets ended rest))

@@ -14,11 +14,11 @@ use Rattle.smtp_grammar.specs.Commands.{announced, are_malformed, is_client, is_
 use Rattle.smtp_session.specs.declared.states.Client.{Client}
 use Rattle.smtp_session.specs.declared.states.Envelope.{Envelope}
 use Rattle.smtp_session.specs.Intake.{AreRecipients, acceptance, kept_after}
-use Rattle.smtp_session.specs.Machine.{State, Step, alone, collecting, data_step, delivery_of, end_data, ended, envelope_of, fresh, greeted, is_same_remote, lacks_smtputf8, mail, mail_by, mail_step, mail_to, path_read, rcpt_local, rcpt_remote, rcpt_step, rcpt_to, recipient_count, step, with_room, words_behind}
+use Rattle.smtp_session.specs.Machine.{State, Step, alone, collecting, data_step, delivery_of, end_data, ended, envelope_of, fresh, greeted, is_same_remote, lacks_smtputf8, mail, mail_by, mail_step, mail_to, path_read, rcpt_local, rcpt_remote, rcpt_step, rcpt_to, envelope_recipient_count, step, with_room, words_behind}
 use Rattle.session_core.specs.Meanings.{Meanings}
 use Rattle.smtp_session.specs.Trace.{protocol, received}
 use Rattle.session_core.specs.Moments.{Moment}
-use Rattle.smtp_session.specs.Transaction.{GoesOn, GoesOnAs, IsTaken, IsTransactionKept, TakesAccount, TakesData, TakesRecipient, TakesRemote, TakesSender, go_ahead, recipient_ok, sender_ok}
+use Rattle.smtp_session.specs.Transaction.{TransactionGoesOn, GoesOnAs, IsTaken, IsTransactionKept, TakesAccount, TakesData, TakesRecipient, TakesRemote, TakesSender, go_ahead, recipient_ok, sender_ok}
 use Rattle.smtp_session.proofs.IntakeLemmas.{accepted_kept_once}
 
 -- ---- replies
@@ -43,7 +43,7 @@ room-accepts : (there : Bool) (client : Client) (envelope with_one : Envelope) (
     → Accepts client P (with_room there client envelope with_one)
 room-accepts there client envelope with_one P old new =
     cond_both there _ _ (Accepts client P) (λ is ok. (envelope, refl, old is))
-    (λ other. cond_both (nat_lt (recipient_count envelope) RECIPIENTS_MAX) _ _ (Accepts client P) (λ room ok. (with_one, refl, new))
+    (λ other. cond_both (nat_lt (envelope_recipient_count envelope) RECIPIENTS_MAX) _ _ (Accepts client P) (λ room ok. (with_one, refl, new))
     (λ full ok. absurd (other_reply _ recipient_ok 52 50 refl refl (omega arith) ok)))
 
 -- what an accepted recipient leaves of an envelope
@@ -175,7 +175,7 @@ sender_taken = mail-taken
 
 data-taken : (state : State) → (data_step state).reply ≡ go_ahead → TakesData state (data_step state).state
 data-taken (mail client envelope) =
-    cond_both (recipient_count envelope == 0) _ _ (λ (taken : Step). taken.reply ≡ go_ahead → TakesData (mail client envelope) taken.state)
+    cond_both (envelope_recipient_count envelope == 0) _ _ (λ (taken : Step). taken.reply ≡ go_ahead → TakesData (mail client envelope) taken.state)
     (λ none ok. absurd (other_reply _ go_ahead 53 51 refl refl (omega arith) ok))
     (λ some ok. record { client = client; envelope = envelope; before_is = refl; after_is = refl })
 data-taken fresh = λ ok. absurd (other_reply _ go_ahead 53 51 refl refl (omega arith) ok)
@@ -220,39 +220,39 @@ with_address old address = record {
   remote = refl;
 }
 
-room-goes : (there : Bool) (client : Client) (old with_one : Envelope) → GoesOnAs old with_one → GoesOn client old (with_room there client old with_one).state
+room-goes : (there : Bool) (client : Client) (old with_one : Envelope) → GoesOnAs old with_one → TransactionGoesOn client old (with_room there client old with_one).state
 room-goes there client old with_one more =
-    let P : Step → Type 0 = λ taken. GoesOn client old taken.state in
+    let P : Step → Type 0 = λ taken. TransactionGoesOn client old taken.state in
     cond_both there _ _ P (λ is. (refl, same_envelope old))
-    (λ new. cond_both (nat_lt (recipient_count old) RECIPIENTS_MAX) _ _ P (λ room. (refl, more)) (λ full. (refl, same_envelope old)))
+    (λ new. cond_both (nat_lt (envelope_recipient_count old) RECIPIENTS_MAX) _ _ P (λ room. (refl, more)) (λ full. (refl, same_envelope old)))
 
-local-goes : (client : Client) (old : Envelope) (found : Option ℕ) → GoesOn client old (rcpt_local client old found).state
+local-goes : (client : Client) (old : Envelope) (found : Option ℕ) → TransactionGoesOn client old (rcpt_local client old found).state
 local-goes client old None = (refl, same_envelope old)
 local-goes client old (Some account) =
     room-goes (list_any (λ other. other == account) old.local) client old (record old { local = old.local ++ account ∷ [] }) (with_account old account)
 
-remote-goes : (client : Client) (old : Envelope) (address : Address) → GoesOn client old (rcpt_remote client old address).state
+remote-goes : (client : Client) (old : Envelope) (address : Address) → TransactionGoesOn client old (rcpt_remote client old address).state
 remote-goes client old address =
     room-goes (list_any (λ other. is_same_remote other address) old.remote) client old (record old { remote = old.remote ++ address ∷ [] }) (with_address old address)
 
-rcpt-goes : (meanings : Meanings) (client : Client) (old : Envelope) (store : StoreState) (path : Option (Option Address)) → GoesOn client old (rcpt_to meanings client old store path).state
+rcpt-goes : (meanings : Meanings) (client : Client) (old : Envelope) (store : StoreState) (path : Option (Option Address)) → TransactionGoesOn client old (rcpt_to meanings client old store path).state
 rcpt-goes meanings client old store None = (refl, same_envelope old)
 rcpt-goes meanings client old store (Some None) = (refl, same_envelope old)
 rcpt-goes meanings client old store (Some (Some address)) =
-    let P : Step → Type 0 = λ taken. GoesOn client old taken.state in
+    let P : Step → Type 0 = λ taken. TransactionGoesOn client old taken.state in
     cond_both (lacks_smtputf8 old.smtputf8 (Some address)) _ _ P (λ lacks. (refl, same_envelope old)) (λ has. cond_both (is_local store.kept address.domain) _ _ P
     (λ here. local-goes client old (find_account meanings.path_of store.kept address))
     (λ elsewhere. remote-goes client old address))
 
 pub goes_on : (meanings : Meanings) (client : Client) (old : Envelope) (store : StoreState) (word : Verb) (argument : List ℕ)
-    → GoesOn client old (step meanings (mail client old) store word argument).state
+    → TransactionGoesOn client old (step meanings (mail client old) store word argument).state
 unfolding step
-goes_on meanings client old store verb.Ehlo argument = cond_both (is_client argument) _ _ (λ (taken : Step). GoesOn client old taken.state) (λ is. tt) (λ other. (refl, same_envelope old))
-goes_on meanings client old store verb.Helo argument = cond_both (is_client argument) _ _ (λ (taken : Step). GoesOn client old taken.state) (λ is. tt) (λ other. (refl, same_envelope old))
+goes_on meanings client old store verb.Ehlo argument = cond_both (is_client argument) _ _ (λ (taken : Step). TransactionGoesOn client old taken.state) (λ is. tt) (λ other. (refl, same_envelope old))
+goes_on meanings client old store verb.Helo argument = cond_both (is_client argument) _ _ (λ (taken : Step). TransactionGoesOn client old taken.state) (λ is. tt) (λ other. (refl, same_envelope old))
 goes_on meanings client old store verb.Mail argument = (refl, same_envelope old)
 goes_on meanings client old store verb.Rcpt argument = rcpt-goes meanings client old store (path_read meanings (alone (path_behind (codes "TO:") argument)))
 goes_on meanings client old store verb.Data argument =
-    cond_both (recipient_count old == 0) _ _ (λ (taken : Step). GoesOn client old taken.state) (λ none. (refl, same_envelope old)) (λ some. (refl, same_envelope old))
+    cond_both (envelope_recipient_count old == 0) _ _ (λ (taken : Step). TransactionGoesOn client old taken.state) (λ none. (refl, same_envelope old)) (λ some. (refl, same_envelope old))
 goes_on meanings client old store verb.Rset argument = tt
 goes_on meanings client old store verb.Noop argument = (refl, same_envelope old)
 goes_on meanings client old store verb.Vrfy argument = (refl, same_envelope old)

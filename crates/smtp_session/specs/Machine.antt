@@ -14,7 +14,7 @@ use Rattle.mail_store.specs.declared.limits.TheConstants.{RECIPIENTS_MAX}
 use Rattle.journal_records.specs.declared.records.Record.{Record}
 use Rattle.smtp_grammar.specs.declared.command.Verb.{Verb}
 use Rattle.smtp_grammar.specs.declared.command.Verb.TheVariants as verb
-use Rattle.smtp_grammar.specs.Commands.{PathAndRest, is_client, path_behind, words_of, parameter_of, are_malformed, is_unknown, is_smtputf8, announced}
+use Rattle.smtp_grammar.specs.Commands.{PathAndRest, is_client, path_behind, white_words, parameter_of, are_malformed, is_unknown, is_smtputf8, announced}
 use Rattle.smtp_session.specs.declared.states.Client.{Client}
 use Rattle.smtp_session.specs.declared.states.Envelope.{Envelope}
 use Rattle.session_core.specs.Acts.{Act, acts_of}
@@ -100,7 +100,7 @@ lacks_smtputf8 smtputf8 path = not smtputf8 && not (list_all is_ascii (path_text
 
 abbrev pub words_behind : Option PathAndRest → List (List ℕ)
 words_behind None = []
-words_behind (Some given) = words_of given.rest
+words_behind (Some given) = white_words given.rest
 
 abbrev pub envelope_of : Option Address → Bool → Envelope
 envelope_of path smtputf8 = record { path = path; smtputf8 = smtputf8; local = []; remote = [] }
@@ -129,8 +129,8 @@ mail_step meanings state store argument = out_of_order state
 abbrev pub is_same_remote : Address → Address → Bool
 is_same_remote a b = bytes_eq a.local b.local && is_same_domain a.domain b.domain
 
-abbrev pub recipient_count : Envelope → ℕ
-recipient_count envelope = length envelope.local + length envelope.remote
+abbrev pub envelope_recipient_count : Envelope → ℕ
+envelope_recipient_count envelope = length envelope.local + length envelope.remote
 
 abbrev pub accepted : State → Step
 accepted state = says (codes "250 2.1.5 ok") state
@@ -139,7 +139,7 @@ accepted state = says (codes "250 2.1.5 ok") state
 abbrev pub with_room : Bool → Client → Envelope → Envelope → Step
 with_room there client envelope with_one =
     if there then accepted (mail client envelope)
-    else if nat_lt (recipient_count envelope) RECIPIENTS_MAX then accepted (mail client with_one)
+    else if nat_lt (envelope_recipient_count envelope) RECIPIENTS_MAX then accepted (mail client with_one)
     else says (codes "452 4.5.3 too many recipients") (mail client envelope)
 
 abbrev pub rcpt_local : Client → Envelope → Option ℕ → Step
@@ -162,7 +162,7 @@ rcpt_to meanings client envelope store (Some (Some address)) =
 -- without parameters
 abbrev pub alone : Option PathAndRest → Option PathAndRest
 alone None = None
-alone (Some given) = if length (words_of given.rest) == 0 then Some given else None
+alone (Some given) = if length (white_words given.rest) == 0 then Some given else None
 
 abbrev pub rcpt_step : Meanings → State → StoreState → List ℕ → Step
 rcpt_step meanings (mail client envelope) store argument =
@@ -173,7 +173,7 @@ rcpt_step meanings state store argument = out_of_order state
 
 abbrev pub data_step : State → Step
 data_step (mail client envelope) =
-    if recipient_count envelope == 0 then out_of_order (mail client envelope) else says (codes "354 go ahead") (collecting client envelope)
+    if envelope_recipient_count envelope == 0 then out_of_order (mail client envelope) else says (codes "354 go ahead") (collecting client envelope)
 data_step state = out_of_order state
 
 -- the path and the recipients are forgotten

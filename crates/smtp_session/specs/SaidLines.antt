@@ -12,7 +12,7 @@ use Rattle.smtp_grammar.specs.declared.command.Verb.TheVariants as verb
 use Rattle.smtp_grammar.specs.Commands.{is_client, path_behind, parameter_of, are_malformed, is_unknown, is_smtputf8, announced}
 use Rattle.smtp_session.specs.declared.states.Client.{Client}
 use Rattle.smtp_session.specs.declared.states.Envelope.{Envelope}
-use Rattle.smtp_session.specs.Machine.{State, fresh, greeted, mail, collecting, ended, Step, step, offers, client_of, answers, says, bad_argument, ehlo_step, helo_step, lacks_smtputf8, path_read, words_behind, mail_by, mail_step, mail_to, is_same_remote, recipient_count, with_room, rcpt_local, rcpt_remote, rcpt_to, alone, rcpt_step, data_step}
+use Rattle.smtp_session.specs.Machine.{State, fresh, greeted, mail, collecting, ended, Step, step, offers, client_of, answers, says, bad_argument, ehlo_step, helo_step, lacks_smtputf8, path_read, words_behind, mail_by, mail_step, mail_to, is_same_remote, envelope_recipient_count, with_room, rcpt_local, rcpt_remote, rcpt_to, alone, rcpt_step, data_step}
 use Rattle.session_core.specs.Meanings.{Meanings}
 
 -- `Fits` holds of each line that a command may be answered over this store
@@ -83,7 +83,7 @@ mail_said Fits meanings ended store argument lines = (lines.disordered, tt)
 room_said : (Fits : List ℕ → Type 0) (store : StoreState) (there : Bool) (client : Client) (envelope with_one : Envelope) → SaidLines Fits store
     → AllByRecursion Fits (with_room there client envelope with_one).reply
 room_said Fits store there client envelope with_one lines =
-    either Fits there _ _ (lines.recipient_taken, tt) (either Fits (nat_lt (recipient_count envelope) RECIPIENTS_MAX) _ _ (lines.recipient_taken, tt) (lines.full, tt))
+    either Fits there _ _ (lines.recipient_taken, tt) (either Fits (nat_lt (envelope_recipient_count envelope) RECIPIENTS_MAX) _ _ (lines.recipient_taken, tt) (lines.full, tt))
 
 local_said : (Fits : List ℕ → Type 0) (store : StoreState) (client : Client) (envelope : Envelope) (found : Option ℕ) → SaidLines Fits store
     → AllByRecursion Fits (rcpt_local client envelope found).reply
@@ -116,7 +116,7 @@ rcpt_said Fits meanings ended store argument lines = (lines.disordered, tt)
 -- DATA, and each command
 
 data_said : (Fits : List ℕ → Type 0) (state : State) (store : StoreState) → SaidLines Fits store → AllByRecursion Fits (data_step state).reply
-data_said Fits (mail client envelope) store lines = either Fits (recipient_count envelope == 0) _ _ (lines.disordered, tt) (lines.data_wanted, tt)
+data_said Fits (mail client envelope) store lines = either Fits (envelope_recipient_count envelope == 0) _ _ (lines.disordered, tt) (lines.data_wanted, tt)
 data_said Fits fresh store lines = (lines.disordered, tt)
 data_said Fits (greeted client) store lines = (lines.disordered, tt)
 data_said Fits (collecting client envelope) store lines = (lines.disordered, tt)

@@ -15,13 +15,13 @@ use Rattle.smtp_grammar.specs.Commands.{command_of, is_client}
 use Rattle.smtp_grammar.specs.Data.{data_cut}
 use Rattle.smtp_grammar.specs.Reading.{HasRead}
 use Rattle.session_core.specs.Acts.{Act, acts_of}
-use Rattle.session_core.specs.Desks.{IsName}
+use Rattle.session_core.specs.Desks.{IsStoreName}
 use Rattle.session_core.specs.Meanings.{Meanings}
 use Rattle.session_core.specs.Moments.{Moment}
 use Rattle.session_core.specs.Protocol.{Protocol}
 use Rattle.session_core.specs.Turns.{Turn, all_turns}
 use Rattle.session_core.specs.declared.desk.Desk.{Desk}
-use Rattle.smtp_session.specs.Machine.{State, Step, acts_in, collecting, end_data, ended, fresh, greeted, mail, recipient_count, step}
+use Rattle.smtp_session.specs.Machine.{State, Step, acts_in, collecting, end_data, ended, fresh, greeted, mail, envelope_recipient_count, step}
 use Rattle.smtp_session.specs.declared.session.SmtpMachine.{SmtpMachine}
 use Rattle.smtp_session.specs.declared.states.Client.{Client}
 use Rattle.smtp_session.specs.declared.states.Envelope.{Envelope}
@@ -39,9 +39,9 @@ abbrev pub next_moment : List Moment → Moment
 next_moment [] = record { date = []; internal = [] }
 next_moment (moment ∷ moments) = moment
 
-abbrev pub later : List Moment → List Moment
-later [] = []
-later (moment ∷ moments) = moments
+abbrev pub later_moments : List Moment → List Moment
+later_moments [] = []
+later_moments (moment ∷ moments) = moments
 
 -- the octets of a line of a reply
 abbrev pub line_octets : List ℕ → List ℕ
@@ -76,18 +76,18 @@ line_turn meanings machine (too_long rest) = Some (record { parts = acts_of [] l
 abbrev pub data_turn : Meanings → Machine → Client → Envelope → Cut → Turn Machine (Act (List ℕ))
 data_turn meanings machine client envelope cut =
     let taken = end_data meanings machine.store client envelope (next_moment machine.moments) (unstuffed cut.line) in
-    record { parts = acts_in taken; after = after_step machine.store (later machine.moments) taken; rest = cut.rest }
+    record { parts = acts_in taken; after = after_step machine.store (later_moments machine.moments) taken; rest = cut.rest }
 
 -- after the end no command is read
-abbrev pub turn_in : Meanings → State → Machine → List ℕ → Option (Turn Machine (Act (List ℕ)))
-turn_in meanings fresh machine octets = line_turn meanings machine (next_line octets)
-turn_in meanings (greeted client) machine octets = line_turn meanings machine (next_line octets)
-turn_in meanings (mail client envelope) machine octets = line_turn meanings machine (next_line octets)
-turn_in meanings (collecting client envelope) machine octets = option_map (data_turn meanings machine client envelope) (data_cut octets)
-turn_in meanings ended machine octets = None
+abbrev pub turn_from : Meanings → State → Machine → List ℕ → Option (Turn Machine (Act (List ℕ)))
+turn_from meanings fresh machine octets = line_turn meanings machine (next_line octets)
+turn_from meanings (greeted client) machine octets = line_turn meanings machine (next_line octets)
+turn_from meanings (mail client envelope) machine octets = line_turn meanings machine (next_line octets)
+turn_from meanings (collecting client envelope) machine octets = option_map (data_turn meanings machine client envelope) (data_cut octets)
+turn_from meanings ended machine octets = None
 
 unfoldable pub next_turn : Meanings → Machine → List ℕ → Option (Turn Machine (Act (List ℕ)))
-next_turn meanings machine octets = turn_in meanings machine.state machine octets
+next_turn meanings machine octets = turn_from meanings machine.state machine octets
 
 -- what these octets bring
 abbrev pub turns_of : Meanings → Machine → List ℕ → Turn Machine (Act (List ℕ))
@@ -110,7 +110,7 @@ smtp_protocol = record {
   spelled = λ meanings. line_octets;
   Fits = λ meanings. IsFit;
   HasEnded = λ machine. machine.state ≡ ended;
-  IsSound = λ machine. IsName (name_of machine.store.kept);
+  IsSound = λ machine. IsStoreName (name_of machine.store.kept);
 }
 
 -- ---- what values stand for
@@ -145,14 +145,14 @@ pub record Knows (store : StoreState) (envelope : Envelope) : Type 0 where
   pub local : All (λ account. account < length store.kept.accounts) envelope.local
   pub path : IfSome envelope.path IsSendable
   pub remote : All IsSendable envelope.remote
-  pub few : recipient_count envelope ≤ RECIPIENTS_MAX
+  pub few : envelope_recipient_count envelope ≤ RECIPIENTS_MAX
 
 -- The client's name is one, and the store has what the state names; and data are taken for a recipient at least.
 abbrev pub KnowsState : StoreState → State → Type 0
 KnowsState store fresh = Unit {0}
 KnowsState store (greeted client) = is_client client.name ≡ true
 KnowsState store (mail client envelope) = (is_client client.name ≡ true) × Knows store envelope
-KnowsState store (collecting client envelope) = (is_client client.name ≡ true) × Knows store envelope × (0 < recipient_count envelope)
+KnowsState store (collecting client envelope) = (is_client client.name ≡ true) × Knows store envelope × (0 < envelope_recipient_count envelope)
 KnowsState store ended = Unit {0}
 
 -- Data were read, up to the store's limit, and nothing of them is kept beside.
@@ -168,6 +168,6 @@ IsUnfinished session (smtp.Data taking) kept desk = ReadsData session kept desk
 IsUnfinished session state kept desk = next_line kept ≡ waiting
 
 -- what a session needs
-pub record IsReady (session : SmtpMachine) (kept : List ℕ) (desk : Desk) : Type 0 where
+pub record SmtpReady (session : SmtpMachine) (kept : List ℕ) (desk : Desk) : Type 0 where
   pub unfinished : IsUnfinished session session.state kept desk
   pub known : KnowsState desk.store (state_of session.state)

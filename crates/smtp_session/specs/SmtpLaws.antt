@@ -31,7 +31,7 @@ use Rattle.smtp_grammar.proofs.DataLemmas.{data_cut-shorter, data_cut-stays}
 use Rattle.smtp_grammar.proofs.ReadingLemmas.{read_unended}
 use Rattle.smtp_grammar.specs.declared.command.Verb.TheVariants as verb
 use Rattle.session_core.specs.Acts.{Act}
-use Rattle.session_core.specs.Desks.{IsOpen, IsName}
+use Rattle.session_core.specs.Desks.{IsOpen, IsStoreName}
 use Rattle.session_core.specs.Meanings.{Meanings, AreMeanings}
 use Rattle.session_core.specs.Moments.{Moment}
 use Rattle.session_core.specs.Protocol.{IsFitTurn}
@@ -44,8 +44,8 @@ use Rattle.smtp_session.specs.declared.states.Client.{Client}
 use Rattle.smtp_session.specs.declared.states.Envelope.{Envelope}
 use Rattle.smtp_session.specs.declared.states.SmtpState.{SmtpState}
 use Rattle.smtp_session.specs.declared.states.SmtpState.TheVariants as smtp
-use Rattle.smtp_session.specs.Machine.{State, collecting, delivery_of, end_data, ended, fresh, greeted, mail, step, Step, end_by, alone, data_step, is_same_remote, lacks_smtputf8, mail_by, mail_step, mail_to, path_read, rcpt_local, rcpt_remote, rcpt_step, rcpt_to, recipient_count, with_room, words_behind}
-use Rattle.smtp_session.specs.Session.{IsFit, IsReady, Machine, SmtpStands, data_turn, greeting, line_too_long, line_turn, machine_of, next_moment, next_turn, smtp_protocol, turn_in, AreFit, HasRest, IsUnfinished, state_of}
+use Rattle.smtp_session.specs.Machine.{State, collecting, delivery_of, end_data, ended, fresh, greeted, mail, step, Step, end_by, alone, data_step, is_same_remote, lacks_smtputf8, mail_by, mail_step, mail_to, path_read, rcpt_local, rcpt_remote, rcpt_step, rcpt_to, envelope_recipient_count, with_room, words_behind}
+use Rattle.smtp_session.specs.Session.{IsFit, SmtpReady, Machine, SmtpStands, data_turn, greeting, line_too_long, line_turn, machine_of, next_moment, next_turn, smtp_protocol, turn_from, AreFit, HasRest, IsUnfinished, state_of}
 use Rattle.smtp_session.specs.SaidLines.{SaidLines, step_said}
 
 -- ---- turns don't depend on what comes later
@@ -80,7 +80,7 @@ data_stays meanings machine client envelope octets more turn None at is = cc
 data_stays meanings machine client envelope octets more turn (Some cut) at is =
     ap (option_map (data_turn meanings machine client envelope)) (data_cut-stays octets more cut at) ∙ ap (λ t. Some (followed_by more t)) (same_Some _ _ is)
 
-shorter_in : (meanings : Meanings) (state : State) (machine : Machine) (octets : List ℕ) (turn : Turn Machine (Act (List ℕ))) → turn_in meanings state machine octets ≡ Some turn
+shorter_in : (meanings : Meanings) (state : State) (machine : Machine) (octets : List ℕ) (turn : Turn Machine (Act (List ℕ))) → turn_from meanings state machine octets ≡ Some turn
     → length turn.rest < length octets
 shorter_in meanings fresh machine octets turn is = line_shorter meanings machine octets (next_line octets) turn (steady octets) is
 shorter_in meanings (greeted client) machine octets turn is = line_shorter meanings machine octets (next_line octets) turn (steady octets) is
@@ -88,8 +88,8 @@ shorter_in meanings (mail client envelope) machine octets turn is = line_shorter
 shorter_in meanings (collecting client envelope) machine octets turn is = data_shorter meanings machine client envelope octets turn (data_cut octets) refl is
 shorter_in meanings ended machine octets turn is = cc
 
-stays_in : (meanings : Meanings) (state : State) (machine : Machine) (octets more : List ℕ) (turn : Turn Machine (Act (List ℕ))) → turn_in meanings state machine octets ≡ Some turn
-    → turn_in meanings state machine (octets ++ more) ≡ Some (followed_by more turn)
+stays_in : (meanings : Meanings) (state : State) (machine : Machine) (octets more : List ℕ) (turn : Turn Machine (Act (List ℕ))) → turn_from meanings state machine octets ≡ Some turn
+    → turn_from meanings state machine (octets ++ more) ≡ Some (followed_by more turn)
 stays_in meanings fresh machine octets more turn is = line_stays meanings machine octets more (next_line octets) turn (steady octets) is
 stays_in meanings (greeted client) machine octets more turn is = line_stays meanings machine octets more (next_line octets) turn (steady octets) is
 stays_in meanings (mail client envelope) machine octets more turn is = line_stays meanings machine octets more (next_line octets) turn (steady octets) is
@@ -108,7 +108,7 @@ framed_by meanings = record {
 
 -- what was kept of a line brings none, nor what was read of data
 no_turn_yet : (meanings : Meanings) (session : SmtpMachine) (state : SmtpState) (machine : Machine) (kept rest : List ℕ) (desk : Desk) → IsUnfinished session state kept desk
-    → HasRest session state kept rest → turn_in meanings (state_of state) machine rest ≡ None
+    → HasRest session state kept rest → turn_from meanings (state_of state) machine rest ≡ None
 no_turn_yet meanings session (smtp.Fresh s) machine kept rest desk waits has = rw has (ap (line_turn meanings machine) waits)
 no_turn_yet meanings session (smtp.Greeted s) machine kept rest desk waits has = rw has (ap (line_turn meanings machine) waits)
 no_turn_yet meanings session (smtp.Mail s) machine kept rest desk waits has = rw has (ap (line_turn meanings machine) waits)
@@ -123,7 +123,7 @@ not_ended (smtp.Mail s) is = cc
 not_ended (smtp.Data s) is = cc
 
 pub waits_by : (meanings : Meanings) → AreMeanings meanings → (more : List Moment) (session : SmtpMachine) (kept : List ℕ) (desk : Desk) (machine : Machine) (rest : List ℕ)
-    → IsReady session kept desk → SmtpStands more session kept desk machine rest → next_turn meanings machine rest ≡ None
+    → SmtpReady session kept desk → SmtpStands more session kept desk machine rest → next_turn meanings machine rest ≡ None
 unfolding next_turn
 waits_by meanings are more session kept desk machine rest ready stands =
     rw stands.machine_is (no_turn_yet meanings session session.state (machine_of session desk more) kept rest desk ready.unfinished stands.has)
@@ -134,7 +134,7 @@ goes_on_by more session kept desk machine rest stands over = not_ended session.s
 
 pub quiet_by : (meanings : Meanings) (machine : Machine) (rest : List ℕ) → machine.state ≡ ended → next_turn meanings machine rest ≡ None
 unfolding next_turn
-quiet_by meanings machine rest over = ap (λ (s : State). turn_in meanings s machine rest) over
+quiet_by meanings machine rest over = ap (λ (s : State). turn_from meanings s machine rest) over
 
 -- ---- no row changes the store
 
@@ -161,7 +161,7 @@ mail_step-changes meanings (collecting client envelope) store argument = refl
 mail_step-changes meanings ended store argument = refl
 
 with_room-changes : (there : Bool) (client : Client) (envelope with_one : Envelope) → (with_room there client envelope with_one).changes ≡ []
-with_room-changes there client envelope with_one = same_changes there _ _ refl (same_changes (nat_lt (recipient_count envelope) RECIPIENTS_MAX) _ _ refl refl)
+with_room-changes there client envelope with_one = same_changes there _ _ refl (same_changes (nat_lt (envelope_recipient_count envelope) RECIPIENTS_MAX) _ _ refl refl)
 
 rcpt_local-changes : (client : Client) (envelope : Envelope) (account : Option ℕ) → (rcpt_local client envelope account).changes ≡ []
 rcpt_local-changes client envelope None = refl
@@ -187,7 +187,7 @@ rcpt_step-changes meanings (collecting client envelope) store argument = refl
 rcpt_step-changes meanings ended store argument = refl
 
 data_step-changes : (state : State) → (data_step state).changes ≡ []
-data_step-changes (mail client envelope) = same_changes (recipient_count envelope == 0) _ _ refl refl
+data_step-changes (mail client envelope) = same_changes (envelope_recipient_count envelope == 0) _ _ refl refl
 data_step-changes fresh = refl
 data_step-changes (greeted client) = refl
 data_step-changes (collecting client envelope) = refl
@@ -220,14 +220,14 @@ ascii-all (x ∷ octets) ascii =
     rw test (ascii-all octets (λ i. ascii (suc i)))
 
 -- the name of a store is ASCII
-ascii-name : (name : List ℕ) → IsName name → list_all is_ascii name ≡ true
+ascii-name : (name : List ℕ) → IsStoreName name → list_all is_ascii name ≡ true
 ascii-name name (inl form) = ascii-all name (form_ascii name name form)
 ascii-name name (inr local) = subst (λ n. list_all is_ascii n ≡ true) (sym local) refl
 
 -- ---- replies
 
 -- each line of a command's reply
-ascii-lines : (store : StoreState) → IsName (name_of store.kept) → SaidLines IsFit store
+ascii-lines : (store : StoreState) → IsStoreName (name_of store.kept) → SaidLines IsFit store
 ascii-lines store named = record {
   greeting = pass-append is_ascii (codes "250 ") (name_of store.kept) refl (ascii-name (name_of store.kept) named);
   first_offer = pass-append is_ascii (codes "250-") (name_of store.kept) refl (ascii-name (name_of store.kept) named);
@@ -252,7 +252,7 @@ ascii-lines store named = record {
 }
 
 -- of each command, in each state
-step_fit : (meanings : Meanings) (state : State) (store : StoreState) (verb : Verb) (argument : List ℕ) → IsName (name_of store.kept)
+step_fit : (meanings : Meanings) (state : State) (store : StoreState) (verb : Verb) (argument : List ℕ) → IsStoreName (name_of store.kept)
     → AreFit (step meanings state store verb argument).reply
 step_fit meanings state store verb argument named = step_said IsFit meanings state store verb argument (ascii-lines store named)
 
@@ -270,34 +270,34 @@ end_by_fit is_message store client delivery =
     end_fit (has_large_octets store.message_max delivery) is_message (is_some (delivery_refusal store delivery)) _ _ _ _ (refl, tt) (refl, tt) (refl, tt) (refl, tt)
 
 -- of the beginning
-greeting_fit : (name : List ℕ) → IsName name → AreFit (greeting name)
+greeting_fit : (name : List ℕ) → IsStoreName name → AreFit (greeting name)
 greeting_fit name named = (pass-append is_ascii (codes "220 ") (name ++ codes " ESMTP") refl (pass-append is_ascii name (codes " ESMTP") (ascii-name name named) refl), tt)
 
 -- ---- the name of the store behind a step
 
 -- where the domains stay, the name does
-pub named_after : (old new : Kept) → new.domains ≡ old.domains → IsName (name_of old) → IsName (name_of new)
-named_after old new same named = subst (λ (domains : List (List ℕ)). IsName (slice_index_or domains 0 (codes "localhost"))) (sym same) named
+pub named_after : (old new : Kept) → new.domains ≡ old.domains → IsStoreName (name_of old) → IsStoreName (name_of new)
+named_after old new same named = subst (λ (domains : List (List ℕ)). IsStoreName (slice_index_or domains 0 (codes "localhost"))) (sym same) named
 
 -- the store has a name behind these changes
 abbrev IsNamedBehind : StoreState → List (List Record) → Type 0
-IsNamedBehind store made = IsName (name_of (with_records store (records_of made)).kept)
+IsNamedBehind store made = IsStoreName (name_of (with_records store (records_of made)).kept)
 
-named_as : (store : StoreState) (made : List (List Record)) → made ≡ [] → IsName (name_of store.kept) → IsNamedBehind store made
+named_as : (store : StoreState) (made : List (List Record)) → made ≡ [] → IsStoreName (name_of store.kept) → IsNamedBehind store made
 named_as store made none named = rw none named
 
 -- behind a command
-step_named : (meanings : Meanings) (state : State) (store : StoreState) (verb : Verb) (argument : List ℕ) → IsName (name_of store.kept)
+step_named : (meanings : Meanings) (state : State) (store : StoreState) (verb : Verb) (argument : List ℕ) → IsStoreName (name_of store.kept)
     → IsNamedBehind store (step meanings state store verb argument).changes
 step_named meanings state store verb argument = named_as store _ (step-changes meanings state store verb argument)
 
-delivered_named : (store : StoreState) (delivery : Delivery) → IsName (name_of store.kept) → IsNamedBehind store (delivered store.kept delivery ∷ [])
+delivered_named : (store : StoreState) (delivery : Delivery) → IsStoreName (name_of store.kept) → IsNamedBehind store (delivered store.kept delivery ∷ [])
 delivered_named store delivery named =
     let records = delivered store.kept delivery in
     rw (append-nil records) (named_after store.kept (after_all store.kept records) (delivered_domains store.kept delivery) named)
 
 -- behind the end of data
-end_by_named : (is_message : Bool) (store : StoreState) (client : Client) (delivery : Delivery) → IsName (name_of store.kept)
+end_by_named : (is_message : Bool) (store : StoreState) (client : Client) (delivery : Delivery) → IsStoreName (name_of store.kept)
     → IsNamedBehind store (end_by is_message store client delivery).changes
 end_by_named is_message store client delivery named =
     let P : Step → Type 0 = λ taken. IsNamedBehind store taken.changes in
@@ -317,7 +317,7 @@ begins_fit_by meanings are moments desk opens = record {
 abbrev IsFitFor : Meanings → Turn Machine (Act (List ℕ)) → Type 0
 IsFitFor meanings turn = IsFitTurn smtp_protocol meanings turn
 
-line_fits : (meanings : Meanings) (machine : Machine) (framed : Framed) (turn : Turn Machine (Act (List ℕ))) → IsName (name_of machine.store.kept) → line_turn meanings machine framed ≡ Some turn
+line_fits : (meanings : Meanings) (machine : Machine) (framed : Framed) (turn : Turn Machine (Act (List ℕ))) → IsStoreName (name_of machine.store.kept) → line_turn meanings machine framed ≡ Some turn
     → IsFitFor meanings turn
 line_fits meanings machine waiting turn named is = absurd (none-some _ is)
 line_fits meanings machine (whole text rest) turn named is =
@@ -331,7 +331,7 @@ line_fits meanings machine (whole text rest) turn named is =
 line_fits meanings machine (too_long rest) turn named is =
     subst (IsFitFor meanings) (same_Some _ _ is) (record { fit = fit_acts IsFit [] line_too_long (refl, tt); sound = named })
 
-data_fit : (meanings : Meanings) (machine : Machine) (client : Client) (envelope : Envelope) (found : Option Cut) (turn : Turn Machine (Act (List ℕ))) → IsName (name_of machine.store.kept)
+data_fit : (meanings : Meanings) (machine : Machine) (client : Client) (envelope : Envelope) (found : Option Cut) (turn : Turn Machine (Act (List ℕ))) → IsStoreName (name_of machine.store.kept)
     → option_map (data_turn meanings machine client envelope) found ≡ Some turn → IsFitFor meanings turn
 data_fit meanings machine client envelope None turn named is = absurd (none-some _ is)
 data_fit meanings machine client envelope (Some cut) turn named is =
@@ -345,15 +345,15 @@ data_fit meanings machine client envelope (Some cut) turn named is =
       sound = end_by_named (meanings.has_tree octets) machine.store client delivery named;
     })
 
-fits_in : (meanings : Meanings) (state : State) (machine : Machine) (octets : List ℕ) (turn : Turn Machine (Act (List ℕ))) → IsName (name_of machine.store.kept)
-    → turn_in meanings state machine octets ≡ Some turn → IsFitFor meanings turn
+fits_in : (meanings : Meanings) (state : State) (machine : Machine) (octets : List ℕ) (turn : Turn Machine (Act (List ℕ))) → IsStoreName (name_of machine.store.kept)
+    → turn_from meanings state machine octets ≡ Some turn → IsFitFor meanings turn
 fits_in meanings fresh machine octets turn named is = line_fits meanings machine (next_line octets) turn named is
 fits_in meanings (greeted client) machine octets turn named is = line_fits meanings machine (next_line octets) turn named is
 fits_in meanings (mail client envelope) machine octets turn named is = line_fits meanings machine (next_line octets) turn named is
 fits_in meanings (collecting client envelope) machine octets turn named is = data_fit meanings machine client envelope (data_cut octets) turn named is
 fits_in meanings ended machine octets turn named is = absurd (none-some _ is)
 
-pub fits_by : (meanings : Meanings) → AreMeanings meanings → (machine : Machine) (octets : List ℕ) (turn : Turn Machine (Act (List ℕ))) → IsName (name_of machine.store.kept)
+pub fits_by : (meanings : Meanings) → AreMeanings meanings → (machine : Machine) (octets : List ℕ) (turn : Turn Machine (Act (List ℕ))) → IsStoreName (name_of machine.store.kept)
     → next_turn meanings machine octets ≡ Some turn → IsFitTurn smtp_protocol meanings turn
 unfolding next_turn
 fits_by meanings are machine octets turn named is = fits_in meanings machine.state machine octets turn named is

@@ -86,10 +86,10 @@ pub record GoesOnAs (old new : Envelope) : Type 0 where
   pub remote : new.remote ≡ old.remote ++ more_remote
 
 -- a transaction that hasn't ended goes on, for the same client
-abbrev pub GoesOn : Client → Envelope → State → Type 0
-GoesOn client old (mail same new) = (same ≡ client) × GoesOnAs old new
-GoesOn client old (collecting same new) = (same ≡ client) × GoesOnAs old new
-GoesOn client old state = Unit {0}
+abbrev pub TransactionGoesOn : Client → Envelope → State → Type 0
+TransactionGoesOn client old (mail same new) = (same ≡ client) × GoesOnAs old new
+TransactionGoesOn client old (collecting same new) = (same ≡ client) × GoesOnAs old new
+TransactionGoesOn client old state = Unit {0}
 
 -- ---- its end
 

@@ -17,20 +17,20 @@ ghost use Rattle.smtp_grammar.specs.Data.{sent};
 ghost use Rattle.smtp_grammar.specs.declared.command.Verb.{Verb};
 ghost use Rattle.smtp_grammar.specs.declared.command.Verb.TheVariants as verb;
 ghost use Rattle.smtp_session.specs.Intake.{AreRecipients, IsKeptOnce, KeepsAccepted, KnowsRecipients, acceptance, kept_after, stored_line};
-ghost use Rattle.smtp_session.specs.Machine.{State, collecting, fresh, greeted, mail, recipient_count, says, step, delivery_of, end_data};
+ghost use Rattle.smtp_session.specs.Machine.{State, collecting, fresh, greeted, mail, envelope_recipient_count, says, step, delivery_of, end_data};
 ghost use Rattle.session_core.specs.Meanings.{Meanings, TellsTrees};
 ghost use Rattle.smtp_session.specs.Room.{IsWithinLimits};
-ghost use Rattle.smtp_session.specs.Session.{Machine, later, next_moment, start_of, turns_of};
-ghost use Rattle.session_core.specs.Desks.{IsName};
+ghost use Rattle.smtp_session.specs.Session.{Machine, later_moments, next_moment, start_of, turns_of};
+ghost use Rattle.session_core.specs.Desks.{IsStoreName};
 ghost use Rattle.session_core.specs.Moments.{Moment};
-ghost use Rattle.smtp_session.specs.Transaction.{GoesOn, IsTransactionKept, TakesData, TakesRecipient, TakesSender, go_ahead, recipient_ok, sender_ok};
+ghost use Rattle.smtp_session.specs.Transaction.{TransactionGoesOn, IsTransactionKept, TakesData, TakesRecipient, TakesSender, go_ahead, recipient_ok, sender_ok};
 ghost use Rattle.smtp_session.specs.declared.states.Client.{Client};
 ghost use Rattle.smtp_session.specs.declared.states.Envelope.{Envelope};
 
 /// With a recipient DATA is accepted. Data that a client sends of any lines that have a tree and are within the limits are
 /// accepted: over a stream they are kept and told to be stored, and what follows them is read on.
 pub fn whole_data_are_taken()
-    ensures begun { (meanings : Meanings) (client : Client) (envelope : Envelope) (store : StoreState) (argument : List ℕ) → 0 < recipient_count envelope
+    ensures begun { (meanings : Meanings) (client : Client) (envelope : Envelope) (store : StoreState) (argument : List ℕ) → 0 < envelope_recipient_count envelope
         → step meanings (mail client envelope) store verb.Data argument ≡ says (codes "354 go ahead") (collecting client envelope) }
     ensures accepted { (meanings : Meanings) (store : StoreState) (client : Client) (envelope : Envelope) (moment : Moment) (octets : List ℕ)
         → TellsTrees meanings.has_tree → IsStored octets → IsWithinLimits store (delivery_of store client envelope moment octets)
@@ -40,7 +40,7 @@ pub fn whole_data_are_taken()
         → let delivery = delivery_of store client envelope (next_moment moments) octets in IsWithinLimits store delivery
         → turns_of meanings (record { state = collecting client envelope; store = store; moments = moments }) (sent octets rest)
         ≡ behind (changes (delivered store.kept delivery) ∷ gives stored_line ∷ [])
-        (turns_of meanings (record { state = greeted client; store = with_records store (delivered store.kept delivery); moments = later moments }) rest) }
+        (turns_of meanings (record { state = greeted client; store = with_records store (delivered store.kept delivery); moments = later_moments moments }) rest) }
 {}
 
 /// The path that is written for an address is found whole behind any word, also where a space stands between, and so is the
@@ -63,7 +63,7 @@ pub fn recipients_stay()
     ensures data { (meanings : Meanings) (state : State) (store : StoreState) (argument : List ℕ)
         → let taken = step meanings state store verb.Data argument in taken.reply ≡ go_ahead → TakesData state taken.state }
     ensures going { (meanings : Meanings) (client : Client) (envelope : Envelope) (store : StoreState) (word : Verb) (argument : List ℕ)
-        → GoesOn client envelope (step meanings (mail client envelope) store word argument).state }
+        → TransactionGoesOn client envelope (step meanings (mail client envelope) store word argument).state }
 {}
 
 /// Mail that is accepted is kept once for each of its recipients, and nothing else is kept: neither of mail that isn't accepted
@@ -88,7 +88,7 @@ pub fn accepted_mail_is_kept_once()
         → KnowsRecipients store.kept state → KnowsRecipients store.kept (step meanings state store verb argument).state }
     ensures forgotten { (meanings : Meanings) (store : StoreState) (client : Client) (envelope : Envelope) (moment : Moment) (octets : List ℕ)
         → (end_data meanings store client envelope moment octets).state ≡ greeted client }
-    ensures stream { (meanings : Meanings) (store : StoreState) (moments : List Moment) (octets : List ℕ) → IsFold store.kept → IsName (name_of store.kept)
+    ensures stream { (meanings : Meanings) (store : StoreState) (moments : List Moment) (octets : List ℕ) → IsFold store.kept → IsStoreName (name_of store.kept)
         → KeepsAccepted store (turns_of meanings (start_of store moments) octets).parts }
 {}
 

@@ -6,8 +6,8 @@ ghost use Rattle.address_grammar.specs.Paths.{ComesInPath};
 ghost use Rattle.journal_records.specs.Addresses.{WithPaths, IsSendable};
 ghost use Rattle.mail_store.specs.Kept.{find_account, name_of};
 ghost use Rattle.mail_store.specs.StoreState.{StoreState};
-ghost use Rattle.smtp_grammar.specs.Commands.{command_of, is_client as is_client_of, words_of, path_behind as path_behind_of};
-ghost use Rattle.smtp_session.specs.Machine.{greeted as greeted_of, mail as mail_of, step, offers as offers_of, client_of, ehlo_step, helo_step, within_limit, lacks_smtputf8 as lacks_smtputf8_of, mail_by, mail_step, is_same_remote as is_same_remote_of, recipient_count as recipient_count_of, rcpt_local, rcpt_remote, rcpt_to, alone, rcpt_step, data_step, ok as ok_of, reset as reset_of};
+ghost use Rattle.smtp_grammar.specs.Commands.{command_of, is_client as is_client_of, white_words, path_behind as path_behind_of};
+ghost use Rattle.smtp_session.specs.Machine.{greeted as greeted_of, mail as mail_of, step, offers as offers_of, client_of, ehlo_step, helo_step, within_limit, lacks_smtputf8 as lacks_smtputf8_of, mail_by, mail_step, is_same_remote as is_same_remote_of, envelope_recipient_count as recipient_count_of, rcpt_local, rcpt_remote, rcpt_to, alone, rcpt_step, data_step, ok as ok_of, reset as reset_of};
 ghost use Rattle.smtp_session.specs.Session.{Knows, KnowsState, reply_octets, state_of, state_or_ended};
 ghost use Rattle.session_core.specs.Meanings.{WithMeanings};
 
@@ -201,8 +201,8 @@ fn mail_path(
 ) -> Result<Reply, Memory>
     requires client { is_client_of session.state.client.name ≡ true }
     requires path { IfSome path IsSendable }
-    ensures reply { IfOk result (λ reply. reply.octets ≡ reply_octets (mail_by session.state.client store.now (Some path) (words_of rest.now)).reply) }
-    ensures next { IfOk result (λ reply. state_or_ended reply.next ≡ (mail_by session.state.client store.now (Some path) (words_of rest.now)).state) }
+    ensures reply { IfOk result (λ reply. reply.octets ≡ reply_octets (mail_by session.state.client store.now (Some path) (white_words rest.now)).reply) }
+    ensures next { IfOk result (λ reply. state_or_ended reply.next ≡ (mail_by session.state.client store.now (Some path) (white_words rest.now)).state) }
     ensures known { IfOk result (λ reply. KnowsState store.now (state_or_ended reply.next)) }
 {
     let parameters = read_parameters(alloc, rest)?;

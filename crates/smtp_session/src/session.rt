@@ -15,12 +15,12 @@ ghost use Rattle.session_core.specs.Served.{met_of};
 ghost use Rattle.session_core.specs.Serving.{ServesBy};
 ghost use Rattle.session_core.specs.Steps.{IsReadyAfter, Steps};
 ghost use Rattle.session_core.specs.declared.desk.Desk.{Desk};
-ghost use Rattle.smtp_grammar.specs.Reading.{HasEnded};
+ghost use Rattle.smtp_grammar.specs.Reading.{DataHaveEnded};
 ghost use Rattle.smtp_session.specs.Machine.{acts_in, delivery_of, end_by, end_data as end_of};
-ghost use Rattle.smtp_session.specs.Session.{IsReady, KnowsState, SmtpStands, greeting, line_octets, reply_octets, smtp_protocol, state_of, state_or_ended};
+ghost use Rattle.smtp_session.specs.Session.{SmtpReady, KnowsState, SmtpStands, greeting, line_octets, reply_octets, smtp_protocol, state_of, state_or_ended};
 ghost use Rattle.smtp_session.specs.SmtpLaws.{begins_fit_by, fits_by, framed_by, goes_on_by, quiet_by, waits_by};
 ghost use Rattle.smtp_session.specs.Trace.{protocol as protocol_of, received, return_path};
-ghost use Rattle.smtp_session.specs.private.Steps.{DoesBy, IsFirst, IsFirstNext, ReadsLines, content_of, state_behind, stepped};
+ghost use Rattle.smtp_session.specs.private.Steps.{DoesBy, IsFirst, IsFirstNext, ReadsLines, accepted_content, state_behind, stepped};
 
 use crate::rows::{Reply, TOO_LARGE, answer};
 use crate::states::{Client, Data, Envelope, Fresh, Greeted, Smtp, SmtpState};
@@ -144,7 +144,7 @@ fn accept_data(
     ensures delivery { IfOk result (λ accepted. (store : StoreState) → name.now ≡ name_of store.kept
         → accepted.delivery ≡ delivery_of store client.now envelope (moment_of stamp) content.now) }
     ensures within { IfOk result (λ accepted. accepted.trace_len ≤ length accepted.delivery.remote_octets) }
-    ensures content { IfOk result (λ accepted. content_of accepted ≡ content.now) }
+    ensures content { IfOk result (λ accepted. accepted_content accepted ≡ content.now) }
 {
     let date = stamp.date.as_slice();
     let octets = kept_octets(alloc, client, &envelope, name, content, date)?;
@@ -180,11 +180,11 @@ fn deliver<W: Wire, J: Keeper, C: Clock>(
 ) -> Result<&'static [u8], Fault>
     requires opens { IsOpen outside.old.desk }
     requires within { accepted.now.trace_len ≤ length accepted.now.delivery.remote_octets }
-    requires deliverable { IsStored (content_of accepted.now) → IsDeliverable outside.old.desk.store accepted.now.delivery }
+    requires deliverable { IsStored (accepted_content accepted.now) → IsDeliverable outside.old.desk.store accepted.now.delivery }
     ensures reply { IfOk result (λ reply. (has_tree : List ℕ → Bool) → TellsTrees has_tree → (client : Client)
-        → reply.now ≡ reply_octets (end_by (has_tree (content_of accepted.now)) outside.old.desk.store client accepted.now.delivery).reply) }
+        → reply.now ≡ reply_octets (end_by (has_tree (accepted_content accepted.now)) outside.old.desk.store client accepted.now.delivery).reply) }
     ensures makes { (has_tree : List ℕ → Bool) → TellsTrees has_tree → (client : Client) → Makes outside.old outside.new (fault_of result)
-        (end_by (has_tree (content_of accepted.now)) outside.old.desk.store client accepted.now.delivery).changes }
+        (end_by (has_tree (accepted_content accepted.now)) outside.old.desk.store client accepted.now.delivery).changes }
     ensures keeps { Keeps outside.old outside.new (fault_of result) }
 {
     let delivery = &accepted.delivery;
@@ -226,8 +226,8 @@ fn finish_data<W: Wire, J: Keeper, C: Clock>(
 ) -> Result<Smtp<Greeted>, Fault>
     requires opens { IsOpen outside.old.desk }
     requires within { accepted.trace_len ≤ length accepted.delivery.remote_octets }
-    requires deliverable { IsStored (content_of accepted) → IsDeliverable outside.old.desk.store accepted.delivery }
-    ensures does { DoesBy outside.old outside.new (fault_of result) (λ has_tree. end_by (has_tree (content_of accepted)) outside.old.desk.store client accepted.delivery) }
+    requires deliverable { IsStored (accepted_content accepted) → IsDeliverable outside.old.desk.store accepted.delivery }
+    ensures does { DoesBy outside.old outside.new (fault_of result) (λ has_tree. end_by (has_tree (accepted_content accepted)) outside.old.desk.store client accepted.delivery) }
     ensures client { IfOk result (λ next. next.state.client ≡ client) }
     ensures keeps { Keeps outside.old outside.new (fault_of result) }
 {
@@ -254,7 +254,7 @@ fn end_data<W: Wire, J: Keeper, C: Clock>(
     requires opens { IsOpen outside.old.desk }
     requires limit { whole.reader.limit ≡ outside.old.desk.store.message_max }
     requires known { KnowsState outside.old.desk.store (state_of (SmtpState.Data whole.session)) }
-    ensures does { WithMeanings (λ meanings. (lines : List ℕ) → HasEnded whole.reader lines
+    ensures does { WithMeanings (λ meanings. (lines : List ℕ) → DataHaveEnded whole.reader lines
         → Does line_octets outside.old outside.new (fault_of result)
         (acts_in (end_of meanings outside.old.desk.store whole.session.state.client whole.session.state.envelope (moment_of stamp) (unstuffed lines)))) }
     ensures client { IfOk result (λ next. next.state.client ≡ whole.session.state.client) }
@@ -302,10 +302,10 @@ fn take_data<W: Wire, J: Keeper, C: Clock>(
 ) -> Result<Came<SmtpMachine>, Fault>
     requires some { 0 < length piece.now }
     requires opens { IsOpen outside.old.desk }
-    requires ready { IsReady (record { state = SmtpState.Data session; reader = reader }) kept.old outside.old.desk }
+    requires ready { SmtpReady (record { state = SmtpState.Data session; reader = reader }) kept.old outside.old.desk }
     ensures steps { Steps smtp_protocol SmtpStands outside.old outside.new (record { state = SmtpState.Data session; reader = reader }) kept.old kept.new piece.now result }
     ensures used { IfOk result (λ came. (0 < came.used) × (came.used ≤ length piece.now)) }
-    ensures ready { IfOk result (λ came. IsReadyAfter IsReady came kept.new outside.new.desk) }
+    ensures ready { IfOk result (λ came. IsReadyAfter SmtpReady came kept.new outside.new.desk) }
     ensures keeps { Keeps outside.old outside.new (fault_of result) }
 {
     let taken = reader.take(piece);
@@ -417,10 +417,10 @@ fn take_line<W: Wire, J: Keeper, C: Clock>(
     requires some { 0 < length piece.now }
     requires lines { ReadsLines machine.state }
     requires opens { IsOpen outside.old.desk }
-    requires ready { IsReady machine kept.old outside.old.desk }
+    requires ready { SmtpReady machine kept.old outside.old.desk }
     ensures steps { Steps smtp_protocol SmtpStands outside.old outside.new machine kept.old kept.new piece.now result }
     ensures used { IfOk result (λ came. (0 < came.used) × (came.used ≤ length piece.now)) }
-    ensures ready { IfOk result (λ came. IsReadyAfter IsReady came kept.new outside.new.desk) }
+    ensures ready { IfOk result (λ came. IsReadyAfter SmtpReady came kept.new outside.new.desk) }
     ensures keeps { Keeps outside.old outside.new (fault_of result) }
 {
     match find_line(kept.as_slice(), piece) {
@@ -455,7 +455,7 @@ impl Machine for SmtpMachine {
 
     ghost stands = { SmtpStands };
 
-    ghost is_ready = { IsReady };
+    ghost is_ready = { SmtpReady };
 
     fn begin<W: Wire, J: Keeper, C: Clock>(outside: &mut Outside<W, J, C>) -> Result<Self, Fault> {
         let alloc = outside.alloc();

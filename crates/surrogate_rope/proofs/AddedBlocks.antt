@@ -5,7 +5,7 @@ use Rattle.std.specs.List.{AllZip, concat}
 use Rattle.std.proofs.lemmas.List.{append-nil, take_more, take_all, drop_more, drop_all}
 use Rattle.mail_wire.specs.Lines.{lines_of}
 use Rattle.mail_wire.proofs.LineLemmas.{concat_lines_of}
-use Rattle.field_downgrade.specs.Message.{IsServed}
+use Rattle.field_downgrade.specs.Message.{IsServedField}
 use Rattle.mime_tree.specs.declared.entity.Entity.{Entity}
 use Rattle.mime_tree.specs.Openings.{AreFieldsWithin}
 use Rattle.mime_tree.specs.Rewriting.{FieldRelation, RewritesBlocks}
@@ -60,8 +60,8 @@ counts_more IsMade msg (first ∷ entities) entity fields count is each =
 
 -- The first entities' blocks were put last, up to this place.
 pub record IsMadeSoFar (msg : List ℕ) (entities : List Entity) (i at : ℕ) (made : Made) : Type 0 where
-  pub blocks : RewritesBlocks (InEntity IsServed msg) msg 0 at (take i entities) made.octets
-  pub counted : CountsChanged (InEntity IsServed msg) msg (take i entities) made.rewritten
+  pub blocks : RewritesBlocks (InEntity IsServedField msg) msg 0 at (take i entities) made.octets
+  pub counted : CountsChanged (InEntity IsServedField msg) msg (take i entities) made.rewritten
   pub before : AreInOrder 0 at (take i entities)
   pub behind : AreInOrder at (length msg) (drop i entities)
   pub few : IsFew made
@@ -92,15 +92,15 @@ next_block msg entities i at made entity inside is so_far =
     record { from = first; order = second; fits = omega arith; rest = order.2 }
 
 pub made_more : (msg : List ℕ) (entities : List Entity) (i at : ℕ) (made middle new : Made) (entity : Entity) → i < length entities → entity ≡ get_or entities i entity → IsMadeSoFar msg entities i at made
-    → Copies msg at entity.at made middle → AddsBlock (InEntity IsServed msg entity) (raws_of msg entity.block) middle new → IsMadeSoFar msg entities (i + 1) entity.block.end new
+    → Copies msg at entity.at made middle → AddsBlock (InEntity IsServedField msg entity) (raws_of msg entity.block) middle new → IsMadeSoFar msg entities (i + 1) entity.block.end new
 made_more msg entities i at made middle new entity inside is so_far copies adds =
     let next = next_block msg entities i at made entity inside is so_far in
     let first : take (i + 1) entities ≡ take i entities ++ entity ∷ [] = take_more entities i entity inside ∙ ap (λ e. take i entities ++ e ∷ []) (sym is) in
     let octets : new.octets ≡ (made.octets ++ slice_range msg at entity.at) ++ concat adds.fields = adds.octets ∙ ap (λ text. text ++ concat adds.fields) copies.octets in
     let count : new.rewritten ≡ changed (raws_of msg entity.block) adds.fields + made.rewritten = adds.counted ∙ ap (λ n. changed (raws_of msg entity.block) adds.fields + n) copies.rewritten in
     record {
-      blocks = rw (first, octets) (blocks_more (InEntity IsServed msg) msg 0 at (take i entities) entity made.octets adds.fields so_far.before next.from so_far.blocks adds.each);
-      counted = rw (first, count) (counts_more (InEntity IsServed msg) msg (take i entities) entity adds.fields made.rewritten so_far.counted adds.each);
+      blocks = rw (first, octets) (blocks_more (InEntity IsServedField msg) msg 0 at (take i entities) entity made.octets adds.fields so_far.before next.from so_far.blocks adds.each);
+      counted = rw (first, count) (counts_more (InEntity IsServedField msg) msg (take i entities) entity adds.fields made.rewritten so_far.counted adds.each);
       before = rw first (order_push 0 at (take i entities) entity so_far.before next.from next.order);
       behind = next.rest;
       few = block_few msg entity (raws_of msg entity.block) middle new (copies_few msg at entity.at made middle so_far.few copies) adds;
@@ -117,9 +117,9 @@ all_made msg entities items i at made new same all so_far copies =
     let none : drop i items ≡ [] = drop_all i items all in
     let le : at ≤ length msg = order_le at (length msg) (drop i items) so_far.behind in
     record {
-      blocks = subst (λ es. RewritesBlocks (InEntity IsServed msg) msg 0 (length msg) es new.octets) whole
-          (rw copies.octets (blocks_further (InEntity IsServed msg) msg 0 at (length msg) (take i items) made.octets so_far.before le so_far.blocks));
-      counted = subst (λ es. CountsChanged (InEntity IsServed msg) msg es new.rewritten) whole (rw copies.rewritten so_far.counted);
+      blocks = subst (λ es. RewritesBlocks (InEntity IsServedField msg) msg 0 (length msg) es new.octets) whole
+          (rw copies.octets (blocks_further (InEntity IsServedField msg) msg 0 at (length msg) (take i items) made.octets so_far.before le so_far.blocks));
+      counted = subst (λ es. CountsChanged (InEntity IsServedField msg) msg es new.rewritten) whole (rw copies.rewritten so_far.counted);
     }
 
 -- the next entity's fields stand in the message

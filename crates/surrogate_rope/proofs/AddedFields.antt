@@ -12,7 +12,7 @@ use Rattle.utf8_fields.specs.Block.{raw_of}
 use Rattle.utf8_fields.specs.Parts.{FieldParts}
 use Rattle.field_downgrade.specs.declared.field.Rewrite.{Rewrite}
 use Rattle.field_downgrade.specs.declared.field.Rewrite.TheVariants.{Keep, New}
-use Rattle.field_downgrade.specs.Message.{IsServed}
+use Rattle.field_downgrade.specs.Message.{IsServedField}
 use Rattle.field_downgrade.specs.private.Views.{made_from, IsKeep}
 use Rattle.mime_tree.specs.declared.entity.Entity.{Entity}
 use Rattle.surrogate_rope.specs.declared.building.Made.{Made}
@@ -27,8 +27,8 @@ not_same raw made differs = elim (cases_Bool (bytes_eq raw made)) [
 ]
 
 -- the field itself was put last
-pub field_kept : (open_global : Bool) (raw octets : List ℕ) (old : Made) (rewrite : Rewrite) → IsServed open_global raw (made_from raw rewrite) → rewrite ≡ Keep → octets ≡ old.octets ++ raw
-    → AddsField (IsServed open_global raw) raw old (record { octets = octets; rewritten = old.rewritten })
+pub field_kept : (open_global : Bool) (raw octets : List ℕ) (old : Made) (rewrite : Rewrite) → IsServedField open_global raw (made_from raw rewrite) → rewrite ≡ Keep → octets ≡ old.octets ++ raw
+    → AddsField (IsServedField open_global raw) raw old (record { octets = octets; rewritten = old.rewritten })
 field_kept open_global raw octets old rewrite served is added = record {
   field = raw;
   holds = rw is at served;
@@ -37,8 +37,8 @@ field_kept open_global raw octets old rewrite served is added = record {
 }
 
 -- another field was, and counted
-pub field_made : (open_global : Bool) (raw made octets : List ℕ) (count : ℕ) (old : Made) (rewrite : Rewrite) → IsServed open_global raw (made_from raw rewrite) → IsKeep rewrite ↔ (made_from raw rewrite ≡ raw)
-    → rewrite ≡ New made → count ≡ old.rewritten + 1 → octets ≡ old.octets ++ made → AddsField (IsServed open_global raw) raw old (record { octets = octets; rewritten = count })
+pub field_made : (open_global : Bool) (raw made octets : List ℕ) (count : ℕ) (old : Made) (rewrite : Rewrite) → IsServedField open_global raw (made_from raw rewrite) → IsKeep rewrite ↔ (made_from raw rewrite ≡ raw)
+    → rewrite ≡ New made → count ≡ old.rewritten + 1 → octets ≡ old.octets ++ made → AddsField (IsServedField open_global raw) raw old (record { octets = octets; rewritten = count })
 field_made open_global raw made octets count old rewrite served keep is counted added = record {
   field = made;
   holds = rw is at served;
@@ -84,8 +84,8 @@ field_more IsMade msg old middle new fields i d inside block more =
     })
 
 -- a field of the entity
-pub in_entity : (msg : List ℕ) (entity : Entity) (open_global : Bool) (raw : List ℕ) (old new : Made) → (IsTrue open_global ↔ IsOpenGlobal msg entity) → AddsField (IsServed open_global raw) raw old new
-    → AddsField (InEntity IsServed msg entity raw) raw old new
+pub in_entity : (msg : List ℕ) (entity : Entity) (open_global : Bool) (raw : List ℕ) (old new : Made) → (IsTrue open_global ↔ IsOpenGlobal msg entity) → AddsField (IsServedField open_global raw) raw old new
+    → AddsField (InEntity IsServedField msg entity raw) raw old new
 in_entity msg entity open_global raw old new is_open adds = record {
   field = adds.field;
   holds = record { open_global = open_global; is_open = is_open; holds = adds.holds };
@@ -98,13 +98,13 @@ name_some : (name rest : List ℕ) → 0 < length name → 0 < length (name ++ r
 name_some [] rest some = absurd (omega (arith, some))
 name_some (x ∷ name) rest some = omega arith
 
-pub served_some : (open_global : Bool) (raw made : List ℕ) → IsServed open_global raw made → 0 < length made
+pub served_some : (open_global : Bool) (raw made : List ℕ) → IsServedField open_global raw made → 0 < length made
 served_some open_global raw made is =
     let g : FieldParts = is.lines.g in
     rw (is.lines.made_field.spelled) (name_some g.name (g.white ++ 58 ∷ (g.body ++ g.ending)) is.lines.made_field.named)
 
 -- there is a next number for a field that was put last
-pub next_number : (open_global : Bool) (raw made octets : List ℕ) (old : Made) (rewrite : Rewrite) → IsServed open_global raw (made_from raw rewrite) → rewrite ≡ New made → octets ≡ old.octets ++ made → IsFew old
+pub next_number : (open_global : Bool) (raw made octets : List ℕ) (old : Made) (rewrite : Rewrite) → IsServedField open_global raw (made_from raw rewrite) → rewrite ≡ New made → octets ≡ old.octets ++ made → IsFew old
     → old.rewritten < length octets
 next_number open_global raw made octets old rewrite served is added few =
     let some : 0 < length made = served_some open_global raw made (rw is at served) in
@@ -118,7 +118,7 @@ one_most raw made some = elim (cases_Bool (bytes_eq raw made)) [
 ]
 
 -- no more fields of a block are others than there are octets
-changed_few : (msg : List ℕ) (entity : Entity) (raws fields : List (List ℕ)) → AllZip (InEntity IsServed msg entity) raws fields → changed raws fields ≤ length (concat fields)
+changed_few : (msg : List ℕ) (entity : Entity) (raws fields : List (List ℕ)) → AllZip (InEntity IsServedField msg entity) raws fields → changed raws fields ≤ length (concat fields)
 changed_few msg entity [] [] all = omega arith
 changed_few msg entity [] (y ∷ fields) all = absurd all
 changed_few msg entity (x ∷ raws) [] all = absurd all
@@ -128,7 +128,7 @@ changed_few msg entity (x ∷ raws) (y ∷ fields) all =
     omega (arith, first, rest, length-append y (concat fields))
 
 -- nor of those that a block was added to
-pub block_few : (msg : List ℕ) (entity : Entity) (raws : List (List ℕ)) (old new : Made) → IsFew old → AddsBlock (InEntity IsServed msg entity) raws old new → IsFew new
+pub block_few : (msg : List ℕ) (entity : Entity) (raws : List (List ℕ)) (old new : Made) → IsFew old → AddsBlock (InEntity IsServedField msg entity) raws old new → IsFew new
 block_few msg entity raws old new few adds =
     let more = changed_few msg entity raws adds.fields adds.each in
     let all : length new.octets ≡ length old.octets + length (concat adds.fields) = rw adds.octets (length-append old.octets (concat adds.fields)) in

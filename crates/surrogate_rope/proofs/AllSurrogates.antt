@@ -21,7 +21,7 @@ use Rattle.mime_tree.specs.Tree.{HasTree, raws_of}
 use Rattle.mime_tree.proofs.TreeFields.{HasFieldsWithin, tree_fields}
 use Rattle.mime_tree.proofs.KeptTrees.{trees_are_kept}
 use Rattle.mime_tree.proofs.FieldsWithin.{IsFieldWithin}
-use Rattle.field_downgrade.specs.Message.{IsServed}
+use Rattle.field_downgrade.specs.Message.{IsServedField}
 use Rattle.field_downgrade.specs.Stands.{HasFieldLayout}
 use Rattle.field_downgrade.proofs.AllLayouts.{IsServed-some}
 use Rattle.surrogate_rope.specs.Layout.{InEntity, IsOpenGlobal, StandsInAscii, HasSurrogate}
@@ -81,7 +81,7 @@ decide_open msg entity are = elim (decide_shape entity.shape) [
 
 -- each field of an entity has a served form
 fields_some : (msg : List ℕ) (entity : Entity) → Decided msg entity → (fields : List Field) → AreFieldsWithin msg fields
-    → (mades : List (List ℕ)) × AllZip (InEntity IsServed msg entity) (map (raw_of msg) fields) mades
+    → (mades : List (List ℕ)) × AllZip (InEntity IsServedField msg entity) (map (raw_of msg) fields) mades
 fields_some msg entity decided [] are = ([], tt)
 fields_some msg entity decided (field ∷ fields) are =
     let first = IsServed-some decided.open_global (raw_of msg field) (All-head (IsFieldWithin msg) field fields are).1 in
@@ -89,7 +89,7 @@ fields_some msg entity decided (field ∷ fields) are =
     (first.0 ∷ more.0, (record { open_global = decided.open_global; is_open = decided.is_open; holds = first.1 }, more.1))
 
 -- so the blocks can be written anew
-blocks_some : (msg : List ℕ) (from : ℕ) (entities : List Entity) → All (HasFieldsWithin msg) entities → (made : List ℕ) × RewritesBlocks (InEntity IsServed msg) msg from (length msg) entities made
+blocks_some : (msg : List ℕ) (from : ℕ) (entities : List Entity) → All (HasFieldsWithin msg) entities → (made : List ℕ) × RewritesBlocks (InEntity IsServedField msg) msg from (length msg) entities made
 blocks_some msg from [] are = (slice_range msg from (length msg), refl)
 blocks_some msg from (entity ∷ entities) are =
     let within = All-head (HasFieldsWithin msg) entity entities are in
@@ -98,19 +98,19 @@ blocks_some msg from (entity ∷ entities) are =
     (slice_range msg from entity.at ++ (concat fields.0 ++ rest.0), (fields.0, rest.0, fields.1, refl, rest.1))
 
 -- blocks that are served make a surrogate
-served_surrogate : (msg made : List ℕ) (entities : List Entity) → HasTree msg entities → RewritesBlocks (InEntity IsServed msg) msg 0 (length msg) entities made → HasSurrogate msg made
+served_surrogate : (msg made : List ℕ) (entities : List Entity) → HasTree msg entities → RewritesBlocks (InEntity IsServedField msg) msg 0 (length msg) entities made → HasSurrogate msg made
 served_surrogate msg made entities tree blocks =
-    let kept = trees_are_kept (InEntity IsServed msg) msg made entities (served_keeps_trees msg) tree blocks in
+    let kept = trees_are_kept (InEntity IsServedField msg) msg made entities (served_keeps_trees msg) tree blocks in
     record {
       entities = entities;
       tree = tree;
-      layout = rewrites_weaker (InEntity IsServed msg) (InEntity HasFieldLayout msg) msg 0 (length msg) entities made (served_layout msg) blocks;
+      layout = rewrites_weaker (InEntity IsServedField msg) (InEntity HasFieldLayout msg) msg 0 (length msg) entities made (served_layout msg) blocks;
       surrogate = record {
         entities = entities;
         others = kept.0;
         tree = tree;
         made_tree = kept.1;
-        same = same_weaker (InEntity IsServed msg) (InEntity StandsInAscii msg) msg (length msg) entities made (length made) kept.0 (served_stands msg) kept.2;
+        same = same_weaker (InEntity IsServedField msg) (InEntity StandsInAscii msg) msg (length msg) entities made (length made) kept.0 (served_stands msg) kept.2;
       };
     }
 

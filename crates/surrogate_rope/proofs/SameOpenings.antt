@@ -9,7 +9,7 @@ use Rattle.mime_tree.specs.declared.openings.Opening.{Opening}
 use Rattle.mime_tree.specs.declared.openings.Opening.TheVariants.{Nothing}
 use Rattle.mime_tree.specs.Openings.{IsIdentity, IsValueWhere, IsFirstValue, OpensByText, OpensByType, OpensByFields, Opens}
 use Rattle.mime_tree.specs.Tree.{raws_of}
-use Rattle.field_downgrade.specs.Message.{IsServed}
+use Rattle.field_downgrade.specs.Message.{IsServedField}
 use Rattle.utf8_fields.proofs.TrimLemmas.{trimmed}
 use Rattle.surrogate_rope.specs.Layout.{InEntity}
 use Rattle.surrogate_rope.proofs.NameLemmas.{IsOpening}
@@ -45,7 +45,7 @@ first_pair true name made raws mades value open_global f opens pair e here later
     Both here.0 shown.0 open_global f pair.g here.2 (found name made mades shown.0 pair.g pair.has (pair.named name opens ∙ e) shown.1) e here.1 shown.1 (pair.keeps name opens e)
 first_pair false name made raws mades value open_global f opens pair e here later = pass name made mades value pair.g pair.has (pair.named name opens ∙ e) (later here)
 
-first_alike : (msg : List ℕ) (entity : Entity) (name : List ℕ) (raws mades : List (List ℕ)) (value : Option (List ℕ)) → IsOpening name → AllZip (InEntity IsServed msg entity) raws mades
+first_alike : (msg : List ℕ) (entity : Entity) (name : List ℕ) (raws mades : List (List ℕ)) (value : Option (List ℕ)) → IsOpening name → AllZip (InEntity IsServedField msg entity) raws mades
     → IsFirstValue name raws value → FirstAlike name mades value
 first_alike msg entity name [] [] value opens all first = Neither first refl
 first_alike msg entity name [] (made ∷ mades) value opens all first = absurd all
@@ -80,7 +80,7 @@ same_encoding mades value (Both text made open_global f g e first is has made_ha
       back = λ kept. subst (λ v. IsIdentity v) (sym e) (alike.1 kept);
     }
 
-pub same_openings : (msg : List ℕ) (entity : Entity) (fields : List (List ℕ)) (digest : Bool) (opening : Opening) → AllZip (InEntity IsServed msg entity) (raws_of msg entity.block) fields
+pub same_openings : (msg : List ℕ) (entity : Entity) (fields : List (List ℕ)) (digest : Bool) (opening : Opening) → AllZip (InEntity IsServedField msg entity) (raws_of msg entity.block) fields
     → Opens digest (raws_of msg entity.block) opening → Opens digest fields opening
 same_openings msg entity fields digest opening all opens =
     let raws = raws_of msg entity.block in

@@ -10,7 +10,7 @@ use Rattle.param_grammar.specs.declared.ParamKind.TheVariants.{Content}
 use Rattle.field_downgrade.specs.declared.kind.Kind.{Kind}
 use Rattle.field_downgrade.specs.declared.kind.Kind.TheVariants.{Unstructured, Params}
 use Rattle.field_downgrade.specs.Stands.{BeginsHyphen, HasFieldLayout, Copied, Changed, Made, NamesMessage, with_body}
-use Rattle.field_downgrade.specs.Message.{IsServed}
+use Rattle.field_downgrade.specs.Message.{IsServedField}
 use Rattle.field_downgrade.proofs.StructuredFields.{structured_no_hyphen}
 use Rattle.mime_tree.specs.Marks.{dashes}
 use Rattle.mime_tree.specs.Rewriting.{KeepsLine, KeepsTrees}
@@ -40,17 +40,17 @@ ascii_apart open_global raw made ascii (Copied is unchanged same) = inl same
 ascii_apart open_global raw made ascii (Changed opened names) = inr (named_apart raw made names)
 ascii_apart open_global raw made ascii (Made f g high layout is) = absurd (both_ways (list_all is_ascii raw) high.high ascii)
 
-served_apart : (open_global : Bool) (raw made : List ℕ) → IsServed open_global raw made → (made ≡ raw) ⊎ (starts_with nat_eq made dashes ≡ false)
+served_apart : (open_global : Bool) (raw made : List ℕ) → IsServedField open_global raw made → (made ≡ raw) ⊎ (starts_with nat_eq made dashes ≡ false)
 served_apart open_global raw made is = elim (cases_Bool (list_all is_ascii raw)) [
   | inl ascii ↦ ascii_apart open_global raw made ascii is.layout
   | inr high ↦ inr (field_apart is.lines.g made is.lines.made_field.spelled is.lines.made_field.named (is.lines.no_hyphen high))
 ]
 
 -- a served field has no NUL where the other one has none
-served_no_nul : (open_global : Bool) (raw made : List ℕ) → IsServed open_global raw made → ((place : ℕ) → ¬ IsNul raw place) → (place : ℕ) → ¬ IsNul made place
+served_no_nul : (open_global : Bool) (raw made : List ℕ) → IsServedField open_global raw made → ((place : ℕ) → ¬ IsNul raw place) → (place : ℕ) → ¬ IsNul made place
 served_no_nul open_global raw made is = is.lines.no_nul
 
-served_line : (open_global : Bool) (raw made : List ℕ) → IsServed open_global raw made → KeepsLine raw made
+served_line : (open_global : Bool) (raw made : List ℕ) → IsServedField open_global raw made → KeepsLine raw made
 served_line open_global raw made is = record {
   f = is.lines.f;
   g = is.lines.g;
@@ -61,7 +61,7 @@ served_line open_global raw made is = record {
   no_dashes = served_apart open_global raw made is;
 }
 
-pub served_keeps_trees : (msg : List ℕ) → KeepsTrees (InEntity IsServed msg) msg
+pub served_keeps_trees : (msg : List ℕ) → KeepsTrees (InEntity IsServedField msg) msg
 served_keeps_trees msg = record {
   lines = λ entity raw made is. served_line is.open_global raw made is.holds;
   opens = same_openings msg;

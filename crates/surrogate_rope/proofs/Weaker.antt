@@ -2,7 +2,7 @@
 use Rattle.std.proofs.Common.{ℕ, Bool, List, [], ◌∷◌}
 use Rattle.std.specs.List.{AllZip}
 use Rattle.mime_tree.specs.declared.entity.Entity.{Entity}
-use Rattle.mime_tree.specs.Rewriting.{FieldRelation, RewritesBlocks, next_place, IsSameEntity, AreSame}
+use Rattle.mime_tree.specs.Rewriting.{FieldRelation, RewritesBlocks, next_entity_place, IsSameEntity, AreSame}
 use Rattle.mime_tree.specs.Tree.{raws_of}
 use Rattle.surrogate_rope.specs.Layout.{InEntity}
 use Rattle.surrogate_rope.specs.Ropes.{CountsChanged}
@@ -55,7 +55,7 @@ same_weaker IsOne IsOther octets to [] made made_to [] weaker are = tt
 same_weaker IsOne IsOther octets to [] made made_to (other ∷ others) weaker are = absurd are
 same_weaker IsOne IsOther octets to (entity ∷ entities) made made_to [] weaker are = absurd are
 same_weaker IsOne IsOther octets to (entity ∷ entities) made made_to (other ∷ others) weaker are = (
-  entity_weaker IsOne IsOther octets entity (next_place to entities) made other (next_place made_to others) weaker are.0,
+  entity_weaker IsOne IsOther octets entity (next_entity_place to entities) made other (next_entity_place made_to others) weaker are.0,
   same_weaker IsOne IsOther octets to entities made made_to others weaker are.1,
 )
 

@@ -11,41 +11,41 @@ use Rattle.field_downgrade.specs.Stands.{HasFieldLayout}
 use Rattle.surrogate_rope.specs.Layout.{HasLayout, InEntity, IsSurrogate}
 
 -- a range of the message, or new octets
-pub data Piece : Type 0 where
-  Range : Span → Piece
-  New : List ℕ → Piece
+pub data RopePiece : Type 0 where
+  Range : Span → RopePiece
+  New : List ℕ → RopePiece
 
-abbrev pub piece_octets : List ℕ → Piece → List ℕ
+abbrev pub piece_octets : List ℕ → RopePiece → List ℕ
 piece_octets msg (Range span) = slice_range msg span.at (span.at + span.len)
 piece_octets msg (New octets) = octets
 
-abbrev pub piece_size : Piece → ℕ
+abbrev pub piece_size : RopePiece → ℕ
 piece_size (Range span) = span.len
 piece_size (New octets) = length octets
 
-abbrev pub IsWithin : List ℕ → Piece → Type 0
+abbrev pub IsWithin : List ℕ → RopePiece → Type 0
 IsWithin msg (Range span) = span.at + span.len ≤ length msg
 IsWithin msg (New octets) = Unit {0}
 
 pub record RopeValue : Type 0 where
-  pub pieces : List Piece
+  pub pieces : List RopePiece
   pub entities : List Outline
   pub rewritten : ℕ
 
-abbrev pub joined : List ℕ → List Piece → List ℕ
-joined msg [] = []
-joined msg (piece ∷ pieces) = piece_octets msg piece ++ joined msg pieces
+abbrev pub joined_pieces : List ℕ → List RopePiece → List ℕ
+joined_pieces msg [] = []
+joined_pieces msg (piece ∷ pieces) = piece_octets msg piece ++ joined_pieces msg pieces
 
 -- the octets that the rope gives with the message
 abbrev pub octets_of : List ℕ → RopeValue → List ℕ
-octets_of msg rope = joined msg rope.pieces
+octets_of msg rope = joined_pieces msg rope.pieces
 
 -- how many octets pieces have
-abbrev pub size_of : List Piece → ℕ
+abbrev pub size_of : List RopePiece → ℕ
 size_of [] = 0
 size_of (piece ∷ pieces) = piece_size piece + size_of pieces
 
-abbrev pub AreWithin : List ℕ → List Piece → Type 0
+abbrev pub AreWithin : List ℕ → List RopePiece → Type 0
 AreWithin msg [] = Unit {0}
 AreWithin msg (piece ∷ pieces) = IsWithin msg piece × AreWithin msg pieces
 

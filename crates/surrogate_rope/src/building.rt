@@ -1,7 +1,7 @@
 //! Makes the surrogate of a message, block by block.
 ghost use Rattle.std.specs.Prelude.{◌↔◌, ◌≡◌, ◌+◌, ◌<◌, ◌≤◌, ℕ, length, IfOk, OnOk, IsTrue};
 ghost use Rattle.utf8_fields.specs.Parts.{IsField};
-ghost use Rattle.field_downgrade.specs.Message.{IsServed};
+ghost use Rattle.field_downgrade.specs.Message.{IsServedField};
 ghost use Rattle.mime_tree.specs.Openings.{AreFieldsWithin};
 ghost use Rattle.mime_tree.specs.Tree.{HasTree, raws_of};
 ghost use Rattle.surrogate_rope.specs.Layout.{IsOpenGlobal, InEntity};
@@ -60,7 +60,7 @@ impl Made {
     fn push_field(&mut self, alloc: Global, raw: &[u8], open_global: bool) -> Result<(), Memory>
         requires field { IsField raw.now }
         requires few { IsFew self.old }
-        ensures { OnOk result (AddsField (IsServed open_global raw.now) raw.now self.old self.new) }
+        ensures { OnOk result (AddsField (IsServedField open_global raw.now) raw.now self.old self.new) }
     {
         match downgrade_field(alloc, raw, open_global)? {
             Rewrite::Keep => self.octets.push_slice(raw),
@@ -76,7 +76,7 @@ impl Made {
     fn push_block(&mut self, alloc: Global, msg: &[u8], entity: &Entity) -> Result<(), Memory>
         requires within { AreFieldsWithin msg.now entity.now.block.fields }
         requires few { IsFew self.old }
-        ensures { OnOk result (AddsBlock (InEntity IsServed msg.now entity.now) (raws_of msg.now entity.now.block) self.old self.new) }
+        ensures { OnOk result (AddsBlock (InEntity IsServedField msg.now entity.now) (raws_of msg.now entity.now.block) self.old self.new) }
     {
         let open_global = is_open_global(alloc, msg, entity)?;
         for field in entity.block.fields.as_slice() {

@@ -5,12 +5,12 @@ ghost use Rattle.mime_tree.specs.declared.entity.Entity.{Entity};
 ghost use Rattle.mime_tree.specs.declared.openings.Opening.{Opening};
 ghost use Rattle.mime_tree.specs.Openings.{Opens};
 ghost use Rattle.mime_tree.specs.Tree.{HasTree, raws_of};
-ghost use Rattle.field_downgrade.specs.Message.{IsServed};
+ghost use Rattle.field_downgrade.specs.Message.{IsServedField};
 ghost use Rattle.surrogate_rope.specs.Layout.{HasLayout, HasSurrogate, InEntity};
 
 /// The fields of a surrogate open an entity as the message's do.
 pub fn surrogates_open_alike()
-    ensures { (msg : List ℕ) (entity : Entity) (fields : List (List ℕ)) (digest : Bool) (opening : Opening) → AllZip (InEntity IsServed msg entity) (raws_of msg entity.block) fields
+    ensures { (msg : List ℕ) (entity : Entity) (fields : List (List ℕ)) (digest : Bool) (opening : Opening) → AllZip (InEntity IsServedField msg entity) (raws_of msg entity.block) fields
         → Opens digest (raws_of msg entity.block) opening → Opens digest fields opening }
 {}
 

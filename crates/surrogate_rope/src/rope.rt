@@ -4,7 +4,7 @@ ghost use Rattle.mime_tree.specs.declared.entity.TreeFault.{TreeFault};
 ghost use Rattle.mime_tree.specs.Outlines.{outlines_of};
 ghost use Rattle.mime_tree.specs.Sections.{section};
 ghost use Rattle.mime_tree.specs.Tree.{HasTree};
-ghost use Rattle.surrogate_rope.specs.Ropes.{RopeValue, Piece, IsRopeOf, octets_of, size_of};
+ghost use Rattle.surrogate_rope.specs.Ropes.{RopeValue, RopePiece, IsRopeOf, octets_of, size_of};
 
 use crate::building::make_surrogate;
 use mail_wire::{Memory, Octets, Span};
@@ -23,11 +23,11 @@ pub struct Rope {
 impl Model for Rope {
     ghost use Rattle.std.specs.Prelude.{◌∷◌, []};
     ghost use Rattle.mime_tree.specs.Outlines.{outlines_of};
-    ghost use Rattle.surrogate_rope.specs.Ropes.{RopeValue, Piece};
+    ghost use Rattle.surrogate_rope.specs.Ropes.{RopeValue, RopePiece};
 
     ghost Value = { RopeValue };
 
-    ghost view = { λ a. record { pieces = Piece.New a.octets ∷ []; entities = outlines_of a.tree.entities; rewritten = a.rewritten } };
+    ghost view = { λ a. record { pieces = RopePiece.New a.octets ∷ []; entities = outlines_of a.tree.entities; rewritten = a.rewritten } };
 }
 
 // Whether memory was wanting.

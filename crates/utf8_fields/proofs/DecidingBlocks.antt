@@ -6,11 +6,11 @@ use Rattle.std.proofs.lemmas.Option.{slice_get_within}
 use Rattle.std.proofs.lemmas.Str.{IsUtf8-from_is_utf8, is_utf8-from_IsUtf8}
 use Rattle.std.specs.List.{All, concat}
 use Rattle.std.specs.Str.{IsUtf8, is_utf8}
-use Rattle.mail_wire.specs.Octets.{is_white}
+use Rattle.mail_wire.specs.Octets.{is_white, is_field_name_octet}
 use Rattle.mail_wire.specs.Lines.{crlf, lines_of}
-use Rattle.mail_wire.specs.Message.{Stands, IsFaulty, IsSound}
+use Rattle.mail_wire.specs.Message.{StandsAt, IsFaulty, IsSound}
 use Rattle.utf8_fields.specs.declared.block.Field.{Field}
-use Rattle.utf8_fields.specs.Lines.{is_name_octet, BeginsField, BeginsWhite}
+use Rattle.utf8_fields.specs.Lines.{BeginsField, BeginsWhite}
 use Rattle.utf8_fields.specs.Block.{IsFieldAt, AreFields, HasBlockIn, HasBlock}
 use Rattle.utf8_fields.specs.private.Steps.{BeginsColon, EndsField}
 use Rattle.utf8_fields.proofs.AllSpans.{span_of}
@@ -42,22 +42,22 @@ decide_all P decide (x ∷ xs) = elim (decide x) [
 ]
 
 -- Faulty octets.
-decide_stands : (octets : List ℕ) (at x : ℕ) → Decided (Stands octets at x)
+decide_stands : (octets : List ℕ) (at x : ℕ) → Decided (StandsAt octets at x)
 decide_stands [] at x = inr (λ e. cc e)
 decide_stands (y ∷ octets) zero x = elim (decide_eq y x) [ inl e ↦ inl (ap Some e) | inr fails ↦ inr (λ e. fails (cc e)) ]
 decide_stands (y ∷ octets) (suc at) x = decide_stands octets at x
 
-other_octet : (octets : List ℕ) (at x y : ℕ) → Stands octets at x → x ≢ y → ¬ (Stands octets at y)
+other_octet : (octets : List ℕ) (at x y : ℕ) → StandsAt octets at x → x ≢ y → ¬ (StandsAt octets at y)
 other_octet octets at x y is differ e = differ (unsome x y (sym is ∙ e))
   where
     unsome : (x y : ℕ) → Some x ≡ Some y → x ≡ y
     unsome x y h = cc h
 
-decide_lf : (octets : List ℕ) (at : ℕ) → Stands octets at 10 → ¬ (Stands octets at 0) → ¬ (Stands octets at 13) → Decided (IsFaulty octets at)
+decide_lf : (octets : List ℕ) (at : ℕ) → StandsAt octets at 10 → ¬ (StandsAt octets at 0) → ¬ (StandsAt octets at 13) → Decided (IsFaulty octets at)
 decide_lf octets zero lf no_nul no_cr = inl (inr (inr (lf, λ before next cr. absurd (omega (arith, next)))))
 decide_lf octets (suc at) lf no_nul no_cr = elim (decide_stands octets at 13) [
   | inl cr ↦ inr (λ faulty. elim faulty [ inl nul ↦ no_nul nul | inr (inl bare) ↦ no_cr bare.0 | inr (inr bare) ↦ bare.1 at (omega arith) cr ])
-  | inr none ↦ inl (inr (inr (lf, λ before next cr. none (subst (λ k. Stands octets k 13) (behind before next) cr))))
+  | inr none ↦ inl (inr (inr (lf, λ before next cr. none (subst (λ k. StandsAt octets k 13) (behind before next) cr))))
 ]
   where
     behind : (before : ℕ) → suc at ≡ before + 1 → before ≡ at
@@ -116,7 +116,7 @@ decide_colon (x ∷ xs) = decide_eq x 58
 
 decide_name : (line : List ℕ) → ((n : ℕ) × BeginsField (take n line) line) ⊎ ((name : List ℕ) → ¬ (BeginsField name line))
 decide_name line =
-    let name = span_of is_name_octet line in
+    let name = span_of is_field_name_octet line in
     let white = span_of is_white name.1 in
     elim (cases_lt 0 (length name.0)) [
       | inr none ↦ inr (λ other begins. let passes = name_passes line name.0 name.1 white.0 white.1 name.2 white.2 other begins in omega (arith, none, passes.0))

@@ -7,7 +7,7 @@ use Rattle.utf8_fields.specs.declared.block.FieldFault.TheVariants.{NotField, No
 use Rattle.utf8_fields.specs.Lines.{BeginsField, BeginsWhite}
 use Rattle.utf8_fields.specs.Block.{IsFieldAt, AreFields, EndsBlock, HasBlockIn}
 use Rattle.utf8_fields.specs.Faults.{IsFieldLine, ComesAfter, IsFaultIn}
-use Rattle.utf8_fields.specs.private.Steps.{IsNextField, HasRead}
+use Rattle.utf8_fields.specs.private.Steps.{IsNextField, HasReadFields}
 
 -- fields after fields
 pub AreFields-append : (before lines : List (List ℕ)) (start at end : ℕ) (fields more : List Field) → AreFields before start fields at → AreFields lines at more end
@@ -34,12 +34,12 @@ white_differs (x ∷ rest) white is =
     let clash : false ≡ true = rw cr at white in cc
 
 -- no octets have been read
-pub HasRead-none : (octets : List ℕ) (start : ℕ) → start ≤ length octets → HasRead octets start [] start
+pub HasRead-none : (octets : List ℕ) (start : ℕ) → start ≤ length octets → HasReadFields octets start [] start
 HasRead-none octets start fits = record { before = []; lines = refl; fields_are = (refl, refl); ends = λ some. absurd (omega arith); fits = fits }
 
 -- one more field
-pub HasRead-more : (octets : List ℕ) (start : ℕ) (fields : List Field) (at : ℕ) (field : Field) → HasRead octets start fields at → IsNextField octets at field
-    → HasRead octets start (fields ++ field ∷ []) (at + field.raw.len)
+pub HasRead-more : (octets : List ℕ) (start : ℕ) (fields : List Field) (at : ℕ) (field : Field) → HasReadFields octets start fields at → IsNextField octets at field
+    → HasReadFields octets start (fields ++ field ∷ []) (at + field.raw.len)
 HasRead-more octets start fields at field read next =
     record {
       before = read.before ++ (next.first ∷ next.more);
@@ -51,13 +51,13 @@ HasRead-more octets start fields at field read next =
     }
 
 -- the block ends
-pub HasBlock-from_read : (octets : List ℕ) (start : ℕ) (fields : List Field) (at : ℕ) → HasRead octets start fields at → EndsBlock (lines_of (drop at octets))
+pub HasBlock-from_read : (octets : List ℕ) (start : ℕ) (fields : List Field) (at : ℕ) → HasReadFields octets start fields at → EndsBlock (lines_of (drop at octets))
     → HasBlockIn (lines_of (drop start octets)) start fields at
 HasBlock-from_read octets start fields at read ends =
     record { header = read.before; rest = lines_of (drop at octets); lines = read.lines; fields_are = read.fields_are; ends = ends }
 
 -- the line that comes after more fields comes after all of them
-ComesAfter-from_read : (octets : List ℕ) (start : ℕ) (fields more : List Field) (at place : ℕ) (line : List ℕ) → HasRead octets start fields at
+ComesAfter-from_read : (octets : List ℕ) (start : ℕ) (fields more : List Field) (at place : ℕ) (line : List ℕ) → HasReadFields octets start fields at
     → ComesAfter (lines_of (drop at octets)) at more place line → ComesAfter (lines_of (drop start octets)) start (fields ++ more) place line
 ComesAfter-from_read octets start fields more at place line read comes =
     record {
@@ -75,7 +75,7 @@ IsFieldLine-up fields more line is = record { sound = is.sound; kind = by is.kin
     by (inl begins) = inl begins
     by (inr goes) = let some = goes.0 in inr (omega (arith, length-append fields more), goes.1)
 
-IsFieldLine-down : (octets : List ℕ) (start : ℕ) (fields more : List Field) (at place : ℕ) (line : List ℕ) → HasRead octets start fields at
+IsFieldLine-down : (octets : List ℕ) (start : ℕ) (fields more : List Field) (at place : ℕ) (line : List ℕ) → HasReadFields octets start fields at
     → ComesAfter (lines_of (drop at octets)) at more place line → IsFieldLine (fields ++ more) line → IsFieldLine more line
 IsFieldLine-down octets start fields more at place line read comes is = record { sound = is.sound; kind = by more comes is.kind }
   where
@@ -89,7 +89,7 @@ IsFieldLine-down octets start fields more at place line read comes is = record {
     by (field ∷ more) comes (inr goes) = inr (omega arith, goes.1)
 
 -- a fault among the lines after the fields is one of the block
-pub IsFault-from_read : (octets : List ℕ) (start : ℕ) (fields : List Field) (at : ℕ) (fault : FieldFault) → HasRead octets start fields at → IsFaultIn (lines_of (drop at octets)) at fault
+pub IsFault-from_read : (octets : List ℕ) (start : ℕ) (fields : List Field) (at : ℕ) (fault : FieldFault) → HasReadFields octets start fields at → IsFaultIn (lines_of (drop at octets)) at fault
     → IsFaultIn (lines_of (drop start octets)) start fault
 IsFault-from_read octets start fields at (NotField place) read fault = (
   fields ++ fault.0,

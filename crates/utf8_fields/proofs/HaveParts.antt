@@ -10,14 +10,14 @@ use Rattle.std.proofs.lemmas.List.Sums.{AllPass-from_list_all}
 use Rattle.std.proofs.lemmas.Str.{IsUtf8-append, IsUtf8-nil}
 use Rattle.std.proofs.lemmas.Str.Ascii.{IsAscii-from_all}
 use Rattle.simdutf8.proofs.StepsLemmas.{IsUtf8-append_ascii, IsUtf8-after_ascii}
-use Rattle.mail_wire.specs.Octets.{is_white, is_line_end}
+use Rattle.mail_wire.specs.Octets.{is_white, is_line_end, is_field_name_octet}
 use Rattle.mail_wire.specs.Lines.{lines_of, crlf}
 use Rattle.mail_wire.specs.Message.{IsSound}
 use Rattle.mail_wire.proofs.LineLemmas.{concat_lines_of}
 use Rattle.mail_wire.proofs.AllLemmas.{pass-weaker}
 use Rattle.mail_wire.proofs.OctetLemmas.{white_below}
 use Rattle.utf8_fields.specs.declared.block.Field.{Field}
-use Rattle.utf8_fields.specs.Lines.{is_name_octet, BeginsField, BeginsWhite}
+use Rattle.utf8_fields.specs.Lines.{BeginsField, BeginsWhite}
 use Rattle.utf8_fields.specs.Parts.{FieldParts, HasParts, IsField}
 use Rattle.utf8_fields.specs.Block.{IsFieldAt, AreFields, HasBlockIn, raw_of, name_of}
 use Rattle.utf8_fields.specs.Named.{HasFieldName}
@@ -30,10 +30,10 @@ use Rattle.utf8_fields.proofs.Bodies.{HasBody, IsTextLine-drop, IsTextLine-behin
 pub white_is_text : (x : ℕ) → is_white x ≡ true → is_text x ≡ true
 white_is_text x h = grind (arith, nat_tests)
 
-pub name_is_text : (x : ℕ) → is_name_octet x ≡ true → is_text x ≡ true
+pub name_is_text : (x : ℕ) → is_field_name_octet x ≡ true → is_text x ≡ true
 name_is_text x h = grind (arith, nat_tests)
 
-pub name_octet_below : (x : ℕ) → is_name_octet x ≡ true → x < 128
+pub name_octet_below : (x : ℕ) → is_field_name_octet x ≡ true → x < 128
 name_octet_below x h = grind (arith, nat_tests)
 
 all_ascii : (p : ℕ → Bool) → ((x : ℕ) → p x ≡ true → x < 128) → (xs : List ℕ) → list_all p xs ≡ true → IsAscii xs
@@ -54,10 +54,10 @@ lit_below : 58 < 128
 lit_below = omega arith
 
 -- the body is UTF-8 where all is
-body_utf8 : (name white body ending : List ℕ) → list_all is_name_octet name ≡ true → list_all is_white white ≡ true → (ending ≡ []) ⊎ (ending ≡ crlf)
+body_utf8 : (name white body ending : List ℕ) → list_all is_field_name_octet name ≡ true → list_all is_white white ≡ true → (ending ≡ []) ⊎ (ending ≡ crlf)
     → IsUtf8 (name ++ (white ++ 58 ∷ (body ++ ending))) → IsUtf8 body
 body_utf8 name white body ending names whites ends all =
-    let behind_name = (IsUtf8-after_ascii name (white ++ 58 ∷ (body ++ ending)) (all_ascii is_name_octet name_octet_below name names)).0 all in
+    let behind_name = (IsUtf8-after_ascii name (white ++ 58 ∷ (body ++ ending)) (all_ascii is_field_name_octet name_octet_below name names)).0 all in
     let behind_white = (IsUtf8-after_ascii white (58 ∷ (body ++ ending)) (all_ascii is_white white_below white whites)).0 behind_name in
     let behind_colon = (IsUtf8-after_ascii (58 ∷ []) (body ++ ending) (IsAscii-from_all (58 ∷ []) (All-cons (λ x. x < 128) 58 [] (lit_below) (All-nil (λ x. x < 128))))).0 behind_white in
     (IsUtf8-append_ascii body ending (crlf_ascii ending ends)).0 behind_colon
@@ -72,7 +72,7 @@ pub LinesHaveParts-from : (name first : List ℕ) (more : List (List ℕ)) → B
     → All IsUtf8 (first ∷ more) → LinesHaveParts (first ∷ more) name
 LinesHaveParts-from name first more begins further are sound utf8 =
     let line = subst (λ text. IsTextLine text more) begins.colon.3 (IsTextLine-sound first more (All-head IsSound first more sound) are.0) in
-    let behind_name = IsTextLine-behind name (begins.colon.0 ++ 58 ∷ begins.colon.1) more (pass-weaker is_name_octet is_text name_is_text name begins.octets) line in
+    let behind_name = IsTextLine-behind name (begins.colon.0 ++ 58 ∷ begins.colon.1) more (pass-weaker is_field_name_octet is_text name_is_text name begins.octets) line in
     let behind_white = IsTextLine-behind begins.colon.0 (58 ∷ begins.colon.1) more (pass-weaker is_white is_text white_is_text begins.colon.0 begins.colon.2) behind_name in
     let behind : HasBody (begins.colon.1 ++ concat more) =
     body_of begins.colon.1 more (IsTextLine-drop 58 begins.colon.1 more refl behind_white) are.1 (All-tail IsSound first more sound) further in

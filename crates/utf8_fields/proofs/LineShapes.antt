@@ -4,7 +4,7 @@ use Rattle.std.specs.List.{list_all}
 use Rattle.std.proofs.lemmas.Bool.Decides.{nat_tests}
 use Rattle.mail_wire.specs.Octets.{is_line_end}
 use Rattle.mail_wire.specs.Lines.{lines_of, put_before, is_crlf, crlf}
-use Rattle.mail_wire.specs.Message.{IsFaulty, IsSound, Stands}
+use Rattle.mail_wire.specs.Message.{IsFaulty, IsSound, StandsAt}
 use Rattle.mail_wire.proofs.FirstLine.{lines_of-crlf, lines_of-other, is_crlf_true}
 use Rattle.mail_wire.proofs.LineLemmas.{is_crlf_parts}
 use Rattle.utf8_fields.proofs.Heads.{first_line_begins}
@@ -78,14 +78,14 @@ head_is_text x y rest sound other = no_ends x (λ cr. sound 0 (inr (inl (ap Some
 last_is_text : (x : ℕ) → IsSound (x ∷ []) → is_line_end x ≡ false
 last_is_text x sound = no_ends x (λ cr. sound 0 (inr (inl (ap Some cr, nothing)))) (no_lf_first x [] sound)
   where
-    nothing : Stands (x ∷ []) 1 10 → ⊥
+    nothing : StandsAt (x ∷ []) 1 10 → ⊥
     nothing e = cc e
 
 -- what follows such an octet is sound
 pub IsSound-behind : (x : ℕ) (xs : List ℕ) → is_line_end x ≡ false → IsSound (x ∷ xs) → IsSound xs
 IsSound-behind x xs text sound at faulty = sound (suc at) (up faulty)
   where
-    first : (before : ℕ) → suc at ≡ before + 1 → ((earlier : ℕ) → at ≡ earlier + 1 → Stands xs earlier 13 → ⊥) → Stands (x ∷ xs) before 13 → ⊥
+    first : (before : ℕ) → suc at ≡ before + 1 → ((earlier : ℕ) → at ≡ earlier + 1 → StandsAt xs earlier 13 → ⊥) → StandsAt (x ∷ xs) before 13 → ⊥
     first zero next apart cr =
         let is : x ≡ 13 = cc in
         let clash : true ≡ false = rw is at text in cc clash

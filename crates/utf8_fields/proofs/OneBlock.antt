@@ -5,11 +5,12 @@ use Rattle.std.proofs.lemmas.Bool.{and_parts}
 use Rattle.std.proofs.lemmas.List.Elements.{All-head, All-tail}
 use Rattle.mail_wire.specs.Lines.{crlf}
 use Rattle.utf8_fields.specs.declared.block.Field.{Field}
-use Rattle.utf8_fields.specs.Lines.{is_name_octet, BeginsField, BeginsWhite}
+use Rattle.utf8_fields.specs.Lines.{BeginsField, BeginsWhite}
 use Rattle.utf8_fields.specs.Block.{IsFieldAt, AreFields, EndsBlock, HasBlockIn}
 use Rattle.utf8_fields.specs.private.Steps.{EndsField}
 use Rattle.utf8_fields.proofs.Names.{field_not_white, one_name}
 use Rattle.utf8_fields.proofs.Fields.{white_differs}
+use Rattle.mail_wire.specs.Octets.{is_field_name_octet}
 
 -- a line that begins a field isn't empty
 pub field_not_empty : (name line : List ℕ) → BeginsField name line → line ≢ crlf
@@ -17,7 +18,7 @@ field_not_empty [] line begins empty = let some = begins.some in absurd (omega a
 field_not_empty (x ∷ name) line begins empty =
     let is = begins.colon.3 in
     let same : 13 ≡ x = cc in
-    let octet = (and_parts (is_name_octet x) (list_all is_name_octet name) begins.octets).0 in
+    let octet = (and_parts (is_field_name_octet x) (list_all is_field_name_octet name) begins.octets).0 in
     let clash : false ≡ true = rw (← same) at octet in cc
 
 -- the lines of fields, and then nothing or an empty line, don't begin with white

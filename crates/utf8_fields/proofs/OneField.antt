@@ -2,12 +2,11 @@
 use Rattle.std.proofs.Common.{◌≡◌, ◌≢◌, ℕ, ◌≤◌, true, false, ◌⊎◌, inl, inr, List, [], ◌∷◌, ◌++◌, length, drop, refl, sym, ap, ◌∙◌, subst, arith}
 use Rattle.std.proofs.lemmas.List.{append-nil, append_cancel_right}
 use Rattle.std.specs.List.{AllByRecursion, flat_map}
-use Rattle.mail_wire.specs.Octets.{is_white}
+use Rattle.mail_wire.specs.Octets.{is_white, is_field_name_octet}
 use Rattle.mail_wire.specs.Lines.{crlf}
 use Rattle.mail_wire.specs.Folds.{FoldedItem, Octet, Fold, IsFoldedItem, item_octets, IsFolded}
 use Rattle.mail_wire.specs.Spans.{IsSpan}
 use Rattle.mail_wire.proofs.SpanLemmas.{span_once}
-use Rattle.utf8_fields.specs.Lines.{is_name_octet}
 use Rattle.utf8_fields.specs.Parts.{FieldParts, HasParts, SplitsEnding}
 use Rattle.utf8_fields.proofs.Names.{behind_name}
 
@@ -59,13 +58,13 @@ record Fronts (raw name rest white more : List ℕ) (f : FieldParts) : Type 0 wh
   white_is : white ≡ f.white
   more_is : more ≡ 58 ∷ (f.body ++ f.ending)
 
-Fronts-from : (raw name rest white more : List ℕ) (f : FieldParts) → HasParts raw f → IsSpan is_name_octet raw name rest → IsSpan is_white rest white more → Fronts raw name rest white more f
+Fronts-from : (raw name rest white more : List ℕ) (f : FieldParts) → HasParts raw f → IsSpan is_field_name_octet raw name rest → IsSpan is_white rest white more → Fronts raw name rest white more f
 Fronts-from raw name rest white more f is names whites =
-    let first = span_once is_name_octet name f.name rest (f.white ++ 58 ∷ (f.body ++ f.ending)) names.passes is.name names.stops (behind_name f.white (f.body ++ f.ending) is.white) (sym names.whole ∙ is.spelled) in
+    let first = span_once is_field_name_octet name f.name rest (f.white ++ 58 ∷ (f.body ++ f.ending)) names.passes is.name names.stops (behind_name f.white (f.body ++ f.ending) is.white) (sym names.whole ∙ is.spelled) in
     let second = span_once is_white white f.white more (58 ∷ (f.body ++ f.ending)) whites.passes is.white whites.stops refl (sym whites.whole ∙ first.1) in
     record { name_is = first.0; white_is = second.0; more_is = second.1 }
 
-pub parts_once : (raw name rest white more text body ending : List ℕ) (f : FieldParts) → HasParts raw f → IsSpan is_name_octet raw name rest → IsSpan is_white rest white more
+pub parts_once : (raw name rest white more text body ending : List ℕ) (f : FieldParts) → HasParts raw f → IsSpan is_field_name_octet raw name rest → IsSpan is_white rest white more
     → text ≡ drop 1 more → SplitsEnding text body ending → ◌≡◌ {A = FieldParts} (record { name = name; white = white; body = body; ending = ending }) f
 parts_once raw name rest white more text body ending f is names whites text_is splits =
     let fronts = Fronts-from raw name rest white more f is names whites in
@@ -73,7 +72,7 @@ parts_once raw name rest white more text body ending f is names whites text_is s
     let ends = ending_is text body ending f.body f.ending splits is.body is.ending whole in
     made name white body ending f.name f.white f.body f.ending fronts.name_is fronts.white_is ends.0 ends.1
 
-pub more_some : (raw name rest white more : List ℕ) (f : FieldParts) → HasParts raw f → IsSpan is_name_octet raw name rest → IsSpan is_white rest white more → 1 ≤ length more
+pub more_some : (raw name rest white more : List ℕ) (f : FieldParts) → HasParts raw f → IsSpan is_field_name_octet raw name rest → IsSpan is_white rest white more → 1 ≤ length more
 more_some raw name rest white more f is names whites =
     let fronts = Fronts-from raw name rest white more f is names whites in
     omega (arith, ap length fronts.more_is)
@@ -88,7 +87,7 @@ append_ending a b x y fa fb (inr e) (inr f) h = (append_cancel_right a b crlf (a
 
 pub HasParts-once : (octets : List ℕ) (f g : FieldParts) → HasParts octets f → HasParts octets g → f ≡ g
 HasParts-once octets f g p q =
-    let first = span_once is_name_octet f.name g.name (f.white ++ 58 ∷ (f.body ++ f.ending)) (g.white ++ 58 ∷ (g.body ++ g.ending)) p.name q.name
+    let first = span_once is_field_name_octet f.name g.name (f.white ++ 58 ∷ (f.body ++ f.ending)) (g.white ++ 58 ∷ (g.body ++ g.ending)) p.name q.name
     (behind_name f.white (f.body ++ f.ending) p.white) (behind_name g.white (g.body ++ g.ending) q.white) (sym p.spelled ∙ q.spelled) in
     let second = span_once is_white f.white g.white (58 ∷ (f.body ++ f.ending)) (58 ∷ (g.body ++ g.ending)) p.white q.white refl refl first.1 in
     let rest : f.body ++ f.ending ≡ g.body ++ g.ending = ap (drop 1) second.1 in

@@ -1,16 +1,12 @@
 -- The lines of a header block (RFC 5322, 2.2, with the UTF-8 of RFC 6532).
-use Rattle.std.specs.Prelude.{◌≡◌, ℕ, ◌<◌, Bool, true, ◌&&◌, nat_le, nat_eq, not, List, [], ◌∷◌, ◌++◌, length}
+use Rattle.std.specs.Prelude.{◌≡◌, ℕ, ◌<◌, true, List, [], ◌∷◌, ◌++◌, length}
 use Rattle.std.specs.List.{list_all}
-use Rattle.mail_wire.specs.Octets.{is_white}
-
--- an octet of a field name: 33 to 126, and no colon
-abbrev pub is_name_octet : ℕ → Bool
-is_name_octet x = nat_le 33 x && nat_le x 126 && not (nat_eq x 58)
+use Rattle.mail_wire.specs.Octets.{is_white, is_field_name_octet}
 
 -- the line begins a field of this name: one or more name octets, white, a colon
 pub record BeginsField (name line : List ℕ) : Type 0 where
   pub some : 0 < length name
-  pub octets : list_all is_name_octet name ≡ true
+  pub octets : list_all is_field_name_octet name ≡ true
   pub colon : (white rest : List ℕ) × (list_all is_white white ≡ true) × (line ≡ name ++ (white ++ 58 ∷ rest))
 
 -- white comes first, so that the line goes on with a field

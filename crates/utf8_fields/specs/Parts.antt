@@ -1,11 +1,10 @@
 -- The parts of a header field, and its value (RFC 5322, 2.2).
 use Rattle.std.specs.Prelude.{◌≡◌, ◌≢◌, ℕ, ◌<◌, ◌⊎◌, true, List, [], ◌∷◌, ◌++◌, length, IsUtf8}
 use Rattle.std.specs.List.{list_all}
-use Rattle.mail_wire.specs.Octets.{is_white}
+use Rattle.mail_wire.specs.Octets.{is_white, is_field_name_octet}
 use Rattle.mail_wire.specs.Spans.{IsTrimmed}
 use Rattle.mail_wire.specs.Lines.{crlf}
 use Rattle.mail_wire.specs.Folds.{IsFolded, unfolded}
-use Rattle.utf8_fields.specs.Lines.{is_name_octet}
 
 -- name, white, colon, body, and CRLF, which an entity's last line may lack
 pub record FieldParts : Type 0 where
@@ -21,7 +20,7 @@ field_octets f = f.name ++ (f.white ++ 58 ∷ (f.body ++ f.ending))
 pub record HasParts (octets : List ℕ) (f : FieldParts) : Type 0 where
   pub spelled : octets ≡ field_octets f
   pub named : 0 < length f.name
-  pub name : list_all is_name_octet f.name ≡ true
+  pub name : list_all is_field_name_octet f.name ≡ true
   pub white : list_all is_white f.white ≡ true
   pub body : IsFolded f.body
   pub utf8 : IsUtf8 f.body

@@ -1,16 +1,16 @@
 -- What the grammar of addresses knows of tokens (RFC 5322, 3.2).
-use Rattle.std.specs.Prelude.{◌≡◌, ℕ, ◌-◌, ◌==◌, Bool, true, false, not, ◌&&◌, if◌then◌else◌, List, [], ◌∷◌, ◌++◌, length, take, drop, filter}
+use Rattle.std.specs.Prelude.{◌≡◌, ℕ, ◌-◌, ◌==◌, Bool, true, false, not, ◌&&◌, if◌then◌else◌, List, [], ◌∷◌, ◌++◌, length, take, drop}
 use Rattle.std.specs.List.{flat_map, list_all}
 use Rattle.std.specs.Str.{bytes_eq}
 use Rattle.field_tokens.specs.declared.Style.TheVariants.{Mail}
 use Rattle.field_tokens.specs.declared.TokenKind.{TokenKind}
 use Rattle.field_tokens.specs.declared.TokenKind.TheVariants.{Atom, Quoted, Literal, Special, Gap, Comment}
 use Rattle.field_tokens.specs.Tokens.{TokenValue, HasTokenValues as HasTokenValuesIn}
-use Rattle.field_tokens.specs.Squeezed.{is_blank}
+use Rattle.field_tokens.specs.Squeezed.{is_blank, is_atom_kind, is_special_kind, words_of}
 
 -- the text is a line, and these are its tokens
-abbrev pub HasTokenValues : List ℕ → List TokenValue → Type 0
-HasTokenValues text tokens = HasTokenValuesIn Mail text tokens
+abbrev pub HasMailTokens : List ℕ → List TokenValue → Type 0
+HasMailTokens text tokens = HasTokenValuesIn Mail text tokens
 
 -- a gap or a comment, which may stand between any two tokens (RFC 5322, 3.2.2, CFWS)
 abbrev pub is_blank_token : TokenValue → Bool
@@ -19,40 +19,20 @@ is_blank_token t = is_blank t.kind
 abbrev pub are_blank : List TokenValue → Bool
 are_blank tokens = list_all is_blank_token tokens
 
--- the tokens but gaps and comments
-abbrev pub words_of : List TokenValue → List TokenValue
-words_of tokens = filter (λ t. not (is_blank_token t)) tokens
-
-abbrev pub is_special_kind : TokenKind → Bool
-is_special_kind Special = true
-is_special_kind Atom = false
-is_special_kind Quoted = false
-is_special_kind Literal = false
-is_special_kind Gap = false
-is_special_kind Comment = false
-
 -- the special of this octet
-abbrev pub is_mark : ℕ → TokenValue → Bool
-is_mark mark t = is_special_kind t.kind && bytes_eq t.octets (mark ∷ [])
+abbrev pub is_special_of : ℕ → TokenValue → Bool
+is_special_of mark t = is_special_kind t.kind && bytes_eq t.octets (mark ∷ [])
 
 -- none of the tokens is that special
-abbrev pub lacks : ℕ → List TokenValue → Bool
-lacks mark tokens = list_all (λ t. not (is_mark mark t)) tokens
+abbrev pub lacks_special : ℕ → List TokenValue → Bool
+lacks_special mark tokens = list_all (λ t. not (is_special_of mark t)) tokens
 
 -- what stands before the first special of this octet, and what stands behind it
 pub record SplitsAt (mark : ℕ) (tokens before after : List TokenValue) : Type 0 where
   pub at : TokenValue
   pub whole : tokens ≡ before ++ at ∷ after
-  pub is_at : is_mark mark at ≡ true
-  pub first : lacks mark before ≡ true
-
-abbrev pub is_atom_kind : TokenKind → Bool
-is_atom_kind Atom = true
-is_atom_kind Quoted = false
-is_atom_kind Literal = false
-is_atom_kind Special = false
-is_atom_kind Gap = false
-is_atom_kind Comment = false
+  pub is_at : is_special_of mark at ≡ true
+  pub first : lacks_special mark before ≡ true
 
 abbrev pub is_atom : TokenValue → Bool
 is_atom t = is_atom_kind t.kind
@@ -94,16 +74,16 @@ abbrev pub inner_octets : List ℕ → List ℕ
 inner_octets octets = take (length octets - 2) (drop 1 octets)
 
 -- what a token says: a quoted string its content, gaps and comments nothing, and others their octets
-abbrev pub content_of : TokenKind → List ℕ → List ℕ
-content_of Quoted octets = unquoted false (inner_octets octets)
-content_of Gap octets = []
-content_of Comment octets = []
-content_of Atom octets = octets
-content_of Literal octets = octets
-content_of Special octets = octets
+abbrev pub said_content : TokenKind → List ℕ → List ℕ
+said_content Quoted octets = unquoted false (inner_octets octets)
+said_content Gap octets = []
+said_content Comment octets = []
+said_content Atom octets = octets
+said_content Literal octets = octets
+said_content Special octets = octets
 
 abbrev pub content : TokenValue → List ℕ
-content t = content_of t.kind t.octets
+content t = said_content t.kind t.octets
 
 -- what tokens say, one behind another
 abbrev pub contents : List TokenValue → List ℕ
@@ -113,7 +93,7 @@ contents tokens = flat_map content tokens
 abbrev pub are_dotted : (TokenValue → Bool) → List TokenValue → Bool
 are_dotted p [] = false
 are_dotted p (word ∷ []) = p word
-are_dotted p (word ∷ dot ∷ words) = p word && (is_mark 46 dot && are_dotted p words)
+are_dotted p (word ∷ dot ∷ words) = p word && (is_special_of 46 dot && are_dotted p words)
 
 -- the first word passes, and rest stands behind it
 pub record BeginsSo (p : TokenValue → Bool) (tokens rest : List TokenValue) : Type 0 where

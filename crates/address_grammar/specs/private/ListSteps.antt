@@ -7,8 +7,8 @@ use Rattle.field_tokens.specs.Trees.{Tree}
 use Rattle.address_grammar.specs.declared.AddressList.{AddressList}
 use Rattle.address_grammar.specs.declared.Mailbox.{Mailbox}
 use Rattle.address_grammar.specs.declared.Element.{Element}
-use Rattle.address_grammar.specs.private.Lexemes.{lacks, SplitsAt}
-use Rattle.address_grammar.specs.AddressLists.{MailboxValue, IsOneMailbox, IsMailbox, ElementValue, One, Group, IsGroupBy, SaysPlace, comments_of, HaveTrees}
+use Rattle.address_grammar.specs.private.Lexemes.{lacks_special, SplitsAt}
+use Rattle.address_grammar.specs.AddressLists.{MailboxValue, IsOneMailbox, IsMailbox, ElementValue, One, Group, IsGroupBy, SaysPlace, comment_tokens, HaveTrees}
 use Rattle.address_grammar.specs.private.ListViews.{mailbox_values, element_values, trees_of}
 
 pub record AddsMailbox (tokens : List TokenValue) (old new : List Mailbox) : Type 0 where
@@ -24,13 +24,13 @@ pub record AddsPlace (tokens : List TokenValue) (old new : List Element) : Type 
 -- a comment adds its tree, and another token nothing
 pub record AddsTree (text : List ℕ) (token : Token) (old new : List Comment) : Type 0 where
   pub first : List Tree
-  pub have : HaveTrees text (comments_of (token ∷ [])) first
+  pub have : HaveTrees text (comment_tokens (token ∷ [])) first
   pub added : trees_of new ≡ trees_of old ++ first
 
 -- a group's name and what stands behind its colon: no angle bracket opens in the name
 pub record SplitsName (tokens before behind : List TokenValue) : Type 0 where
   pub splits : SplitsAt 58 tokens before behind
-  pub closed : lacks 60 before ≡ true
+  pub closed : lacks_special 60 before ≡ true
 
 abbrev pub SaysGroup : List TokenValue → List TokenValue → ElementValue → Type 0
 SaysGroup before behind (One m) = ⊥

@@ -4,7 +4,7 @@ use Rattle.std.specs.List.{list_all}
 use Rattle.encoded_words.specs.declared.units.Merging.{Merging}
 use Rattle.encoded_words.specs.Words.{UnitValue, SaysWhere}
 use Rattle.encoded_words.specs.Units.{Place, with_text, word_unit, merged, raw_units, begins_encoded}
-use Rattle.encoded_words.specs.private.Merging.{IsMerging, units_then, onto}
+use Rattle.encoded_words.specs.private.Merging.{IsMerging, all_units_then, onto}
 use Rattle.encoded_words.specs.PhraseUnits.{PhraseItem, phrase_words, ArePhrasePlaces, HasPhraseUnits, begins_free, has_word}
 use Rattle.field_tokens.specs.Tokens.{TokenValue}
 use Rattle.field_tokens.specs.Squeezed.{is_gap}
@@ -17,8 +17,8 @@ pub record TakesPart (old new : Merging) (run : List ℕ) (after_encoded : Bool)
   pub says : Option UnitValue
   pub says_is : SaysWhere may_be_encoded word says
   pub encoded_is : encoded ≡ is_some says
-  pub units : (us : List UnitValue) → units_then new us
-      ≡ units_then old (with_text (if after_encoded && encoded then [] else run) (onto (word_unit says word) us))
+  pub units : (us : List UnitValue) → all_units_then new us
+      ≡ all_units_then old (with_text (if after_encoded && encoded then [] else run) (onto (word_unit says word) us))
 
 pub record IsFreshReader (r : PhraseReader) : Type 0 where
   pub units : IsMerging r.units [] []
@@ -33,7 +33,7 @@ run_before r items = if not r.is_first && ((r.is_free || begins_free items) && h
 -- whatever places the items have, they complete the units of the phrase
 abbrev pub ReadsSoFar : List PhraseItem → PhraseReader → List PhraseItem → Type 0
 ReadsSoFar phrase r items = (places : List Place) → ArePhrasePlaces (phrase_words r.is_free items) places
-    → HasPhraseUnits phrase (units_then r.units (with_text (if r.after_encoded && begins_encoded places then [] else run_before r items) (merged (raw_units places))))
+    → HasPhraseUnits phrase (all_units_then r.units (with_text (if r.after_encoded && begins_encoded places then [] else run_before r items) (merged (raw_units places))))
 
 -- a token is taken, where the items behind it begin so
 abbrev pub TakesToken : PhraseReader → PhraseReader → TokenValue → Bool → Type 0

@@ -2,13 +2,13 @@
 use Rattle.std.specs.Prelude.{◌≡◌, ◌≢◌, ℕ, ◌+◌, ◌<◌, true, if◌then◌else◌, List, [], ◌∷◌, ◌++◌, length, take, drop, Option, Some, None}
 use Rattle.field_tokens.specs.Tokens.{TokenValue}
 use Rattle.address_grammar.specs.declared.lexemes.Lexeme.{Lexeme}
-use Rattle.address_grammar.specs.private.Lexemes.{is_mark}
+use Rattle.address_grammar.specs.private.Lexemes.{is_special_of}
 use Rattle.address_grammar.specs.private.Views.{values_of}
 
 -- what is awaited behind a token: where nothing is, `>` behind `<` and `;` behind `:`. A comma ends the place.
 abbrev pub awaited_behind : Option ℕ → TokenValue → Option (Option ℕ)
-awaited_behind None t = if is_mark 44 t then None else (if is_mark 60 t then Some (Some 62) else (if is_mark 58 t then Some (Some 59) else Some None))
-awaited_behind (Some mark) t = if is_mark mark t then Some None else Some (Some mark)
+awaited_behind None t = if is_special_of 44 t then None else (if is_special_of 60 t then Some (Some 62) else (if is_special_of 58 t then Some (Some 59) else Some None))
+awaited_behind (Some mark) t = if is_special_of mark t then Some None else Some (Some mark)
 
 abbrev pub and_then : Option (Option ℕ) → (Option ℕ → Option (Option ℕ)) → Option (Option ℕ)
 and_then None f = None
@@ -23,7 +23,7 @@ walk awaited (t ∷ tokens) = and_then (awaited_behind awaited t) (λ next. walk
 pub record SplitsPlace (tokens place rest : List TokenValue) : Type 0 where
   pub comma : TokenValue
   pub whole : tokens ≡ place ++ comma ∷ rest
-  pub is_comma : is_mark 44 comma ≡ true
+  pub is_comma : is_special_of 44 comma ≡ true
   pub walked : walk None place ≡ Some None
 
 -- no place ends within the tokens

@@ -4,19 +4,19 @@ use Rattle.std.specs.List.{AllByRecursion, list_all, list_any, flat_map}
 use Rattle.mail_wire.specs.Octets.{is_ascii}
 use Rattle.encoded_words.specs.declared.units.Merging.{Merging}
 use Rattle.encoded_words.specs.Words.{UnitValue, Text}
-use Rattle.encoded_words.specs.private.Merging.{units_then, onto}
+use Rattle.encoded_words.specs.private.Merging.{all_units_then, onto}
 use Rattle.encoded_words.specs.PhraseUnits.{IsUtf8Item}
 use Rattle.encoded_words.specs.Written.{AreWritable, WriteAll}
 use Rattle.field_tokens.specs.Tokens.{TokenValue}
 use Rattle.field_tokens.specs.Squeezed.{is_gap, octets_of, comments_of}
 use Rattle.field_tokens.specs.Comments.{AreWritableComments, CommentsPieces}
-use Rattle.address_grammar.specs.private.Lexemes.{is_mark, is_blank_token, are_blank, content}
+use Rattle.address_grammar.specs.private.Lexemes.{is_special_of, is_blank_token, are_blank, content}
 use Rattle.address_grammar.specs.Addresses.{address_text}
 use Rattle.address_grammar.specs.Phrases.{phrase_items}
 use Rattle.address_grammar.specs.Paths.{in_angles}
 use Rattle.address_lists.specs.PhrasePieces.{PhrasePieces, HasCore}
 use Rattle.address_grammar.specs.AddressLists.{MailboxValue, IsMailbox, IsOneMailbox, AreMembers, IsGroup, ElementValue, AreDivided, SaysPlace}
-use Rattle.address_lists.specs.ListPieces.{is_plain, member_units, no_members, HasText, with_comma, MemberPieces, MembersPieces, PlaceOfListPieces, PlacesPieces}
+use Rattle.address_lists.specs.ListPieces.{has_served_address, member_units, no_members, HasText, with_comma, MemberPieces, MembersPieces, PlaceOfListPieces, PlacesPieces}
 
 -- ---- what can be written
 
@@ -47,7 +47,7 @@ all_onto (u ∷ added) us = onto u (all_onto added us)
 
 -- these units were taken
 pub record TakesUnits (old new : Merging) (added : List UnitValue) : Type 0 where
-  pub units : (us : List UnitValue) → units_then new us ≡ units_then old (all_onto added us)
+  pub units : (us : List UnitValue) → all_units_then new us ≡ all_units_then old (all_onto added us)
 
 -- the phrase of a mailbox, and a space
 abbrev pub display_units : MailboxValue → List UnitValue
@@ -96,14 +96,14 @@ pub record SplitsGaps (tokens front : List TokenValue) : Type 0 where
 
 -- a token of an element, which no empty place has
 abbrev pub is_element_token : TokenValue → Bool
-is_element_token t = not (is_blank_token t || is_mark 44 t)
+is_element_token t = not (is_blank_token t || is_special_of 44 t)
 
 -- a group all of whose addresses can be served
 pub record IsPlainGroup (tokens : List TokenValue) : Type 0 where
   pub name : List UnitValue
   pub members : List MailboxValue
   pub group : IsGroup tokens name members
-  pub plain : list_all is_plain members ≡ true
+  pub plain : list_all has_served_address members ≡ true
 
 -- ---- what is known to be read
 

@@ -7,7 +7,7 @@ use Rattle.field_tokens.specs.declared.Style.TheVariants.{Mail}
 use Rattle.field_tokens.specs.Tokens.{TokenValue}
 use Rattle.field_tokens.specs.Squeezed.{octets_of, comments_of, apart, IsPart}
 use Rattle.field_tokens.specs.Comments.{CommentValue, CommentsSay, IsLinePiece}
-use Rattle.address_grammar.specs.private.Lexemes.{lacks}
+use Rattle.address_grammar.specs.private.Lexemes.{lacks_special}
 use Rattle.address_grammar.specs.Phrases.{IsPhrase, phrase_items}
 
 -- The pieces, with a space between any two, are tokens that may stand beside a space: a phrase with these units and
@@ -18,7 +18,7 @@ pub record IsPhraseAgain (units : List UnitValue) (values : List CommentValue) (
   pub some : 0 < length parts
   pub joined : join_with_byte 32 (map octets_of parts) ≡ join_with_byte 32 pieces
   pub phrase : IsPhrase (apart parts)
-  pub no_comma : lacks 44 (apart parts) ≡ true
+  pub no_comma : lacks_special 44 (apart parts) ≡ true
   pub has_units : HasPhraseUnits (phrase_items (apart parts)) units
   pub say : CommentsSay (comments_of (apart parts)) values
   pub are_pieces : AllByRecursion IsLinePiece pieces

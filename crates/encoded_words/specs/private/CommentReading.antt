@@ -7,29 +7,29 @@ use Rattle.encoded_words.specs.declared.units.Merging.{Merging}
 use Rattle.encoded_words.specs.Words.{UnitValue, SaysWhere}
 use Rattle.encoded_words.specs.Units.{with_text, word_unit}
 use Rattle.encoded_words.specs.CommentUnits.{TextItem, AreTextItems, item_spelling, item_octet, has_backslash, is_white_item}
-use Rattle.encoded_words.specs.private.Merging.{units_then, onto}
+use Rattle.encoded_words.specs.private.Merging.{all_units_then, onto}
 
 -- the text begins with items, rest follows them, and whatever items rest has, they go on with it
-pub record BeginsWith (text : List ℕ) (items : List TextItem) (rest : List ℕ) : Type 0 where
+pub record BeginsItems (text : List ℕ) (items : List TextItem) (rest : List ℕ) : Type 0 where
   pub whole : text ≡ flat_map item_spelling items ++ rest
   pub onward : (more : List TextItem) → AreTextItems more → rest ≡ flat_map item_spelling more → AreTextItems (items ++ more)
 
 -- an item that gives this octet comes first
-pub record BeginsItem (text : List ℕ) (octet : ℕ) (rest : List ℕ) : Type 0 where
+pub record BeginsOctetItem (text : List ℕ) (octet : ℕ) (rest : List ℕ) : Type 0 where
   pub item : TextItem
-  pub begins : BeginsWith text (item ∷ []) rest
+  pub begins : BeginsItems text (item ∷ []) rest
   pub octet_is : octet ≡ item_octet item
 
 -- an item comes first that isn't white
 pub record BeginsBlack (text rest : List ℕ) : Type 0 where
   pub item : TextItem
-  pub begins : BeginsWith text (item ∷ []) rest
+  pub begins : BeginsItems text (item ∷ []) rest
   pub black : not (is_white_item item) ≡ true
 
 -- the word is the longest front of items that aren't white, and after follows it
 pub record SplitsWord (text word after : List ℕ) : Type 0 where
   pub items : List TextItem
-  pub begins : BeginsWith text items after
+  pub begins : BeginsItems text items after
   pub spelled : word ≡ flat_map item_spelling items
   pub black : list_all (λ i. not (is_white_item i)) items ≡ true
   pub stops : Stops is_black after
@@ -49,5 +49,5 @@ pub record TakesCommentWord (old new : Merging) (run : List ℕ) (after_encoded 
   pub says : Option UnitValue
   pub says_is : SaysWhere (not (list_any has_backslash items)) (map item_octet items) says
   pub encoded_is : encoded ≡ is_some says
-  pub units : (us : List UnitValue) → units_then new us
-      ≡ units_then old (with_text (if after_encoded && encoded then [] else run) (onto (word_unit says (map item_octet items)) us))
+  pub units : (us : List UnitValue) → all_units_then new us
+      ≡ all_units_then old (with_text (if after_encoded && encoded then [] else run) (onto (word_unit says (map item_octet items)) us))

@@ -14,13 +14,13 @@ pub record IsMerging (m : Merging) (done : List UnitValue) (text : List ℕ) : T
   pub text_is : m.text.items ≡ text
 
 -- what a unit makes of those before it
-abbrev pub Adds : Merging → Merging → UnitValue → Type 0
-Adds old new (Text octets) = IsMerging new (done_values old) (old.text.items ++ octets)
-Adds old new (Opaque charset octets source) = IsMerging new (done_values old ++ with_text old.text.items [] ++ Opaque charset octets source ∷ []) []
+abbrev pub AddsUnit : Merging → Merging → UnitValue → Type 0
+AddsUnit old new (Text octets) = IsMerging new (done_values old) (old.text.items ++ octets)
+AddsUnit old new (Opaque charset octets source) = IsMerging new (done_values old ++ with_text old.text.items [] ++ Opaque charset octets source ∷ []) []
 
 -- all units, where these follow
-abbrev pub units_then : Merging → List UnitValue → List UnitValue
-units_then m us = done_values m ++ with_text m.text.items us
+abbrev pub all_units_then : Merging → List UnitValue → List UnitValue
+all_units_then m us = done_values m ++ with_text m.text.items us
 
 -- a unit before units
 abbrev pub onto : UnitValue → List UnitValue → List UnitValue
@@ -32,5 +32,5 @@ pub record TakesWord (old new : Merging) (run : List ℕ) (after_encoded : Bool)
   pub says : Option UnitValue
   pub says_is : Says word says
   pub encoded_is : encoded ≡ is_some says
-  pub units : (us : List UnitValue) → units_then new us
-      ≡ units_then old (with_text (if after_encoded && encoded then [] else run) (onto (word_unit says word) us))
+  pub units : (us : List UnitValue) → all_units_then new us
+      ≡ all_units_then old (with_text (if after_encoded && encoded then [] else run) (onto (word_unit says word) us))

@@ -17,7 +17,7 @@ abbrev pub parts_value : Parts → WordParts
 parts_value p = record { charset = p.charset.now; language = option_copied p.language; letter = p.letter; text = p.text.now }
 
 -- the name is a charset, and `*` and a language where there is one
-pub record IsNamed (name charset : List ℕ) (language : Option (List ℕ)) : Type 0 where
+pub record IsCharsetName (name charset : List ℕ) (language : Option (List ℕ)) : Type 0 where
   pub spelled : name ≡ charset ++ language_suffix language
   pub charset_is : IsName charset
   pub language_is : IfSome language IsName

@@ -12,5 +12,5 @@ abbrev pub IsOneAtom : List Token → Type 0
 IsOneAtom tokens = (atom : Token) × (filter (λ token. not (is_blank token.kind)) tokens ≡ atom ∷ []) × (atom.kind ≡ Atom)
 
 -- these are the pieces of the comments of the text
-abbrev pub GiveComments : Style → List ℕ → List (List ℕ) → Type 0
-GiveComments style text pieces = (values : List TokenValue) → HasTokenValues style text values → CommentsPieces (comments_of values) pieces
+abbrev pub GiveTextComments : Style → List ℕ → List (List ℕ) → Type 0
+GiveTextComments style text pieces = (values : List TokenValue) → HasTokenValues style text values → CommentsPieces (comments_of values) pieces

@@ -13,15 +13,15 @@ abbrev pub token_values : List ℕ → List Token → List TokenValue
 token_values text tokens = map (token_value text) tokens
 
 -- there are no tokens, or the first one passes
-abbrev pub BeginsSo : (TokenValue → Bool) → List TokenValue → Type 0
-BeginsSo p [] = ⊤
-BeginsSo p (t ∷ ts) = p t ≡ true
+abbrev pub EndsOrBeginsSo : (TokenValue → Bool) → List TokenValue → Type 0
+EndsOrBeginsSo p [] = ⊤
+EndsOrBeginsSo p (t ∷ ts) = p t ≡ true
 
 -- the tokens before the first one that passes, and the others
 pub record CutsTokens (p : TokenValue → Bool) (text : List ℕ) (tokens front rest : List Token) : Type 0 where
   pub whole : tokens ≡ front ++ rest
   pub before : list_all (λ t. not (p t)) (token_values text front) ≡ true
-  pub begins : BeginsSo p (token_values text rest)
+  pub begins : EndsOrBeginsSo p (token_values text rest)
 
 -- what stands behind the first token
 abbrev pub behind_first : List TokenValue → Option (List TokenValue)

@@ -3,8 +3,8 @@ use Rattle.std.specs.Prelude.{◌≡◌, ◌≢◌, ◌⊎◌, ℕ, Bool, ◌<�
 use Rattle.std.specs.List.{list_all}
 use Rattle.field_downgrade.specs.declared.segments.Side.{Side}
 use Rattle.field_downgrade.specs.declared.segments.Side.TheVariants.{Edge, Encoded, Plain}
-use Rattle.field_downgrade.specs.Words.{Word, AreWords, AreUtf8, HasWords, is_high, last_run}
-use Rattle.field_downgrade.specs.Layout.{IsCopied, begins_high, ends_high, last_side, Gives, HavePieces, made_of}
+use Rattle.field_downgrade.specs.Words.{Word, AreWords, AreUtf8, HasWords, is_high_word, last_run}
+use Rattle.field_downgrade.specs.Layout.{IsCopied, begins_high, ends_high, last_side, GivesPieces, HavePieces, made_of}
 use Rattle.encoded_words.specs.Folding.{Piece, made_body, word_pieces}
 use Rattle.encoded_words.specs.Pieces.{AreBWords}
 use Rattle.utf8_fields.specs.Parts.{FieldParts, field_octets}
@@ -22,11 +22,11 @@ NeedsRun Plain run = 0 < length run
 -- the words are none, or begin with a word that is high and no encoded word
 abbrev pub BeginsCore : List Word → Type 0
 BeginsCore [] = Unit {0}
-BeginsCore (w ∷ ws) = (is_high w ≡ true) × (w.is_encoded ≡ false)
+BeginsCore (w ∷ ws) = (is_high_word w ≡ true) × (w.is_encoded ≡ false)
 
 abbrev pub BeginsHigh : List Word → Type 0
 BeginsHigh [] = Unit {0}
-BeginsHigh (w ∷ ws) = is_high w ≡ true
+BeginsHigh (w ∷ ws) = is_high_word w ≡ true
 
 abbrev pub BeginsEncoded : List Word → Type 0
 BeginsEncoded [] = Unit {0}
@@ -58,7 +58,7 @@ pub record CanWrite (before core copied : List Word) : Type 0 where
 -- the lines of a segment's pieces were added
 pub record WritesSegment (before core copied : List Word) (old new : List ℕ) : Type 0 where
   pub pieces : List Piece
-  pub gives : Gives (last_side before) (last_run before) (record { core = core; copied = copied }) pieces
+  pub gives : GivesPieces (last_side before) (last_run before) (record { core = core; copied = copied }) pieces
   pub added : new ≡ old ++ made_body pieces
 
 -- the lines of the words' pieces were added
@@ -68,7 +68,7 @@ pub record WritesWords (words : List Word) (old new : List ℕ) : Type 0 where
   pub added : new ≡ old ++ made_body pieces
 
 -- Octets were put behind the old ones, and this holds of them.
-pub record Adds (P : List ℕ → Type 0) (old new : List ℕ) : Type 0 where
+pub record AddsOctets (P : List ℕ → Type 0) (old new : List ℕ) : Type 0 where
   pub more : List ℕ
   pub added : new ≡ old ++ more
   pub holds : P more

@@ -8,8 +8,8 @@ use Rattle.field_downgrade.specs.Words.{Word}
 abbrev pub word_of : CodeWord → Word
 word_of w = record { octets = w.octets.now; is_encoded = w.is_encoded; gap = w.gap.now }
 
-abbrev pub words_of : List CodeWord → List Word
-words_of ws = map word_of ws
+abbrev pub word_values : List CodeWord → List Word
+word_values ws = map word_of ws
 
 -- the octets of the served field
 abbrev pub made_from : List ℕ → Rewrite → List ℕ

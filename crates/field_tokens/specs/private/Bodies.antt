@@ -4,7 +4,7 @@ use Rattle.std.specs.List.{list_all}
 use Rattle.mail_wire.specs.declared.values.Span.{Span}
 use Rattle.encoded_words.specs.CommentUnits.{TextItem, item_spelling, is_white_item}
 use Rattle.field_tokens.specs.declared.Item.{Item}
-use Rattle.field_tokens.specs.Trees.{StandsInText, AreText, spelling, Body, Last, Before, body_octets, IsBody, Tree, IsRun, GivesRun, HasItems, all_before, item_of}
+use Rattle.field_tokens.specs.Trees.{StandsInText, AreText, spelling, Body, Last, Before, body_octets, IsCommentBody, Tree, IsRun, GivesRun, HasItems, all_before, tree_item}
 
 -- no item of a text comes first
 abbrev pub BeginsNoItem : List ℕ → Type 0
@@ -44,17 +44,17 @@ body_depth (Before text inner more) = max (body_depth inner + 1) (body_depth mor
 pub record HoldsBody (levels : ℕ) (octets : List ℕ) : Type 0 where
   pub body : Body
   pub behind : List ℕ
-  pub is_body : IsBody body
+  pub is_body : IsCommentBody body
   pub shallow : body_depth body < levels
   pub whole : octets ≡ body_octets body ++ 41 ∷ behind
 
 -- the octets are a body, a closing parenthesis and rest, and the tree is the body's
 pub record ReadsBody (end : ℕ) (octets : List ℕ) (tree : Tree) (rest : List ℕ) : Type 0 where
   pub body : Body
-  pub is_body : IsBody body
+  pub is_body : IsCommentBody body
   pub whole : octets ≡ body_octets body ++ 41 ∷ rest
   pub items : HasItems (end - length octets) body tree
 
 -- the items grew by what stands before any tree so
 abbrev pub AddsItem : List Item → List Item → (Tree → Tree) → Type 0
-AddsItem old new item = (more : Tree) → all_before (map item_of new) more ≡ all_before (map item_of old) (item more)
+AddsItem old new item = (more : Tree) → all_before (map tree_item new) more ≡ all_before (map tree_item old) (item more)

@@ -1,14 +1,14 @@
 -- What the writer of comments finds and puts.
 use Rattle.std.specs.Prelude.{◌≡◌, ℕ, ◌<◌, List, ◌++◌}
 use Rattle.encoded_words.specs.CommentUnits.{TextItem}
-use Rattle.field_tokens.specs.Trees.{AreText, spelling, Body, IsBody}
+use Rattle.field_tokens.specs.Trees.{AreText, spelling, Body, IsCommentBody}
 use Rattle.field_tokens.specs.private.Bodies.{BeginsNoItem, body_depth}
 use Rattle.field_tokens.specs.Comments.{IsComment, comment_of, TextPieces, AddsPieces}
 
 -- the octets are a comment in which fewer are open than this
 pub record IsCommentWithin (levels : ℕ) (octets : List ℕ) : Type 0 where
   pub body : Body
-  pub is_body : IsBody body
+  pub is_body : IsCommentBody body
   pub shallow : body_depth body < levels
   pub spelled : octets ≡ comment_of body
 

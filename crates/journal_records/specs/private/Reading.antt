@@ -16,9 +16,9 @@ abbrev pub Fails : {Y : Type 0} → ReadFault → Option Y → Type 0
 Fails Memory read = Unit {0}
 Fails NoRecord read = read ≡ None
 
-abbrev pub Gives : {X Y : Type 0} → (X → Y) → Result X ReadFault → Option Y → Type 0
-Gives view (Ok x) read = read ≡ Some (view x)
-Gives view (Err e) read = Fails e read
+abbrev pub ReadsInto : {X Y : Type 0} → (X → Y) → Result X ReadFault → Option Y → Type 0
+ReadsInto view (Ok x) read = read ≡ Some (view x)
+ReadsInto view (Err e) read = Fails e read
 
 -- a field is a value and the octets behind it
 abbrev pub number_at : List ℕ → Option (ℕ × List ℕ)
@@ -41,25 +41,25 @@ lists_at (suc n) octets = do
   Some (first.0 ∷ others.0, others.1)
 
 -- the fields have to fill the octets
-abbrev pub ended : Record → List ℕ → Option Record
-ended one rest = if length rest == 0 then Some one else None
+abbrev pub ended_fields : Record → List ℕ → Option Record
+ended_fields one rest = if length rest == 0 then Some one else None
 
 unfoldable pub account_at : List ℕ → Option Record
 account_at octets = do
   address ← list_at octets
   password ← list_at address.1
-  ended (records.Account address.0 password.0) password.1
+  ended_fields (records.Account address.0 password.0) password.1
 
 unfoldable pub domain_at : List ℕ → Option Record
 domain_at octets = do
   name ← list_at octets
-  ended (records.Domain name.0) name.1
+  ended_fields (records.Domain name.0) name.1
 
 unfoldable pub folder_at : List ℕ → Option Record
 folder_at octets = do
   account ← number_at octets
   name ← list_at account.1
-  ended (records.Folder account.0 name.0) name.1
+  ended_fields (records.Folder account.0 name.0) name.1
 
 unfoldable pub message_at : List ℕ → Option Record
 message_at octets = do
@@ -67,18 +67,18 @@ message_at octets = do
   flags ← octet_at folder.1
   date ← list_at flags.1
   text ← list_at date.1
-  ended (records.Message folder.0 flags.0 date.0 text.0) text.1
+  ended_fields (records.Message folder.0 flags.0 date.0 text.0) text.1
 
 unfoldable pub flags_at : List ℕ → Option Record
 flags_at octets = do
   message ← number_at octets
   flags ← octet_at message.1
-  ended (records.Flags message.0 flags.0) flags.1
+  ended_fields (records.Flags message.0 flags.0) flags.1
 
 unfoldable pub expunge_at : List ℕ → Option Record
 expunge_at octets = do
   message ← number_at octets
-  ended (records.Expunge message.0) message.1
+  ended_fields (records.Expunge message.0) message.1
 
 unfoldable pub queue_at : List ℕ → Option Record
 queue_at octets = do
@@ -86,13 +86,13 @@ queue_at octets = do
   count ← number_at path.1
   addresses ← lists_at count.0 count.1
   text ← list_at addresses.1
-  ended (records.Queue path.0 addresses.0 text.0) text.1
+  ended_fields (records.Queue path.0 addresses.0 text.0) text.1
 
 unfoldable pub settle_at : List ℕ → Option Record
 settle_at octets = do
   entry ← number_at octets
   index ← number_at entry.1
-  ended (records.Settle entry.0 index.0) index.1
+  ended_fields (records.Settle entry.0 index.0) index.1
 
 unfoldable pub kind_at : ℕ → List ℕ → Option Record
 kind_at kind octets =

@@ -5,7 +5,7 @@ use Rattle.journal_records.specs.declared.reading.ReadFault.TheVariants.{Memory,
 use Rattle.journal_records.specs.declared.records.Record.{Record}
 use Rattle.address_grammar.specs.declared.Address.{Address}
 use Rattle.journal_records.specs.declared.records.Record.TheVariants as records
-use Rattle.journal_records.specs.Addresses.{IsTextOf, mailbox_key}
+use Rattle.journal_records.specs.Addresses.{IsTextOfAddress, mailbox_key}
 use Rattle.mail_store.specs.Kept.{Kept}
 use Rattle.mail_store.specs.Records.{IsInOrder, IsRecord}
 use Rattle.journal_records.specs.Spelling.{fields_of}
@@ -21,7 +21,7 @@ AddsRecord old new (Err NoRecord) one = ¬ IsInOrder old.kept one × (new ≡ ol
 pub record HasKey (kept : Kept) (address password key : List ℕ) : Type 0 where
   pub in_order : IsInOrder kept (records.Account address password)
   pub own : Address
-  pub text : IsTextOf address own
+  pub text : IsTextOfAddress address own
   pub key_is : key ≡ mailbox_key own
 
 -- it has such a key, or is none

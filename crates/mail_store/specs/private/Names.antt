@@ -11,8 +11,8 @@ use Rattle.mail_store.specs.declared.kept.Account.{Account}
 use Rattle.journal_records.specs.Addresses.{address_of, mailbox_key}
 
 -- the number at a name
-abbrev pub number_of : BTreeMap (Vec ℕ) ℕ → List ℕ → Option ℕ
-number_of numbers name = get_by (λ key. slice_cmp nat_cmp name key.items) numbers
+abbrev pub number_named : BTreeMap (Vec ℕ) ℕ → List ℕ → Option ℕ
+number_named numbers name = get_by (λ key. slice_cmp nat_cmp name key.items) numbers
 
 -- what stands at a name after a number was put at a key that may have one
 abbrev pub kept_first : Option ℕ → List ℕ → List ℕ → ℕ → Option ℕ

@@ -12,7 +12,7 @@ use Rattle.mail_store.specs.StoreState.{StoreState}
 use Rattle.mail_store.specs.private.Adding.{NotAdded}
 
 -- the octets are as before, the count of faults isn't less, and a keeper that never fails goes on
-pub record Stays (before now : KeeperTelling) : Type 0 where
+pub record KeeperStays (before now : KeeperTelling) : Type 0 where
   pub same : now.octets ≡ before.octets
   pub later : before.faults ≤ now.faults
   pub sure : IsTrue before.never_fails → IsTrue now.never_fails
@@ -46,7 +46,7 @@ pub record IsSoFar (told : Option (List ℕ)) (at : ℕ) (first store : StoreSta
 -- what a loop over a journal keeps
 pub record IsGoing (before now : KeeperTelling) (at had : ℕ) (first store : StoreState) : Type 0 where
   pub so_far : IsSoFar before.octets at first store
-  pub stays : Stays before now
+  pub stays : KeeperStays before now
   pub within : at ≤ had
   pub begun : 8 ≤ at
 
@@ -55,7 +55,7 @@ abbrev pub repaired : ℕ → List ℕ → List ℕ
 repaired end octets = if end == 0 then first_octets else take end octets
 
 -- The octets up to `end` are the whole records, and these are kept.
-pub record EndsAt (octets : List ℕ) (end : ℕ) (kept : Kept) : Type 0 where
+pub record EndsJournalAt (octets : List ℕ) (end : ℕ) (kept : Kept) : Type 0 where
   pub all : List Record
   pub had : HasRecords octets all
   pub records : AreRecords nothing all

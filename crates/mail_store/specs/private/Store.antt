@@ -3,7 +3,7 @@ use Rattle.std.specs.Prelude.{◌≤◌}
 use Rattle.mail_store.specs.declared.limits.TheConstants.{MESSAGE_MAX}
 use Rattle.mail_store.specs.declared.storing.Store.TheInside.{Inside}
 use Rattle.mail_store.specs.Kept.{Kept}
-use Rattle.mail_store.specs.private.Names.{number_of}
+use Rattle.mail_store.specs.private.Names.{number_named}
 use Rattle.mail_store.specs.StoreState.{StoreState, Indexes, AreIndexes}
 
 abbrev pub kept_of : Inside → Kept
@@ -20,8 +20,8 @@ indexes_of a = record {
   contents = a.contents.items;
   previous = a.previous.items;
   inboxes = a.inboxes.items;
-  mailboxes = number_of a.mailboxes;
-  locals = number_of a.locals;
+  mailboxes = number_named a.mailboxes;
+  locals = number_named a.locals;
   recipients = a.recipients;
 }
 

@@ -28,9 +28,9 @@ pub record IsHeadRead (boundaries : List (List ℕ)) (octets : List ℕ) (start 
   pub within : AreFieldsWithin octets head.block.fields
 
 -- what is in an entity, where `levels` levels of entities may be in it
-abbrev pub IsInside : ℕ → List ℕ → Opening → ℕ → ℕ → List (List ℕ) → Shape → List Entity → Type 0
-IsInside zero octets opening number body content shape inner = (shape ≡ Leaf) × (inner ≡ [])
-IsInside (suc levels) octets opening number body content shape inner = IsOpened (IsEntity levels octets) opening number body content shape inner
+abbrev pub IsWithinEntity : ℕ → List ℕ → Opening → ℕ → ℕ → List (List ℕ) → Shape → List Entity → Type 0
+IsWithinEntity zero octets opening number body content shape inner = (shape ≡ Leaf) × (inner ≡ [])
+IsWithinEntity (suc levels) octets opening number body content shape inner = IsOpened (IsEntity levels octets) opening number body content shape inner
 
 abbrev pub IsFaultWithin : ℕ → List ℕ → Opening → ℕ → List (List ℕ) → FieldFault → Type 0
 IsFaultWithin zero octets opening body content fault = ⊥
@@ -40,7 +40,7 @@ IsFaultWithin (suc levels) octets opening body content fault = IsFaultInside (Is
 pub record IsInsideRead (levels : ℕ) (boundaries : List (List ℕ)) (octets : List ℕ) (opening : Opening) (number : ℕ) (content : Start) (old new : List Entity) (opened : Opened) : Type 0 where
   pub more : List Entity
   pub added : new ≡ old ++ more
-  pub inside : IsInside levels octets opening number content.at (region_at boundaries octets content.from) opened.shape more
+  pub inside : IsWithinEntity levels octets opening number content.at (region_at boundaries octets content.from) opened.shape more
   pub stop_is : IsStop boundaries octets content.from opened.stop
 
 -- The same of the parts of a content.

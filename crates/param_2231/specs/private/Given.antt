@@ -31,7 +31,7 @@ abbrev pub GiveBody : List Piece → List ℕ → List (List ℕ) → Type 0
 GiveBody pieces main made = (given : List (List ℕ)) × PiecesGive pieces (params_of pieces) [] pieces given × (made ≡ with_semicolons (main ∷ given))
 
 -- The tokens of the text are a main part and parameters, and these are their pieces.
-pub record BodyPieces (kind : ParamKind) (open_global : Bool) (text : List ℕ) (tokens : List Token) (made : List (List ℕ)) : Type 0 where
+pub record ValueBodyPieces (kind : ParamKind) (open_global : Bool) (text : List ℕ) (tokens : List Token) (made : List (List ℕ)) : Type 0 where
   pub main : List ℕ
   pub pieces : List Piece
   pub is_body : IsBody kind text tokens main pieces

@@ -8,15 +8,15 @@ use Rattle.session_core.specs.Meanings.{Meanings, TellsTrees}
 use Rattle.session_core.specs.declared.desk.Desk.{Desk}
 use Rattle.smtp_grammar.specs.Commands.{command_of}
 use Rattle.smtp_session.specs.Machine.{Step, acts_in, step}
-use Rattle.smtp_session.specs.Session.{HasRest, IsReady, line_octets, state_of}
+use Rattle.smtp_session.specs.Session.{HasRest, SmtpReady, line_octets, state_of}
 use Rattle.smtp_session.specs.declared.session.Accepted.{Accepted}
 use Rattle.smtp_session.specs.declared.session.SmtpMachine.{SmtpMachine}
 use Rattle.smtp_session.specs.declared.states.SmtpState.{SmtpState}
 use Rattle.smtp_session.specs.declared.states.SmtpState.TheVariants as smtp
 
 -- the content of a message, which stands behind the trace
-abbrev pub content_of : Accepted → List ℕ
-content_of accepted = drop accepted.trace_len accepted.delivery.remote_octets
+abbrev pub accepted_content : Accepted → List ℕ
+accepted_content accepted = drop accepted.trace_len accepted.delivery.remote_octets
 
 -- the step that says which octets have a tree was carried out, or after a fault the first of it
 abbrev pub DoesBy : (before now : Around) → Option Fault → ((List ℕ → Bool) → Step) → Type 0
@@ -25,7 +25,7 @@ DoesBy before now met taken = (has_tree : List ℕ → Bool) → TellsTrees has_
 -- the session that is left stands for this state, and has kept nothing; none is left where the session has ended
 pub record IsFirst (session : SmtpMachine) (desk : Desk) : Type 0 where
   pub has : HasRest session session.state [] []
-  pub ready : IsReady session [] desk
+  pub ready : SmtpReady session [] desk
 
 abbrev pub state_behind : Option SmtpMachine → Option SmtpState
 state_behind None = None

@@ -2,7 +2,7 @@
 use Rattle.std.specs.Prelude.{◌≡◌, ◌≤◌, ℕ, ◌+◌, List, ◌++◌, if◌then◌else◌, length, slice_range}
 use Rattle.std.specs.List.{AllZip, concat}
 use Rattle.std.specs.Str.{bytes_eq}
-use Rattle.field_downgrade.specs.Message.{IsServed}
+use Rattle.field_downgrade.specs.Message.{IsServedField}
 use Rattle.mime_tree.specs.declared.entity.Entity.{Entity}
 use Rattle.mime_tree.specs.Rewriting.{RewritesBlocks}
 use Rattle.surrogate_rope.specs.declared.building.Made.{Made}
@@ -34,5 +34,5 @@ pub record AddsBlock (IsMade : List ℕ → List ℕ → Type 0) (raws : List (L
 
 -- Each block is served, all else is copied, and the count is that of the fields that are others.
 pub record HasServedBlocks (msg : List ℕ) (entities : List Entity) (made : Made) : Type 0 where
-  pub blocks : RewritesBlocks (InEntity IsServed msg) msg 0 (length msg) entities made.octets
-  pub counted : CountsChanged (InEntity IsServed msg) msg entities made.rewritten
+  pub blocks : RewritesBlocks (InEntity IsServedField msg) msg 0 (length msg) entities made.octets
+  pub counted : CountsChanged (InEntity IsServedField msg) msg entities made.rewritten

@@ -59,7 +59,7 @@ pub record IsNextField (octets : List ℕ) (at : ℕ) (field : Field) : Type 0 w
   pub fits : at + field.raw.len ≤ length octets
 
 -- These fields stand from `start` up to `at`, and no line there goes on with the last one.
-pub record HasRead (octets : List ℕ) (start : ℕ) (fields : List Field) (at : ℕ) : Type 0 where
+pub record HasReadFields (octets : List ℕ) (start : ℕ) (fields : List Field) (at : ℕ) : Type 0 where
   pub before : List (List ℕ)
   pub lines : lines_of (drop start octets) ≡ before ++ lines_of (drop at octets)
   pub fields_are : AreFields before start fields at

@@ -1,7 +1,8 @@
 use Rattle.std.proofs.Common.{◌≡◌, length}
-use Rattle.address_grammar.specs.private.Lexemes.{words_of, is_part, are_dotted}
+use Rattle.address_grammar.specs.private.Lexemes.{is_part, are_dotted}
 use Rattle.address_grammar.specs.private.Views.{values_of}
 use Rattle.address_grammar.proofs.DottedLemmas.{dotted_behind}
+use Rattle.field_tokens.specs.Squeezed.{words_of}
 use Rattle.address_grammar.proofs.addresses.are_dotted.Given as goal
 
 abbrev pub invariant-loop-behind : goal.invariant-loop-behind

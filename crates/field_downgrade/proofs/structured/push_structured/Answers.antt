@@ -1,4 +1,4 @@
-use Rattle.utf8_fields.specs.private.Views.{parts_of}
+use Rattle.utf8_fields.specs.private.Views.{parts_value}
 use Rattle.field_downgrade.proofs.StructuredFields.{body_some, body_utf8}
 use Rattle.field_downgrade.proofs.StructuredWriting.{Adds-pieces}
 use Rattle.field_downgrade.proofs.Writing.{OnOk-then}
@@ -8,7 +8,7 @@ pub returns-in-Some : goal.returns-in-Some
 returns-in-Some c =
     let values = rw (c.as_slice.ensures, c.kind_of-kind.ensures, ← c.deref.ensures.value) at (rw c.in-Some.is at c.in_ok-pieces.ensures.some) in
     OnOk-then c.push_pieces.result _ _
-    (Adds-pieces c.args.open_global (parts_of c.args.parts.now) _ c.args.made.now c.push_pieces.new.made c.deref.result.now c.requires.other c.in_ok-value.ensures values) c.push_pieces.ensures
+    (Adds-pieces c.args.open_global (parts_value c.args.parts.now) _ c.args.made.now c.push_pieces.new.made c.deref.result.now c.requires.other c.in_ok-value.ensures values) c.push_pieces.ensures
 
 pub push_whole-requires-clause-none : goal.push_whole-requires-clause-none
 push_whole-requires-clause-none c = rw c.as_slice-in-None.ensures (rw (c.as_slice.ensures, c.kind_of-kind.ensures) at (rw c.in-None.is at c.in_ok-pieces.ensures.none))

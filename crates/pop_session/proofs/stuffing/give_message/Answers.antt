@@ -5,7 +5,7 @@ use Rattle.std.proofs.lemmas.Result.{err_from_is_err_and}
 use Rattle.mail_wire.specs.declared.outside.Fault.TheVariants as fault
 use Rattle.mail_wire.proofs.Moving.{GoesOn-of}
 use Rattle.surrogate_rope.specs.Served.{shown_octets}
-use Rattle.session_core.specs.Desks.{octets_at}
+use Rattle.session_core.specs.Desks.{stored_octets}
 use Rattle.session_core.specs.Keeps.{answer_of, fault_of}
 use Rattle.session_core.proofs.DoingLemmas.{LeavesDesk-nil, LeavesDesk-then, Replies-of, Replies-stop}
 use Rattle.session_core.proofs.KeepsLemmas.{Keeps-nil, Keeps-then}
@@ -16,12 +16,12 @@ use Rattle.pop_session.proofs.stuffing.give_message.Goals as goal
 pub returns-in_err-pending-clause-replies : goal.returns-in_err-pending-clause-replies
 returns-in_err-pending-clause-replies g c =
     let failed = err_from_is_err_and c.from_residual.result c.from_residual.ensures.1 in
-    let all = codes "+OK\r\n" ++ (multi_line (take c.args.len (shown_octets (octets_at c.args.outside.now.desk.store c.args.id) c.args.shown.now)) ++ codes ".\r\n") in
+    let all = codes "+OK\r\n" ++ (multi_line (take c.args.len (shown_octets (stored_octets c.args.outside.now.desk.store c.args.id) c.args.shown.now)) ++ codes ".\r\n") in
     rw (failed.1, failed.2) (Replies-stop c.args.outside.now fault.Memory all (λ bad. cc))
 
 pub loop-at-init : goal.loop-at-init
 loop-at-init g c = record {
-  given = rw c.in_ok-pending.ensures (nothing_given c.args.outside.now.wire (codes "+OK\r\n") (take c.args.len (shown_octets (octets_at c.args.outside.now.desk.store c.args.id) c.args.shown.now)));
+  given = rw c.in_ok-pending.ensures (nothing_given c.args.outside.now.wire (codes "+OK\r\n") (take c.args.len (shown_octets (stored_octets c.args.outside.now.desk.store c.args.id) c.args.shown.now)));
   within = omega arith;
   leaves = LeavesDesk-nil c.args.outside.now;
   on = Keeps-nil c.args.outside.now;
@@ -30,7 +30,7 @@ loop-at-init g c = record {
 pub returns-in_err-place-clause-replies : goal.returns-in_err-place-clause-replies
 returns-in_err-place-clause-replies g c =
     let failed = err_from_is_err_and c.from_residual-in_err-place.result c.from_residual-in_err-place.ensures.1 in
-    let octets = take c.args.len (shown_octets (octets_at c.args.outside.now.desk.store c.args.id) c.args.shown.now) in
+    let octets = take c.args.len (shown_octets (stored_octets c.args.outside.now.desk.store c.args.id) c.args.shown.now) in
     let all = codes "+OK\r\n" ++ (multi_line octets ++ codes ".\r\n") in
     rw (failed.1, failed.2)
     (Replies-of {T = Unit {0}} c.args.outside.now c.loop-at.outside (Err fault.Memory) all
@@ -40,7 +40,7 @@ returns-in_err-place-clause-replies g c =
 pub returns-in_err-give_piece-clause-replies : goal.returns-in_err-give_piece-clause-replies
 returns-in_err-give_piece-clause-replies g c =
     let failed = err_from_is_err_and c.from_residual-in_err-give_piece.result c.from_residual-in_err-give_piece.ensures.1 in
-    let msg = octets_at c.args.outside.now.desk.store c.args.id in
+    let msg = stored_octets c.args.outside.now.desk.store c.args.id in
     let octets = take c.args.len (shown_octets msg c.args.shown.now) in
     let piece = take c.min-count.result c.read_at.new.into in
     let read =
@@ -57,7 +57,7 @@ returns-in_err-give_piece-clause-replies g c =
 
 pub loop-at-preserved : goal.loop-at-preserved
 loop-at-preserved g c =
-    let msg = octets_at c.args.outside.now.desk.store c.args.id in
+    let msg = stored_octets c.args.outside.now.desk.store c.args.id in
     let octets = take c.args.len (shown_octets msg c.args.shown.now) in
     let piece = take c.min-count.result c.read_at.new.into in
     let read =
@@ -76,9 +76,9 @@ loop-at-preserved g c =
 
 pub returns-clause-replies : goal.returns-clause-replies
 returns-clause-replies g c =
-    let octets = take c.args.len (shown_octets (octets_at c.args.outside.now.desk.store c.args.id) c.args.shown.now) in
+    let octets = take c.args.len (shown_octets (stored_octets c.args.outside.now.desk.store c.args.id) c.args.shown.now) in
     let end : length octets ≤ c.loop-at.at =
-    rw (length-take-le c.args.len (shown_octets (octets_at c.args.outside.now.desk.store c.args.id) c.args.shown.now) c.requires.len) (omega arith) in
+    rw (length-take-le c.args.len (shown_octets (stored_octets c.args.outside.now.desk.store c.args.id) c.args.shown.now) c.requires.len) (omega arith) in
     record {
       gives = end_given c.args.outside.now.wire c.loop-at.outside.wire c.give_end.new.outside.wire (answer_of (fault_of c.give_end.result)) (codes "+OK\r\n") octets c.loop-at.pending (codes ".\r\n") c.loop-at.at c.loop-at.place
           c.loop-at.invariant.given end c.give_end.ensures.replies.gives;

@@ -6,13 +6,13 @@ use Rattle.std.proofs.lemmas.List.{map-append}
 use Rattle.std.proofs.lemmas.Iterator.Consumers.{YieldsList-at, YieldsList-from_filter}
 use Rattle.std.proofs.lemmas.Iterator.Splits.{YieldsList-from_slice_split}
 use Rattle.mail_wire.specs.Octets.{is_white}
-use Rattle.smtp_grammar.specs.Commands.{words_of, keyword_of, parameter_of, is_malformed, are_malformed, is_unknown, is_smtputf8, announced}
+use Rattle.smtp_grammar.specs.Commands.{white_words, parameter_keyword, parameter_of, is_malformed, are_malformed, is_unknown, is_smtputf8, announced}
 use Rattle.smtp_grammar.proofs.ParameterLemmas.{flag-turn, size-turn, malformed-turn, keywords-turn, all-yielded}
 use Rattle.smtp_grammar.proofs.command.read_parameters.Goals as goal
 
 pub returns : goal.returns
 returns c =
-    let all : map (λ x. x.now) c.loop-word.yielded ≡ words_of c.args.rest.now =
+    let all : map (λ x. x.now) c.loop-word.yielded ≡ white_words c.args.rest.now =
     all-yielded c.loop-word.yielded _ c.loop-word.yielded_by _ _ c.in-None.is c.next.ensures.steps
     (YieldsList-at c.into_iter-word-iterator.ensures.into_iter_gives
     (YieldsList-from_filter _ (λ word. not (length word == 0))
@@ -29,8 +29,8 @@ returns c =
 pub loop-word-preserved : goal.loop-word-preserved
 loop-word-preserved c =
     let more = map-append (λ (x : Bor (List ℕ)). x.now) c.loop-word.yielded (c.in-Some.word ∷ []) in
-    let key : c.in_ok-keyword.keyword.items ≡ keyword_of c.in-Some.word.now = c.in_ok-keyword.ensures.ok ∙ ap (map to_ascii_lowercase) c.keyword_of.ensures in
-    let known = c.loop-word.invariant.keywords c.in_ok-keyword.keyword.items ∙ ap (λ (k : List ℕ). list_any (λ word. bytes_eq k (keyword_of word)) (map (λ (x : Bor (List ℕ)). x.now) c.loop-word.yielded)) key in
+    let key : c.in_ok-keyword.keyword.items ≡ parameter_keyword c.in-Some.word.now = c.in_ok-keyword.ensures.ok ∙ ap (map to_ascii_lowercase) c.keyword_of.ensures in
+    let known = c.loop-word.invariant.keywords c.in_ok-keyword.keyword.items ∙ ap (λ (k : List ℕ). list_any (λ word. bytes_eq k (parameter_keyword word)) (map (λ (x : Bor (List ℕ)). x.now) c.loop-word.yielded)) key in
     record {
       malformed = malformed-turn _ c.in-Some.word.now _ _ _ _ _ more c.add.ensures.malformed c.loop-word.invariant.malformed (ap is_malformed c.read_parameter.ensures) (c.in_ok-is_new.ensures.added ∙ ap not known);
       unknown = flag-turn _ _ c.in-Some.word.now _ _ _ _ more c.add.ensures.unknown c.loop-word.invariant.unknown (ap is_unknown c.read_parameter.ensures);

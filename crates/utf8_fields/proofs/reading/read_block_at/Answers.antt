@@ -5,7 +5,7 @@ use Rattle.std.proofs.lemmas.Slice.{between_to_end}
 use Rattle.std.proofs.lemmas.Result.{err_from_is_err_and}
 use Rattle.mail_wire.specs.Lines.{lines_of}
 use Rattle.utf8_fields.specs.Block.{EndsBlock, HasBlockIn}
-use Rattle.utf8_fields.specs.private.Steps.{HasRead}
+use Rattle.utf8_fields.specs.private.Steps.{HasReadFields}
 use Rattle.utf8_fields.proofs.OneBlock.{same_block}
 use Rattle.utf8_fields.proofs.NoFault.{no_fault}
 use Rattle.utf8_fields.proofs.OneFault.{found_or_memory}
@@ -30,7 +30,7 @@ loop-fields-preserved c =
     let all = All-push (λ (field : Field). field.raw.at + field.raw.len ≤ length c.args.octets.now) c.loop-fields.fields c.in_ok-field.field c.loop-fields.invariant.2 within in
     (rw c.in_ok-push.ensures.ok more, omega arith, rw c.in_ok-push.ensures.ok all)
 
-the_block : (octets : List ℕ) (start : ℕ) (fields : List Field) (at : ℕ) → HasRead octets start fields at → EndsBlock (lines_of (take (length octets - at) (drop at octets)))
+the_block : (octets : List ℕ) (start : ℕ) (fields : List Field) (at : ℕ) → HasReadFields octets start fields at → EndsBlock (lines_of (take (length octets - at) (drop at octets)))
     → HasBlockIn (lines_of (drop start octets)) start fields at
 the_block octets start fields at read ends =
     let fits = read.fits in HasBlock-from_read octets start fields at read (rw (between_to_end octets at (length octets) (omega arith)) at ends)

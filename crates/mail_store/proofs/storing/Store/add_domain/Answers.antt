@@ -4,7 +4,7 @@ use Rattle.mail_store.specs.declared.changing.Named.{Named}
 use Rattle.journal_records.specs.declared.records.Record.TheVariants as records
 use Rattle.journal_records.specs.Addresses.{IsDomainText}
 use Rattle.mail_store.specs.Changing.{domain_refusal}
-use Rattle.mail_store.specs.private.Names.{number_of, PutsName}
+use Rattle.mail_store.specs.private.Names.{number_named, PutsName}
 use Rattle.mail_store.specs.private.Store.{kept_of, indexes_of, state_of}
 use Rattle.mail_store.specs.StoreState.{StoreState}
 use Rattle.std.proofs.lemmas.Result.{err_from_is_err_and}
@@ -27,12 +27,12 @@ write_named-requires g c =
     let free = domain_free (kept_of c.self.inside) c.args.domain.now taken in
     let room = has_room (length c.self.inside.domains.items) free.1 in
     let found = found_domain (kept_of c.self.inside) (indexes_of c.self.inside) c.args.domain.now named.name c.self.invariant.indexes c.in_ok-named.ensures.name in
-    none_of (number_of c.self.inside.locals named.name) (found ∙ free.0)
+    none_of (number_named c.self.inside.locals named.name) (found ∙ free.0)
 
 pub invariant_of-self-in_err-write_named : goal.invariant_of-self-in_err-write_named
 invariant_of-self-in_err-write_named g c = record {
   indexes = rw c.in_ok-reserve.ensures.items
-      (AreIndexes-same_locals (kept_of c.self.inside) (indexes_of c.self.inside) (number_of c.write_named.new.numbers) c.self.invariant.indexes c.in_err-write_named.ensures.err);
+      (AreIndexes-same_locals (kept_of c.self.inside) (indexes_of c.self.inside) (number_named c.write_named.new.numbers) c.self.invariant.indexes c.in_err-write_named.ensures.err);
   message_bound = c.self.invariant.message_bound;
 }
 
@@ -67,8 +67,8 @@ invariant_of-self-2 g c =
     let number = c.in_ok-named.ensures.number ∙ ap (λ s. length s.kept.domains) (sym c.self.view_is) in
     record {
       indexes = rw (c.push_reserved.ensures.items, c.in_ok-reserve.ensures.items)
-          (AreIndexes-domain (kept_of c.self.inside) (indexes_of c.self.inside) (number_of c.write_named.new.numbers) named.name c.self.invariant.indexes is_text room
-          (subst (PutsName (number_of c.self.inside.locals) (number_of c.write_named.new.numbers) named.name) number c.in_ok-write_named.ensures.ok));
+          (AreIndexes-domain (kept_of c.self.inside) (indexes_of c.self.inside) (number_named c.write_named.new.numbers) named.name c.self.invariant.indexes is_text room
+          (subst (PutsName (number_named c.self.inside.locals) (number_named c.write_named.new.numbers) named.name) number c.in_ok-write_named.ensures.ok));
       message_bound = c.self.invariant.message_bound;
     }
 

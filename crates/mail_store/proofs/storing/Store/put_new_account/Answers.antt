@@ -2,9 +2,9 @@ use Rattle.std.proofs.Common.{◌≡◌, ℕ, ◌∷◌, [], None, length, refl,
 use Rattle.std.proofs.lemmas.Result.{err_from_is_err_and}
 use Rattle.address_grammar.proofs.WritingLemmas.{path_again}
 use Rattle.journal_records.specs.declared.records.Record.TheVariants as records
-use Rattle.journal_records.specs.Addresses.{IsTextOf, WithPaths}
+use Rattle.journal_records.specs.Addresses.{IsTextOfAddress, WithPaths}
 use Rattle.mail_store.specs.Changing.{account_refusal}
-use Rattle.mail_store.specs.private.Names.{number_of, PutsName}
+use Rattle.mail_store.specs.private.Names.{number_named, PutsName}
 use Rattle.mail_store.specs.private.Store.{kept_of, indexes_of, state_of}
 use Rattle.mail_store.specs.StoreState.{StoreState}
 use Rattle.mail_store.specs.Records.{AreRecords}
@@ -26,7 +26,7 @@ invariant_of-self-in_err-write_named g c = record {
     c.in_ok-inbox.ensures.folders,
     c.in_ok-inbox.ensures.contents,
     c.in_ok-inbox.ensures.inboxes,
-  ) (AreIndexes-same_mailboxes (kept_of c.self.inside) (indexes_of c.self.inside) (number_of c.write_named.new.numbers) c.self.invariant.indexes c.in_err-write_named.ensures.err);
+  ) (AreIndexes-same_mailboxes (kept_of c.self.inside) (indexes_of c.self.inside) (number_named c.write_named.new.numbers) c.self.invariant.indexes c.in_err-write_named.ensures.err);
   message_bound = c.self.invariant.message_bound;
 }
 
@@ -61,10 +61,10 @@ invariant_of-self-2 g c =
     let taken = (account_taken (kept_of c.self.inside) (indexes_of c.self.inside) c.requires.address made.named.name c.self.invariant.indexes c.requires.sendable.0 c.requires.name_is free).1 in
     let room = room_for (kept_of c.self.inside) c.requires.address.domain taken in
     let number = c.requires.number_is ∙ ap (λ s. length s.kept.accounts) (sym c.self.view_is) in
-    let puts : PutsName (number_of c.self.inside.mailboxes) (number_of c.write_named.new.numbers) made.named.name made.named.number = c.in_ok-write_named.ensures.ok in
-    let named = subst (λ k. PutsName (number_of c.self.inside.mailboxes) (number_of c.write_named.new.numbers) k (length c.self.inside.accounts.items)) c.requires.name_is
-    (subst (PutsName (number_of c.self.inside.mailboxes) (number_of c.write_named.new.numbers) made.named.name) number puts) in
-    let text : IsTextOf made.own.address c.requires.address = subst (λ t. IsTextOf t c.requires.address) (sym c.requires.own_is) (path_again c.requires.address c.requires.sendable.0) in
+    let puts : PutsName (number_named c.self.inside.mailboxes) (number_named c.write_named.new.numbers) made.named.name made.named.number = c.in_ok-write_named.ensures.ok in
+    let named = subst (λ k. PutsName (number_named c.self.inside.mailboxes) (number_named c.write_named.new.numbers) k (length c.self.inside.accounts.items)) c.requires.name_is
+    (subst (PutsName (number_named c.self.inside.mailboxes) (number_named c.write_named.new.numbers) made.named.name) number puts) in
+    let text : IsTextOfAddress made.own.address c.requires.address = subst (λ t. IsTextOfAddress t c.requires.address) (sym c.requires.own_is) (path_again c.requires.address c.requires.sendable.0) in
     record {
       indexes = rw (
         c.put_account.ensures.accounts,
@@ -75,7 +75,7 @@ invariant_of-self-2 g c =
         c.in_ok-inbox.ensures.folders,
         c.in_ok-inbox.ensures.contents,
         c.in_ok-inbox.ensures.inboxes,
-      ) (AreIndexes-account (kept_of c.self.inside) (indexes_of c.self.inside) (number_of c.write_named.new.numbers) made.own c.requires.address c.in_ok-inbox.inbox c.self.invariant.indexes text room.0 room.1 named);
+      ) (AreIndexes-account (kept_of c.self.inside) (indexes_of c.self.inside) (number_named c.write_named.new.numbers) made.own c.requires.address c.in_ok-inbox.inbox c.self.invariant.indexes text room.0 room.1 named);
       message_bound = c.self.invariant.message_bound;
     }
 

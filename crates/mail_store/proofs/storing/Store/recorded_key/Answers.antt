@@ -4,7 +4,7 @@ use Rattle.address_grammar.specs.declared.Address.{Address}
 use Rattle.std.proofs.Common.{◌<◌, Option, length, arith}
 use Rattle.std.proofs.lemmas.Bool.{false≢true}
 use Rattle.journal_records.specs.declared.records.Record.TheVariants as records
-use Rattle.journal_records.specs.Addresses.{IsTextOf}
+use Rattle.journal_records.specs.Addresses.{IsTextOfAddress}
 use Rattle.journal_records.proofs.AddressTexts.{address_missing}
 use Rattle.mail_store.specs.declared.limits.TheConstants.{THINGS_MAX}
 use Rattle.mail_store.specs.Records.{IsInOrder}
@@ -21,7 +21,7 @@ returns c =
     let accounts : length c.self.inside.accounts.items < THINGS_MAX = omega (arith, c.len.ensures, fits.2) in
     let folders : length c.self.inside.folders.items < THINGS_MAX = omega (arith, c.len-2.ensures, fits.3) in
     let own = c.in-Some.own in
-    let text : IsTextOf c.args.address.now own = subst (λ (o : Option Address). IfSome o (IsTextOf c.args.address.now)) c.in-Some.is c.in_ok-own.ensures.some in
+    let text : IsTextOfAddress c.args.address.now own = subst (λ (o : Option Address). IfSome o (IsTextOfAddress c.args.address.now)) c.in-Some.is c.in_ok-own.ensures.some in
     let order : IsInOrder (kept_of c.self.inside) (records.Account c.args.address.now c.args.password.now) = (((own, text), fits.0), fits.1, accounts, folders) in
     record {
       in_order = subst (λ (s : StoreState). IsInOrder s.kept (records.Account c.args.address.now c.args.password.now)) c.self.view_is order;
