@@ -1,0 +1,9 @@
+pub mod Languages
+pub mod Reading
+pub mod Going
+pub mod Tokens
+pub mod Keywords
+pub mod Strings
+pub mod Sets
+pub mod Dates
+pub mod Utf7
