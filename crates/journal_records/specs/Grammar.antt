@@ -1,9 +1,9 @@
 -- The grammars of a record's texts, but for addresses and domains.
-use Rattle.std.specs.Prelude.{◌≡◌, ◌≢◌, ℕ, ◌<◌, ◌≤◌, List, [], ◌∷◌, length, Bool, true, false, ◌&&◌, ◌||◌, ◌==◌, if◌then◌else◌, codes, IsUtf8, slice_index_or, slice_range}
+use Rattle.std.specs.Prelude.{◌≡◌, ◌≢◌, ℕ, ◌<◌, ◌≤◌, List, [], ◌∷◌, length, Bool, true, false, ◌&&◌, ◌||◌, ◌==◌, if◌then◌else◌, codes, encode_utf8_all, IsUtf8, slice_index_or, slice_range}
 use Rattle.std.specs.List.{All, list_any}
 use Rattle.std.specs.Char.{is_control}
 use Rattle.std.specs.Str.{chars}
-use Rattle.unicode_normalization.specs.Forms.{is_nfc}
+use Rattle.unicode_normalization.specs.Forms.{is_nfc, nfc}
 use Rattle.mail_wire.specs.Numbers.{is_digit}
 use Rattle.mail_wire.specs.Octets.{same_name}
 use Rattle.journal_records.specs.declared.limits.TheConstants.{NAME_MAX}
@@ -43,3 +43,11 @@ pub record IsFolderName (name : List ℕ) : Type 0 where
   pub utf8 : IsUtf8 name
   pub nfc : is_nfc (chars name) ≡ true
   pub each : All IsNameChar (chars name)
+
+-- the name of an account's first folder (RFC 3501, 5.1)
+abbrev pub inbox : List ℕ
+inbox = codes "INBOX"
+
+-- The name by which a folder is kept that is named so: INBOX whatever the case of its letters, and any other name in NFC.
+abbrev pub kept_name : List ℕ → List ℕ
+kept_name name = if same_name inbox name then inbox else encode_utf8_all (nfc (chars name))

@@ -1,13 +1,13 @@
-//! The date of a message record, and the name of a folder.
+//! The date of a message record, and the names of folders.
 ghost use Rattle.std.specs.Prelude.{◌≡◌, ◌↔◌, IfOk, IsTrue, chars};
 ghost use Rattle.std.specs.List.{All, list_any};
 ghost use Rattle.mail_wire.specs.Octets.{same_name};
-ghost use Rattle.journal_records.specs.Grammar.{fits_letter, IsDate, IsFolderName, IsNameChar, months};
+ghost use Rattle.journal_records.specs.Grammar.{fits_letter, IsDate, IsFolderName, IsNameChar, kept_name, months};
 
 use crate::limits::NAME_MAX;
-use mail_wire::{Memory, is_same_name};
+use mail_wire::{Memory, Octets, is_same_name};
 use std::alloc::Global;
-use unicode_normalization::is_nfc;
+use unicode_normalization::{is_nfc, to_nfc};
 
 // A digit stands for any digit, `d` for a digit or a space, `+` for a sign, `a` for any octet.
 const SHAPE: [u8; 26] = *b"d9-aaa-9999 99:99:99 +9999";
@@ -75,4 +75,26 @@ pub fn is_folder_name(alloc: Global, text: &[u8]) -> Result<bool, Memory>
         return Ok(false);
     };
     Ok(are_name_chars(name) && is_nfc(alloc, name)?)
+}
+
+// What an account's first folder is called.
+const INBOX: [u8; 5] = *b"INBOX";
+
+/// The name by which a folder is kept that is named so: INBOX whatever the case of its letters, and any other name in NFC.
+pub fn kept_name(alloc: Global, name: &str) -> Result<Octets, Memory>
+    ensures { IfOk result (λ kept. kept ≡ kept_name name.now) }
+{
+    if is_same_name(&INBOX, name.as_bytes()) {
+        return Octets::from_slice(alloc, &INBOX);
+    }
+    let composed = to_nfc(alloc, name)?;
+    Ok(Octets::from_vec(composed.into_bytes()))
+}
+
+/// Whether the name, in the form in which it would be kept, is the name of a folder.
+pub fn may_name_folder(alloc: Global, name: &str) -> Result<bool, Memory>
+    ensures { IfOk result (λ may. IsTrue may ↔ IsFolderName (kept_name name.now)) }
+{
+    let kept = kept_name(alloc, name)?;
+    is_folder_name(alloc, kept.as_slice())
 }

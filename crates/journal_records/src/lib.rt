@@ -16,11 +16,12 @@ pub use addresses::{
     read_text,
 };
 pub use frames::{Beginning, FIRST_OCTETS, Frame, beginning_of, frame_of};
-pub use grammar::{is_date, is_folder_name};
+pub use grammar::{is_date, is_folder_name, kept_name, may_name_folder};
 pub use limits::{NAME_MAX, RECORD_MAX, TEXT_MAX};
 pub use reading::{ReadFault, read_record};
 pub use records::{Record, Texts};
 pub use stored::is_stored;
 pub use writing::{
-    account_text, copy_front, domain_text, expunge_text, push_record, queue_front, record_text,
+    account_text, copy_front, domain_text, expunge_text, flags_text, folder_text, push_record,
+    queue_front, record_text,
 };

@@ -338,3 +338,22 @@ pub fn expunge_text(alloc: Global, ids: &[u32]) -> Result<Octets, Memory>
     }
     Ok(text)
 }
+
+/// The text of a folder's record.
+pub fn folder_text(alloc: Global, account: u32, name: &[u8]) -> Result<Octets, Memory>
+    requires { IsWritableRecord (records.Folder account name.now) }
+    ensures { IfOk result (λ text. text ≡ record_text (records.Folder account name.now)) }
+{
+    let made = Record::Folder {
+        account,
+        name: Octets::from_slice(alloc, name)?,
+    };
+    record_text(alloc, &made)
+}
+
+/// The text of the record that a message's flags are these from now on.
+pub fn flags_text(alloc: Global, message: u32, flags: u8) -> Result<Octets, Memory>
+    ensures { IfOk result (λ text. text ≡ record_text (records.Flags message flags)) }
+{
+    record_text(alloc, &Record::Flags { message, flags })
+}

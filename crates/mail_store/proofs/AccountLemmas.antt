@@ -9,22 +9,25 @@ use Rattle.address_grammar.proofs.WritingLemmas.{path_again}
 use Rattle.address_lists.proofs.PathPiecesLemmas.{paths_read}
 use Rattle.mail_store.specs.declared.changing.StoreFault.{StoreFault}
 use Rattle.mail_store.specs.declared.changing.StoreFault.TheVariants as faults
-use Rattle.mail_store.specs.declared.kept.Account.{Account}
-use Rattle.mail_store.specs.declared.kept.Folder.{Folder}
+use Rattle.kept_mail.specs.declared.kept.Account.{Account}
+use Rattle.kept_mail.specs.declared.kept.Folder.{Folder}
+use Rattle.mail_store.specs.declared.writing.Progress.{Progress}
 use Rattle.journal_records.specs.declared.limits.TheConstants.{TEXT_MAX}
-use Rattle.mail_store.specs.declared.limits.TheConstants.{THINGS_MAX}
+use Rattle.kept_mail.specs.declared.limits.TheConstants.{THINGS_MAX}
 use Rattle.journal_records.specs.declared.records.Record.TheVariants as records
 use Rattle.journal_records.specs.Addresses.{IsSendable, WithPaths, mailbox_key}
-use Rattle.mail_store.specs.Changing.{are_too_many, account_refusal, IsRefusedAs}
-use Rattle.mail_store.specs.private.Delivering.{room_refusal}
-use Rattle.mail_store.specs.Kept.{Kept, find_account, inbox, is_local}
-use Rattle.mail_store.specs.private.Names.{first_mailbox}
-use Rattle.mail_store.specs.Records.{AreRecords}
+use Rattle.mail_store.specs.Changing.{account_refusal, IsRefusedAs}
+use Rattle.kept_mail.specs.Records.{are_too_many, AreRecords}
+use Rattle.mail_store.specs.private.Accounts.{room_refusal}
+use Rattle.kept_mail.specs.Kept.{Kept, find_account, is_local}
+use Rattle.kept_mail.specs.private.Names.{first_mailbox}
+use Rattle.journal_records.specs.Grammar.{inbox}
 use Rattle.journal_records.specs.Spelling.{octet_list}
-use Rattle.mail_store.specs.StoreState.{StoreState, Indexes, AreIndexes, with_records}
+use Rattle.mail_store.specs.StoreState.{StoreState, Indexes, AreIndexes}
+use Rattle.mail_store.specs.private.Adding.{keeping}
 use Rattle.mail_store.proofs.ChangeLemmas.{has_room}
 use Rattle.mail_store.proofs.MailboxLemmas.{first_of_key}
-use Rattle.mail_store.proofs.NameLemmas.{none_of}
+use Rattle.kept_mail.proofs.NameLemmas.{none_of}
 
 -- the account of an address, by the index
 pub found_account : (path_of : List ℕ → Option (Option Address)) → ReadsPaths path_of → (kept : Kept) (i : Indexes) (address : Address) (key : List ℕ) → AreIndexes kept i
@@ -95,12 +98,12 @@ AreRecords-account kept address password sendable short more room =
 pub own_is : (own : Account) (address password : List ℕ) → own.address ≡ address → own.password ≡ password → own ≡ record { address = address; password = password }
 own_is own address password a p = ap₂ (λ (x y : List ℕ). let z : Account = record { address = x; password = y } in z) a p
 
-pub account_after : (old : StoreState) (failed : Bool) (own : Account) (address password name : List ℕ) (accounts : List Account) (folders : List Folder)
+pub account_after : (old : StoreState) (progress : Progress) (own : Account) (address password name : List ℕ) (accounts : List Account) (folders : List Folder)
     → own.address ≡ address → own.password ≡ password → name ≡ inbox → accounts ≡ old.kept.accounts ++ own ∷ []
     → folders ≡ old.kept.folders ++ record { account = length old.kept.accounts; name = name } ∷ []
-    → (let new : StoreState = record { kept = record old.kept { accounts = accounts; folders = folders }; message_max = old.message_max; failed = failed } in new)
-    ≡ with_records (record old { failed = failed }) (records.Account address password ∷ [])
-account_after old failed own address password name accounts folders a p n e f =
+    → (let new : StoreState = record { kept = record old.kept { accounts = accounts; folders = folders }; message_max = old.message_max; failed = progress.failed; end = progress.end } in new)
+    ≡ keeping (record old { failed = progress.failed; end = progress.end }) (records.Account address password ∷ [])
+account_after old progress own address password name accounts folders a p n e f =
     let x = e ∙ ap (λ z. old.kept.accounts ++ z ∷ []) (own_is own address password a p) in
     let y = f ∙ ap (λ k. let z : Folder = record { account = length old.kept.accounts; name = k } in old.kept.folders ++ z ∷ []) n in
-    ap₂ (λ (v : List Account) (w : List Folder). let new : StoreState = record { kept = record old.kept { accounts = v; folders = w }; message_max = old.message_max; failed = failed } in new) x y
+    ap₂ (λ (v : List Account) (w : List Folder). let new : StoreState = record { kept = record old.kept { accounts = v; folders = w }; message_max = old.message_max; failed = progress.failed; end = progress.end } in new) x y

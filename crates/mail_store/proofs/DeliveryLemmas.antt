@@ -11,24 +11,25 @@ use Rattle.std.proofs.lemmas.List.Elements.{All-head, All-tail, All-map}
 use Rattle.std.proofs.lemmas.Option.{slice_get-get_or}
 use Rattle.std.proofs.lemmas.Bool.{ltb-false, cases_Bool, ne_eqb, or_parts}
 use Rattle.address_grammar.proofs.WritingLemmas.{path_again}
-use Rattle.mail_store.specs.declared.kept.Message.{Message}
+use Rattle.kept_mail.specs.declared.kept.Message.{Message}
 use Rattle.journal_records.specs.declared.records.Record.{Record}
 use Rattle.journal_records.specs.declared.records.Record.TheVariants as records
 use Rattle.journal_records.specs.Addresses.{IsSendable, path_text, IsKeptAddress}
 use Rattle.journal_records.specs.Spelling.{IsWritableRecord, record_text, octet_list, HasLength, number}
-use Rattle.mail_store.specs.Changing.{IsDeliverable, delivered, queued, copy_for, inboxes_of, has_large_octets, has_many_things, are_too_many, delivery_refusal}
+use Rattle.mail_store.specs.Changing.{IsDeliverable, delivery_refusal}
+use Rattle.kept_mail.specs.Deliveries.{delivered, queued, copy_for, inboxes_of, has_large_octets, has_many_things}
+use Rattle.kept_mail.specs.Records.{are_too_many, AreRecords, recipient_count}
 use Rattle.mail_store.specs.declared.changing.StoreFault.TheVariants as faults
-use Rattle.mail_store.specs.private.Delivering.{copied, IsFrontOf, HasShortCopies, fronts_text, delivery_text}
-use Rattle.mail_store.specs.Kept.{Kept, after_record, after_all, inbox_of}
+use Rattle.kept_mail.specs.private.Delivering.{copied, HasShortCopies, fronts_text, delivery_text}
+use Rattle.kept_mail.specs.Kept.{Kept, after_record, after_all, inbox_of}
 use Rattle.journal_records.specs.Grammar.{IsDate}
-use Rattle.mail_store.specs.Records.{AreRecords, recipient_count}
 use Rattle.journal_records.specs.Stored.{IsStored}
 use Rattle.mail_store.specs.StoreState.{StoreState, Indexes, AreIndexes}
 use Rattle.journal_records.specs.declared.limits.TheConstants.{TEXT_MAX, RECORD_MAX}
-use Rattle.mail_store.specs.declared.limits.TheConstants.{THINGS_MAX, MESSAGE_MAX, RECIPIENTS_MAX}
+use Rattle.kept_mail.specs.declared.limits.TheConstants.{THINGS_MAX, MESSAGE_MAX, RECIPIENTS_MAX}
 use Rattle.mail_store.proofs.ChangeLemmas.{has_room}
 use Rattle.mail_store.proofs.IndexLemmas.{first_folder_within}
-use Rattle.mail_store.specs.declared.delivery.Delivery.{Delivery}
+use Rattle.kept_mail.specs.declared.delivery.Delivery.{Delivery}
 
 inboxes-push : (kept : Kept) (accounts : List ℕ) (account folder : ℕ) → inbox_of kept account ≡ Some folder
     → inboxes_of kept (accounts ++ account ∷ []) ≡ inboxes_of kept accounts ++ folder ∷ []
@@ -226,9 +227,6 @@ AreRecords-delivered store i delivery x bound d small =
     (λ some. (let octets = local-small store.message_max delivery parts.0 some in omega (arith, octets, bound))) d.known few)
     (queue-is (after_all store.kept copies) store delivery (ap (λ k. k.entries) (after-copies store.kept delivery.date delivery.local_octets (inboxes_of store.kept delivery.local))) d bound parts.0 parts.1)
 
-one_is : (a b : Record) → a ∷ [] ≡ b ∷ [] → a ≡ b
-one_is a b e = cc
-
 -- the waiting message's record, where there is one, can be written
 pub queued-writable : (store : StoreState) (delivery : Delivery) → IsDeliverable store delivery → store.message_max ≤ MESSAGE_MAX
     → (has_large_octets store.message_max delivery || has_many_things store.kept delivery) ≡ false → AllByRecursion IsWritableRecord (queued delivery)
@@ -240,10 +238,6 @@ queued-writable store delivery d bound small =
           rw some (queue-writable delivery.path delivery.remote delivery.remote_octets d.path d.addresses d.few (omega (arith, octets, bound)), tt)
     ]
 
-pub writable-some : (waiting : Option Record) (all : List Record) → option_to_list waiting ≡ all → AllByRecursion IsWritableRecord all → IfSome waiting IsWritableRecord
-writable-some None all is writable = tt
-writable-some (Some one) all is writable = (subst (AllByRecursion IsWritableRecord) (sym is) writable).0
-
 -- where there are copies, their records are within the limit
 pub copies-short : (store : StoreState) (delivery : Delivery) → IsDeliverable store delivery → store.message_max ≤ MESSAGE_MAX
     → (has_large_octets store.message_max delivery || has_many_things store.kept delivery) ≡ false → HasShortCopies delivery
@@ -251,20 +245,6 @@ copies-short store delivery d bound small = λ some.
     let large = (or_parts (has_large_octets store.message_max delivery) (has_many_things store.kept delivery) small).0 in
     let octets = local-small store.message_max delivery large (ne_eqb (length delivery.local) 0 (λ e. omega (arith, e, some))) in
     omega (arith, octets, bound, d.dated.len)
-
--- what stands before the octets of the waiting message, and they, are its text
-pub queued-text : (delivery : Delivery) (waiting : Option Record) (front : Option (List ℕ)) → option_to_list waiting ≡ queued delivery → IsFrontOf front waiting
-    → fronts_text (option_to_list front) delivery.remote_octets ≡ flat_map record_text (queued delivery)
-queued-text delivery None front is made = rw (made, ← is) refl
-queued-text delivery (Some one) front is made =
-    elim (cases_Bool (eqb (length delivery.remote) 0)) [
-      | inl none ↦ (let empty : one ∷ [] ≡ [] = rw none at is in absurd cc)
-      | inr some ↦
-          let queue = records.Queue (path_text delivery.path) (map address_text delivery.remote) delivery.remote_octets in
-          let it : one ≡ queue = one_is one queue (rw some at is) in
-          let found = subst (λ r. IsFrontOf front (Some r)) it made in
-          rw (found.1, some) (ap (λ l. l ++ []) found.2)
-    ]
 
 -- the text of a delivery, by what stands before the octets of its records
 pub delivered-text : (kept : Kept) (delivery : Delivery) (local : List (List ℕ)) (remote : Option (List ℕ))

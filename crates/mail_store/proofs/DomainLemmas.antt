@@ -7,17 +7,17 @@ use Rattle.std.proofs.lemmas.Slice.Eq.{bytes_eq-Decides}
 use Rattle.ace_domains.specs.Domains.{normal_form, compared_form}
 use Rattle.ace_domains.proofs.FormLemmas.{form_own, form_name}
 use Rattle.mail_store.specs.declared.changing.StoreFault.TheVariants as faults
-use Rattle.mail_store.specs.declared.limits.TheConstants.{THINGS_MAX}
+use Rattle.kept_mail.specs.declared.limits.TheConstants.{THINGS_MAX}
 use Rattle.journal_records.specs.declared.records.Record.TheVariants as records
 use Rattle.journal_records.specs.Addresses.{IsDomainText}
 use Rattle.journal_records.specs.Spelling.{IsWritableRecord}
-use Rattle.mail_store.specs.Changing.{are_too_many, domain_refusal}
-use Rattle.mail_store.specs.Kept.{Kept, is_local}
-use Rattle.mail_store.specs.private.Names.{first_name, PutsName}
-use Rattle.mail_store.specs.Records.{AreRecords}
+use Rattle.mail_store.specs.Changing.{domain_refusal}
+use Rattle.kept_mail.specs.Records.{are_too_many, AreRecords}
+use Rattle.kept_mail.specs.Kept.{Kept, is_local}
+use Rattle.kept_mail.specs.private.Names.{first_name, PutsName}
 use Rattle.mail_store.specs.StoreState.{Indexes, AreIndexes}
 use Rattle.mail_store.proofs.MailboxLemmas.{first_name_is_local}
-use Rattle.mail_store.proofs.NameLemmas.{none_of, kept_other}
+use Rattle.kept_mail.proofs.NameLemmas.{none_of, kept_other}
 
 -- ---- the normal form of a domain that has one
 
@@ -81,6 +81,8 @@ AreIndexes-same_locals kept i locals x same = record {
   chained = x.chained;
   account_count = x.account_count;
   inboxes_is = x.inboxes_is;
+  inboxes_named = x.inboxes_named;
+  names_is = x.names_is;
   mailboxes_is = x.mailboxes_is;
   locals_is = λ name. same name ∙ x.locals_is name;
   recipients_is = x.recipients_is;
@@ -96,6 +98,8 @@ AreIndexes-same_mailboxes kept i mailboxes x same = record {
   chained = x.chained;
   account_count = x.account_count;
   inboxes_is = x.inboxes_is;
+  inboxes_named = x.inboxes_named;
+  names_is = x.names_is;
   mailboxes_is = λ path_of reads key. same key ∙ x.mailboxes_is path_of reads key;
   locals_is = x.locals_is;
   recipients_is = x.recipients_is;

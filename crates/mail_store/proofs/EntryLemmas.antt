@@ -8,19 +8,19 @@ use Rattle.std.proofs.lemmas.List.Elements.{All-map}
 use Rattle.std.proofs.lemmas.Bool.{cases_Bool, ne_eqb, or_parts, false≢true}
 use Rattle.address_grammar.specs.Addresses.{address_text}
 use Rattle.mail_wire.specs.Keeping.{with_last}
-use Rattle.mail_store.specs.declared.contents.Content.{Content}
-use Rattle.mail_store.specs.declared.delivery.Delivery.{Delivery}
-use Rattle.mail_store.specs.declared.kept.Entry.{Entry}
-use Rattle.mail_store.specs.declared.kept.Message.{Message}
-use Rattle.mail_store.specs.declared.limits.TheConstants.{THINGS_MAX}
+use Rattle.kept_mail.specs.declared.contents.Content.{Content}
+use Rattle.kept_mail.specs.declared.delivery.Delivery.{Delivery}
+use Rattle.kept_mail.specs.declared.kept.Entry.{Entry}
+use Rattle.kept_mail.specs.declared.kept.Message.{Message}
+use Rattle.kept_mail.specs.declared.limits.TheConstants.{THINGS_MAX}
 use Rattle.journal_records.specs.declared.records.Record.{Record}
 use Rattle.journal_records.specs.declared.records.Record.TheVariants as records
-use Rattle.mail_store.specs.private.Chains.{AreChained}
+use Rattle.kept_mail.specs.private.Chains.{AreChained}
 use Rattle.journal_records.specs.Addresses.{path_text}
-use Rattle.mail_store.specs.Changing.{delivered, queued, copy_for, inboxes_of, has_large_octets, has_many_things}
-use Rattle.mail_store.specs.private.Delivering.{copied, entry_of}
-use Rattle.mail_store.specs.Kept.{Kept, after_all, waiting}
-use Rattle.mail_store.specs.Records.{AreRecords, IsInOrder, recipient_count}
+use Rattle.kept_mail.specs.Deliveries.{delivered, queued, copy_for, inboxes_of, has_large_octets, has_many_things}
+use Rattle.kept_mail.specs.private.Delivering.{copied, entry_of}
+use Rattle.kept_mail.specs.Kept.{Kept, after_all, waiting}
+use Rattle.kept_mail.specs.Records.{AreRecords, IsInOrder, recipient_count}
 use Rattle.journal_records.specs.Spelling.{record_text}
 use Rattle.journal_records.specs.Stored.{IsStored}
 use Rattle.mail_store.specs.StoreState.{StoreState, with_records, Indexes, AreIndexes}

@@ -6,14 +6,15 @@ use Rattle.std.specs.Option.{option_map_or}
 use Rattle.std.proofs.lemmas.Bool.{eqb-false}
 use Rattle.std.proofs.lemmas.List.{take_more, get_or_default}
 use Rattle.std.proofs.lemmas.List.Sums.{AllPass-from_list_all}
-use Rattle.mail_store.specs.declared.kept.Message.{Message}
-use Rattle.mail_store.specs.declared.limits.TheConstants.{THINGS_MAX}
+use Rattle.kept_mail.specs.declared.kept.Message.{Message}
+use Rattle.kept_mail.specs.declared.limits.TheConstants.{THINGS_MAX}
 use Rattle.journal_records.specs.declared.records.Record.TheVariants as records
 use Rattle.mail_store.specs.Changing.{is_live, expunged}
-use Rattle.mail_store.specs.Kept.{Kept, change_at, gone, after_record, after_all}
-use Rattle.mail_store.specs.Records.{IsLive, AreRecords}
-use Rattle.mail_store.specs.StoreState.{StoreState, with_record, with_records}
-use Rattle.mail_store.proofs.SameMessages.{length-change_at}
+use Rattle.kept_mail.specs.Kept.{Kept, change_at, gone, after_record, after_all}
+use Rattle.kept_mail.specs.Records.{IsLive, AreRecords}
+use Rattle.mail_store.specs.StoreState.{StoreState}
+use Rattle.mail_store.specs.private.Adding.{with_record, keeping}
+use Rattle.kept_mail.proofs.SameMessages.{length-change_at}
 use Rattle.mail_store.proofs.ChangeLemmas.{and_left, and_right, and_both, after_all-push, slice_get_within}
 
 -- what stands at another place than the changed one
@@ -27,11 +28,11 @@ slice_get-change_other change (x ∷ xs) (suc at) (suc k) other = slice_get-chan
 abbrev lives : Option Message → Bool
 lives o = option_map_or (λ (message : Message). message.live) o false
 
-live_of : (o : Option Message) → lives o ≡ true → IsLive o
+pub live_of : (o : Option Message) → lives o ≡ true → IsLive o
 live_of None e = absurd cc
 live_of (Some message) e = e
 
-live_within : (kept : Kept) (id : ℕ) → is_live kept id ≡ true → id < length kept.messages
+pub live_within : (kept : Kept) (id : ℕ) → is_live kept id ≡ true → id < length kept.messages
 live_within kept id e = slice_get_within kept.messages id (λ none. (let dead : false ≡ true = rw none at e in absurd cc))
 
 -- the others live on when one goes
@@ -69,7 +70,7 @@ expunged-push (x ∷ ids) id = ap (λ all. records.Expunge x ∷ all) (expunged-
 
 -- one more message goes
 pub expunge-step : (old mid new : StoreState) (ids : List ℕ) (i id : ℕ) → i < length ids → id ≡ get_or ids i 0
-    → mid ≡ with_records old (expunged (take i ids)) → new ≡ with_record mid (records.Expunge id) → new ≡ with_records old (expunged (take (i + 1) ids))
+    → mid ≡ keeping old (expunged (take i ids)) → new ≡ with_record mid (records.Expunge id) → new ≡ keeping old (expunged (take (i + 1) ids))
 expunge-step old mid new ids i id within is m n =
     let more : expunged (take (i + 1) ids) ≡ expunged (take i ids) ++ records.Expunge id ∷ [] =
     ap expunged (take_more ids i id within ∙ ap (λ x. take i ids ++ x ∷ []) (get_or_default ids i id 0 within ∙ sym is)) ∙ expunged-push (take i ids) id in
@@ -81,7 +82,7 @@ all_within kept ids live = λ k d l. live_within kept (get_or ids k d) (AllPass-
 
 -- the next message is there still
 pub next_within : (old mid : StoreState) (ids : List ℕ) (i : ℕ) → i < length ids → All (λ id. id < length old.kept.messages) ids
-    → mid ≡ with_records old (expunged (take i ids)) → get_or ids i 0 < length mid.kept.messages
+    → mid ≡ keeping old (expunged (take i ids)) → get_or ids i 0 < length mid.kept.messages
 next_within old mid ids i within all m =
     let len : length mid.kept.messages ≡ length old.kept.messages = ap (λ s. length s.kept.messages) m ∙ length-expunged old.kept (take i ids) in
     let there : get_or ids i 0 < length old.kept.messages = all i 0 within in

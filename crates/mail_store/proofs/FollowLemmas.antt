@@ -1,5 +1,5 @@
 -- Several calls that change a store, one after another.
-use Rattle.std.proofs.Common.{◌≡◌, ℕ, ◌+◌, List, [], ◌∷◌, ◌++◌, length, take, Option, Some, None, true, refl, sym, ap, subst, ◌∙◌, append_assoc, append-nil}
+use Rattle.std.proofs.Common.{◌≡◌, ℕ, ◌+◌, List, [], ◌∷◌, ◌++◌, length, take, Option, Some, None, true, refl, sym, ap, ap₂, subst, ◌∙◌, append_assoc, append-nil}
 use Rattle.std.specs.List.{flat_map}
 use Rattle.std.proofs.lemmas.List.Concat.{flat_map-cons, flat_map-append}
 use Rattle.std.proofs.Math.Seq.{take-append-add}
@@ -7,11 +7,11 @@ use Rattle.mail_wire.specs.Keeping.{with_last}
 use Rattle.journal_records.specs.declared.records.Record.{Record}
 use Rattle.mail_store.specs.Changing.{IsStoreOf, HoldsFirst}
 use Rattle.mail_store.specs.Following.{records_of, Follows, Breaks}
-use Rattle.mail_store.specs.Kept.{Kept}
-use Rattle.mail_store.specs.Records.{AreRecords}
+use Rattle.kept_mail.specs.Kept.{Kept}
+use Rattle.kept_mail.specs.Records.{AreRecords}
 use Rattle.journal_records.specs.Spelling.{record_text}
 use Rattle.mail_store.specs.StoreState.{StoreState, with_records}
-use Rattle.mail_store.proofs.ChangeLemmas.{after_all-append, with_nothing}
+use Rattle.mail_store.proofs.ChangeLemmas.{after_all-append, end_after-append, with_nothing}
 use Rattle.mail_store.proofs.DeliveryLemmas.{AreRecords-append}
 use Rattle.mail_store.proofs.LawLemmas.{grown, left_behind}
 
@@ -30,7 +30,8 @@ pub Follows-nil : (old : StoreState) (had : Option (List ℕ)) → Follows old o
 Follows-nil old had = record { records = tt; store = refl; journal = with_nothing had }
 
 pub with_records-append : (old : StoreState) (all more : List Record) → with_records (with_records old all) more ≡ with_records old (all ++ more)
-with_records-append old all more = ap (λ (kept : Kept). (let new : StoreState = record old { kept = kept } in new)) (sym (after_all-append old.kept all more))
+with_records-append old all more =
+    ap₂ (λ (kept : Kept) (end : ℕ). (let new : StoreState = record old { kept = kept; end = end } in new)) (sym (after_all-append old.kept all more)) (sym (end_after-append old.end all more))
 
 records_on : (old mid : StoreState) (all more : List Record) → mid ≡ with_records old all → AreRecords old.kept all → AreRecords mid.kept more → AreRecords old.kept (all ++ more)
 records_on old mid all more is first second =

@@ -1,5 +1,5 @@
 -- The indexes after each kind of record.
-use Rattle.std.proofs.Common.{◌≡◌, ◌≢◌, ℕ, zero, suc, ◌+◌, ◌<◌, ◌≤◌, Bool, true, false, cond, eqb, List, [], ◌∷◌, ◌++◌, length, Option, Some, None, refl, sym, ap, subst, ◌∙◌, arith, inl, inr, length-append, eq-eqb}
+use Rattle.std.proofs.Common.{◌≡◌, ◌≢◌, ℕ, zero, suc, ◌+◌, ◌^◌, ◌<◌, ◌≤◌, Bool, true, false, cond, eqb, List, [], ◌∷◌, ◌++◌, length, get_or, Option, Some, None, refl, sym, ap, subst, ◌∙◌, arith, inl, inr, length-append, eq-eqb}
 use Rattle.std.specs.Prelude.{slice_get}
 use Rattle.std.specs.List.{All}
 use Rattle.std.specs.Option.{option_map_or}
@@ -7,25 +7,28 @@ use Rattle.std.specs.Str.{bytes_eq}
 use Rattle.std.proofs.lemmas.List.Elements.{All-push, All-append, All-from_recursion, recursion_from_All}
 use Rattle.std.proofs.lemmas.List.Sums.{sum_by-cons, sum_by_push}
 use Rattle.std.proofs.lemmas.Bool.{cases_Bool, cases_eq, ne_eqb}
+use Rattle.std.proofs.lemmas.Slice.Eq.{bytes_eq-Decides}
 use Rattle.std.proofs.lemmas.Option.{slice_get_past, slice_get-get_or, same_Some, none-some}
 use Rattle.address_grammar.specs.declared.Address.{Address}
 use Rattle.address_grammar.specs.Paths.{HasPath, IsReading, ReadsPaths, in_angles}
 use Rattle.address_grammar.proofs.PathLemmas.{HasPath-once}
-use Rattle.mail_store.specs.declared.contents.Content.{Content}
-use Rattle.mail_store.specs.declared.limits.TheConstants.{THINGS_MAX}
-use Rattle.mail_store.specs.declared.kept.Folder.{Folder}
-use Rattle.mail_store.specs.declared.kept.Message.{Message}
-use Rattle.mail_store.specs.declared.kept.Account.{Account}
-use Rattle.mail_store.specs.declared.kept.Entry.{Entry}
+use Rattle.kept_mail.specs.declared.contents.Content.{Content}
+use Rattle.kept_mail.specs.declared.limits.TheConstants.{THINGS_MAX}
+use Rattle.kept_mail.specs.declared.kept.Folder.{Folder}
+use Rattle.kept_mail.specs.declared.kept.Message.{Message}
+use Rattle.kept_mail.specs.declared.kept.Account.{Account}
+use Rattle.kept_mail.specs.declared.kept.Entry.{Entry}
 use Rattle.journal_records.specs.Addresses.{IsTextOfAddress, IsDomainText, address_of, mailbox_key}
-use Rattle.mail_store.specs.private.Chains.{empty_content, AreChained}
-use Rattle.mail_store.specs.Kept.{Kept, first_folder, change_at, settled, without}
-use Rattle.mail_store.specs.private.Names.{kept_first, PutsName, first_name, has_key, first_mailbox}
-use Rattle.mail_store.specs.Records.{recipient_count}
+use Rattle.kept_mail.specs.private.Chains.{empty_content, AreChained}
+use Rattle.journal_records.specs.Grammar.{inbox}
+use Rattle.kept_mail.specs.Kept.{Kept, first_folder, first_named, change_at, settled, without}
+use Rattle.kept_mail.specs.private.Names.{kept_first, PutsName, first_name, folder_key, has_key, first_mailbox}
+use Rattle.kept_mail.specs.Records.{recipient_count}
 use Rattle.journal_records.specs.Stored.{IsStored}
 use Rattle.mail_store.specs.StoreState.{Indexes, AreIndexes}
-use Rattle.mail_store.proofs.ChainLemmas.{AreChained-folder, AreChained-same}
-use Rattle.mail_store.proofs.SameMessages.{AreSameMessages, length-same, stored-same, length-change_at}
+use Rattle.kept_mail.proofs.ChainLemmas.{AreChained-folder, AreChained-same}
+use Rattle.mail_store.proofs.FolderLemmas.{and_first, and_second, and_none, bytes_differ, first_named-push_found, first_named-push_none, first_named-push_other, names_push}
+use Rattle.kept_mail.proofs.SameMessages.{AreSameMessages, length-same, stored-same, length-change_at}
 
 no_some : (i : ℕ) → Some i ≡ None → ⊥
 no_some i e = cc
@@ -71,9 +74,14 @@ first_folder_within account at (f ∷ fs) i e =
           omega (arith, ih)
     ]
 
-pub AreIndexes-folder : (kept : Kept) (i : Indexes) (x : Folder) → AreIndexes kept i → x.account < length kept.accounts → length kept.folders < THINGS_MAX
-    → AreIndexes (record kept { folders = kept.folders ++ x ∷ [] }) (record i { contents = i.contents ++ empty_content ∷ [] })
-AreIndexes-folder kept i x h there room = record {
+-- an account that has a folder has INBOX
+first_inbox : (kept : Kept) (i : Indexes) (account : ℕ) → AreIndexes kept i → account < length kept.accounts → first_folder account 0 kept.folders ≡ Some (get_or i.inboxes account 0)
+first_inbox kept i account h there = sym (h.inboxes_is account) ∙ slice_get-get_or i.inboxes account 0 (omega (arith, h.account_count, there))
+
+pub AreIndexes-folder : (kept : Kept) (i : Indexes) (after : List ℕ → Option ℕ) (x : Folder) → AreIndexes kept i → x.account < length kept.accounts → length kept.folders < THINGS_MAX
+    → PutsName i.names after (folder_key x.account x.name) (length kept.folders)
+    → AreIndexes (record kept { folders = kept.folders ++ x ∷ [] }) (record i { contents = i.contents ++ empty_content ∷ []; names = after })
+AreIndexes-folder kept i after x h there room puts = record {
   folder_count = length-append i.contents (empty_content ∷ []) ∙ ap (λ (n : ℕ). n + 1) h.folder_count ∙ sym (length-append kept.folders (x ∷ []));
   chained = AreChained-folder i.contents i.previous kept.messages h.chained;
   account_count = h.account_count;
@@ -84,6 +92,18 @@ AreIndexes-folder kept i x h there room = record {
         subst (λ (k : ℕ). slice_get i.inboxes k ≡ first_folder k 0 (kept.folders ++ x ∷ [])) same (found ∙ sym (first_folder-push_found x.account 0 kept.folders x _ (sym (h.inboxes_is x.account) ∙ found)))
     | inr other ↦ h.inboxes_is account ∙ sym (first_folder-push_other account 0 kept.folders x (ne_eqb x.account account other))
   ];
+  inboxes_named = λ (account : ℕ). elim (cases_eq x.account account) [
+    | inl same ↦
+        let found = first_inbox kept i x.account h there in
+        subst (λ (k : ℕ). first_named k inbox 0 (kept.folders ++ x ∷ []) ≡ first_folder k 0 (kept.folders ++ x ∷ [])) same
+        (first_named-push_found x.account inbox 0 kept.folders x _ (h.inboxes_named x.account ∙ found) ∙ sym (first_folder-push_found x.account 0 kept.folders x _ found))
+    | inr other ↦
+        let differ = ne_eqb x.account account other in
+        first_named-push_other account inbox 0 kept.folders x (and_first (eqb x.account account) (bytes_eq x.name inbox) differ) ∙ h.inboxes_named account
+        ∙ sym (first_folder-push_other account 0 kept.folders x differ)
+  ];
+  names_is = λ (account : ℕ) (name : List ℕ) (small : account < 2 ^ 32) (other : name ≢ inbox).
+      names_push kept.folders i.names after x account name (omega (arith, there, h.few.accounts)) small (h.names_is account name small other) puts;
   mailboxes_is = h.mailboxes_is;
   locals_is = h.locals_is;
   recipients_is = h.recipients_is;
@@ -123,6 +143,8 @@ AreIndexes-domain kept i after name h text room puts =
       chained = h.chained;
       account_count = h.account_count;
       inboxes_is = h.inboxes_is;
+      inboxes_named = h.inboxes_named;
+      names_is = h.names_is;
       mailboxes_is = h.mailboxes_is;
       locals_is = λ (q : List ℕ). puts q ∙ ap (λ (o : Option ℕ). kept_first o name q (length kept.domains)) (h.locals_is q) ∙ ap (λ (n : ℕ). kept_first (first_name q 0 kept.domains) name q n) plain ∙ sym (first_name-push q 0 kept.domains name);
       recipients_is = h.recipients_is;
@@ -188,11 +210,11 @@ inboxes_push accounts folders inboxes x count is its account =
           slice_get-push_other inboxes (length folders) account other ∙ is account ∙ sym (first_folder-push_other account 0 folders x (ne_eqb x.account account differ))
     ]
 
-pub AreIndexes-account : (kept : Kept) (i : Indexes) (after : List ℕ → Option ℕ) (a : Account) (own : Address) (name : List ℕ) → AreIndexes kept i → IsTextOfAddress a.address own
+pub AreIndexes-account : (kept : Kept) (i : Indexes) (after : List ℕ → Option ℕ) (a : Account) (own : Address) (name : List ℕ) → name ≡ inbox → AreIndexes kept i → IsTextOfAddress a.address own
     → length kept.accounts < THINGS_MAX → length kept.folders < THINGS_MAX → PutsName i.mailboxes after (mailbox_key own) (length kept.accounts)
     → AreIndexes (record kept { accounts = kept.accounts ++ a ∷ []; folders = kept.folders ++ record { account = length kept.accounts; name = name } ∷ [] })
     (record i { contents = i.contents ++ empty_content ∷ []; inboxes = i.inboxes ++ length kept.folders ∷ []; mailboxes = after })
-AreIndexes-account kept i after a own name h text more room puts =
+AreIndexes-account kept i after a own name named h text more room puts =
     let x : Folder = record { account = length kept.accounts; name = name } in
     let plain : length kept.accounts ≡ 0 + length kept.accounts = omega arith in
     record {
@@ -200,6 +222,22 @@ AreIndexes-account kept i after a own name h text more room puts =
       chained = AreChained-folder i.contents i.previous kept.messages h.chained;
       account_count = length-append i.inboxes (length kept.folders ∷ []) ∙ ap (λ (n : ℕ). n + 1) h.account_count ∙ sym (length-append kept.accounts (a ∷ []));
       inboxes_is = inboxes_push kept.accounts kept.folders i.inboxes x h.account_count h.inboxes_is refl;
+      inboxes_named = λ (account : ℕ). elim (cases_eq x.account account) [
+        | inl same ↦
+            let past : slice_get i.inboxes x.account ≡ None = slice_get_past i.inboxes x.account (omega (arith, h.account_count)) in
+            let none : first_folder x.account 0 kept.folders ≡ None = sym (h.inboxes_is x.account) ∙ past in
+            subst (λ (k : ℕ). first_named k inbox 0 (kept.folders ++ x ∷ []) ≡ first_folder k 0 (kept.folders ++ x ∷ [])) same
+            (first_named-push_none x.account inbox 0 kept.folders x (h.inboxes_named x.account ∙ none)
+            ∙ ap (λ (b : Bool). cond b (Some (0 + length kept.folders)) None) (and_second (eqb x.account x.account) (bytes_eq name inbox) ((bytes_eq-Decides name inbox).1 named))
+            ∙ sym (first_folder-push_none x.account 0 kept.folders x none))
+        | inr other ↦
+            let differ = ne_eqb x.account account other in
+            first_named-push_other account inbox 0 kept.folders x (and_first (eqb x.account account) (bytes_eq name inbox) differ) ∙ h.inboxes_named account
+            ∙ sym (first_folder-push_other account 0 kept.folders x differ)
+      ];
+      names_is = λ (account : ℕ) (other_name : List ℕ) (small : account < 2 ^ 32) (other : other_name ≢ inbox).
+          h.names_is account other_name small other
+          ∙ sym (first_named-push_other account other_name 0 kept.folders x (and_none (eqb x.account account) (bytes_eq name other_name) (bytes_differ name other_name (λ (e : name ≡ other_name). other (sym e ∙ named)))));
       mailboxes_is = λ (path_of : List ℕ → Option (Option Address)) (reads : ReadsPaths path_of) (key : List ℕ). puts key
           ∙ ap (λ (o : Option ℕ). kept_first o (mailbox_key own) key (length kept.accounts)) (h.mailboxes_is path_of reads key)
           ∙ ap (λ (n : ℕ). kept_first (first_mailbox path_of key 0 kept.accounts) (mailbox_key own) key n) plain
@@ -229,6 +267,8 @@ AreIndexes-messages kept i ms contents previous h stored room chained count = re
   chained = chained;
   account_count = h.account_count;
   inboxes_is = h.inboxes_is;
+  inboxes_named = h.inboxes_named;
+  names_is = h.names_is;
   mailboxes_is = h.mailboxes_is;
   locals_is = h.locals_is;
   recipients_is = h.recipients_is;
@@ -255,6 +295,8 @@ AreIndexes-changed kept i ms h same =
       chained = AreChained-same i.contents i.previous kept.messages ms h.chained same.folders len;
       account_count = h.account_count;
       inboxes_is = h.inboxes_is;
+      inboxes_named = h.inboxes_named;
+      names_is = h.names_is;
       mailboxes_is = h.mailboxes_is;
       locals_is = h.locals_is;
       recipients_is = h.recipients_is;
@@ -286,6 +328,8 @@ AreIndexes-entry kept i e h room short =
       chained = h.chained;
       account_count = h.account_count;
       inboxes_is = h.inboxes_is;
+      inboxes_named = h.inboxes_named;
+      names_is = h.names_is;
       mailboxes_is = h.mailboxes_is;
       locals_is = h.locals_is;
       recipients_is = ap (λ (n : ℕ). n + length e.recipients) h.recipients_is ∙ sym count;
@@ -316,6 +360,8 @@ AreIndexes-settled kept i entry index h =
       chained = h.chained;
       account_count = h.account_count;
       inboxes_is = h.inboxes_is;
+      inboxes_named = h.inboxes_named;
+      names_is = h.names_is;
       mailboxes_is = h.mailboxes_is;
       locals_is = h.locals_is;
       recipients_is = h.recipients_is ∙ sym count;
@@ -339,6 +385,8 @@ AreIndexes-locals kept i after h same = record {
   chained = h.chained;
   account_count = h.account_count;
   inboxes_is = h.inboxes_is;
+  inboxes_named = h.inboxes_named;
+  names_is = h.names_is;
   mailboxes_is = h.mailboxes_is;
   locals_is = λ (name : List ℕ). same name ∙ h.locals_is name;
   recipients_is = h.recipients_is;
@@ -346,3 +394,37 @@ AreIndexes-locals kept i after h same = record {
   messages_are_stored = h.messages_are_stored;
   few = h.few;
 }
+
+pub AreIndexes-names : (kept : Kept) (i : Indexes) (after : List ℕ → Option ℕ) → AreIndexes kept i → ((name : List ℕ) → after name ≡ i.names name) → AreIndexes kept (record i { names = after })
+AreIndexes-names kept i after h same = record {
+  folder_count = h.folder_count;
+  chained = h.chained;
+  account_count = h.account_count;
+  inboxes_is = h.inboxes_is;
+  inboxes_named = h.inboxes_named;
+  names_is = λ (account : ℕ) (name : List ℕ) (small : account < 2 ^ 32) (other : name ≢ inbox). same (folder_key account name) ∙ h.names_is account name small other;
+  mailboxes_is = h.mailboxes_is;
+  locals_is = h.locals_is;
+  recipients_is = h.recipients_is;
+  domains_are_texts = h.domains_are_texts;
+  messages_are_stored = h.messages_are_stored;
+  few = h.few;
+}
+
+-- where an account has no folder of a name, none stands at its key
+pub folder_free : (kept : Kept) (i : Indexes) (account : ℕ) (name : List ℕ) → AreIndexes kept i → account < length kept.accounts → first_named account name 0 kept.folders ≡ None
+    → i.names (folder_key account name) ≡ None
+folder_free kept i account name h there free =
+    let other : name ≢ inbox = λ (e : name ≡ inbox). absurd (none-some _ (sym free ∙ ap (λ (n : List ℕ). first_named account n 0 kept.folders) e ∙ h.inboxes_named account ∙ first_inbox kept i account h there)) in
+    h.names_is account name (omega (arith, there, h.few.accounts)) other ∙ free
+
+-- an account's INBOX is its first folder of that name
+pub inbox_found : (kept : Kept) (i : Indexes) (account : ℕ) (name : List ℕ) (found : Option ℕ) → AreIndexes kept i → name ≡ inbox → found ≡ slice_get i.inboxes account
+    → found ≡ first_named account name 0 kept.folders
+inbox_found kept i account name found h same is =
+    is ∙ h.inboxes_is account ∙ sym (h.inboxes_named account) ∙ ap (λ (n : List ℕ). first_named account n 0 kept.folders) (sym same)
+
+-- what stands at the key of an account's other name
+pub folder_found : (kept : Kept) (i : Indexes) (account : ℕ) (name : List ℕ) (found : Option ℕ) → AreIndexes kept i → account < 2 ^ 32 → name ≢ inbox
+    → found ≡ i.names (folder_key account name) → found ≡ first_named account name 0 kept.folders
+folder_found kept i account name found h small other is = is ∙ h.names_is account name small other

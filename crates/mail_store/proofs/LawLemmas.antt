@@ -9,9 +9,9 @@ use Rattle.std.proofs.lemmas.Bool.{cases_lt}
 use Rattle.mail_wire.specs.Keeping.{with_last}
 use Rattle.journal_records.specs.declared.records.Record.{Record}
 use Rattle.mail_store.specs.Changing.{IsStoreOf, Changes, HoldsFirst}
-use Rattle.mail_store.specs.Kept.{Kept, nothing, after_record, after_all, store_of}
+use Rattle.kept_mail.specs.Kept.{Kept, nothing, after_record, after_all, store_of}
 use Rattle.journal_records.specs.Frames.{IsCutShort}
-use Rattle.mail_store.specs.Records.{IsRecord, AreRecords}
+use Rattle.kept_mail.specs.Records.{IsRecord, AreRecords}
 use Rattle.journal_records.specs.Spelling.{number, fields_of, record_text, journal, first_octets}
 use Rattle.mail_store.specs.StoreState.{StoreState}
 use Rattle.mail_store.proofs.ChangeLemmas.{after_all-append}
@@ -19,7 +19,7 @@ use Rattle.mail_store.proofs.DeliveryLemmas.{AreRecords-append}
 use Rattle.journal_records.proofs.RecordLaws.{some_fields}
 use Rattle.mail_store.proofs.Readings.{first_of}
 
-journal-append : (a b : List Record) → journal (a ++ b) ≡ journal a ++ flat_map record_text b
+pub journal-append : (a b : List Record) → journal (a ++ b) ≡ journal a ++ flat_map record_text b
 journal-append a b = ap (λ (l : List ℕ). first_octets ++ l) (flat_map-append record_text a b) ∙ sym (append_assoc first_octets (flat_map record_text a) (flat_map record_text b))
 
 -- the first octets of some records are whole records and a prefix of one

@@ -1,12 +1,9 @@
-pub mod ChainLemmas
-pub mod SameMessages
+pub mod FolderLemmas
+pub mod FlagLemmas
 pub mod IndexLemmas
 pub mod MailboxLemmas
-pub mod QueueLemmas
 pub mod Answering
-pub mod NameLemmas
 pub mod Next
-pub mod Places
 pub mod Readings
 pub mod LawLemmas
 pub mod FollowLemmas
@@ -14,6 +11,7 @@ pub mod ListedLemmas
 pub mod UidLemmas
 pub mod ReplayLemmas
 pub mod ChangeLemmas
+pub mod CatchLemmas
 pub mod ExpungeLemmas
 pub mod DomainLemmas
 pub mod AccountLemmas

@@ -3,10 +3,10 @@ use Rattle.std.proofs.Common.{◌≡◌, ℕ, ◌+◌, ◌≤◌, List, [], ◌�
 use Rattle.std.specs.Prelude.{◌==◌, map, slice_get, if◌then◌else◌}
 use Rattle.std.specs.List.{AllByRecursion, IsDistinct}
 use Rattle.std.proofs.lemmas.Bool.Decides.{nat_tests}
-use Rattle.mail_store.specs.declared.kept.Message.{Message}
-use Rattle.mail_store.specs.declared.kept.Listed.{Listed}
-use Rattle.mail_store.specs.Kept.{Kept, listed_from, listed}
-use Rattle.mail_store.specs.Records.{IsLive}
+use Rattle.kept_mail.specs.declared.kept.Message.{Message}
+use Rattle.kept_mail.specs.declared.kept.Listed.{Listed}
+use Rattle.kept_mail.specs.Kept.{Kept, listed_from, listed}
+use Rattle.kept_mail.specs.Records.{IsLive}
 
 abbrev id_of : Listed → ℕ
 id_of one = one.id

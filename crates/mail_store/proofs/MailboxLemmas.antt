@@ -13,10 +13,10 @@ use Rattle.address_lists.proofs.PathPiecesLemmas.{paths_read}
 use Rattle.address_grammar.proofs.PathLemmas.{HasPath-once}
 use Rattle.journal_records.specs.Addresses.{IsTextOfAddress, IsDomainText, is_same_domain, is_same_mailbox, address_of, WithPaths, mailbox_key}
 use Rattle.journal_records.proofs.KeyLemmas.{domain_text_utf8, key_decides}
-use Rattle.mail_store.specs.declared.kept.Account.{Account}
-use Rattle.mail_store.specs.Kept.{Kept, is_account_of, first_account, find_account, is_local, has_password, admitted, logged_in}
+use Rattle.kept_mail.specs.declared.kept.Account.{Account}
+use Rattle.kept_mail.specs.Kept.{Kept, is_account_of, first_account, find_account, is_local, has_password, admitted, logged_in}
 use Rattle.mail_store.specs.StoreState.{Indexes, AreIndexes}
-use Rattle.mail_store.specs.private.Names.{first_name, has_key, first_mailbox}
+use Rattle.kept_mail.specs.private.Names.{first_name, has_key, first_mailbox}
 
 -- ---- domains
 

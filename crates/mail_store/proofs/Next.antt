@@ -1,33 +1,44 @@
 -- One more record.
-use Rattle.std.proofs.Common.{◌≡◌, ◌≢◌, ℕ, ◌≤◌, List, length, Result, Ok, Err, refl, sym, ◌∙◌, subst}
+use Rattle.std.proofs.Common.{◌≡◌, ◌≢◌, ℕ, ◌+◌, ◌≤◌, List, length, Result, Err, refl, sym, ap, ◌∙◌, subst, arith, length-append}
 use Rattle.journal_records.specs.declared.limits.TheConstants.{RECORD_MAX}
 use Rattle.journal_records.specs.declared.reading.ReadFault.{ReadFault}
 use Rattle.journal_records.specs.declared.reading.ReadFault.TheVariants.{Memory, NoRecord}
 use Rattle.journal_records.specs.declared.records.Record.{Record}
-use Rattle.journal_records.specs.Spelling.{Fits, fields_of}
+use Rattle.journal_records.specs.Spelling.{Fits, number, fields_of, record_text}
 use Rattle.journal_records.proofs.RecordLaws.{fields_once}
-use Rattle.mail_store.specs.Records.{IsInOrder}
+use Rattle.kept_mail.specs.Records.{IsInOrder}
 use Rattle.mail_store.specs.StoreState.{StoreState}
-use Rattle.mail_store.specs.private.Adding.{AddsRecord, AddsNext}
+use Rattle.mail_store.specs.private.Adding.{AddsRecord, AddsNext, Added, with_record, lengthened}
 
 abbrev failed : ReadFault → Result Record ReadFault
 failed fault = Err fault
 
 -- the octets are no fields of a record: nothing was read
-pub not_read : (e : ReadFault) (old new : StoreState) (fields : List ℕ) → (failed e ≡ Err NoRecord → (one : Record) → Fits one → fields ≢ fields_of one)
-    → AddsNext {T = Unit {0}} old new (Err e) fields
-not_read Memory old new fields h = tt
-not_read NoRecord old new fields h = λ one is. h refl one is.fits
+pub not_read : (e : ReadFault) (old : StoreState) (fields : List ℕ) → (failed e ≡ Err NoRecord → (one : Record) → Fits one → fields ≢ fields_of one)
+    → AddsNext {T = Unit {0}} old old (Err e) fields
+not_read Memory old fields h = refl
+not_read NoRecord old fields h = (λ one is. h refl one is.fits, refl)
 
--- a record was read
-pub was_read : {T : Type 0} (old new : StoreState) (result : Result T ReadFault) (fields : List ℕ) (one : Record) → fields ≡ fields_of one → Fits one
-    → length fields ≤ RECORD_MAX → AddsRecord old new result one → AddsNext old new result fields
-was_read old new (Ok done) fields one text fits short h = record {
+-- a record was read that is out of place
+pub not_added : (e : ReadFault) (old new : StoreState) (fields : List ℕ) (one : Record) → fields ≡ fields_of one → Fits one
+    → AddsRecord {T = Unit {0}} old new (Err e) one → AddsNext {T = Unit {0}} old new (Err e) fields
+not_added Memory old new fields one text fits h = h
+not_added NoRecord old new fields one text fits h = (
+  λ other is e.
+      h.0 (subst (IsInOrder old.kept) (fields_once other one is.fits fits (sym e ∙ text)) is.in_order),
+  h.1,
+)
+
+-- the text of a record is so long
+pub text_len : (one : Record) (fields : List ℕ) → fields ≡ fields_of one → 4 + length fields ≡ length (record_text one)
+text_len one fields text = ap (λ (l : List ℕ). 4 + length l) text ∙ omega (arith, length-append (number (length (fields_of one))) (fields_of one))
+
+-- a record was read and kept
+pub was_read : (old mid new : StoreState) (fields : List ℕ) (one : Record) → fields ≡ fields_of one → Fits one
+    → length fields ≤ RECORD_MAX → IsInOrder old.kept one → mid ≡ with_record old one → new ≡ lengthened mid (4 + length fields) → Added old new fields
+was_read old mid new fields one text fits short in_order kept n = record {
   one = one;
-  is_record = record { fits = fits; short = subst (λ (l : List ℕ). length l ≤ RECORD_MAX) text short; in_order = h.0 };
+  is_record = record { fits = fits; short = subst (λ (l : List ℕ). length l ≤ RECORD_MAX) text short; in_order = in_order };
   text = text;
-  new_is = h.1;
+  new_is = n ∙ ap (λ (s : StoreState). lengthened s (4 + length fields)) kept ∙ ap (lengthened (with_record old one)) (text_len one fields text);
 }
-was_read old new (Err Memory) fields one text fits short h = tt
-was_read old new (Err NoRecord) fields one text fits short h = λ other is e.
-    h.0 (subst (IsInOrder old.kept) (fields_once other one is.fits fits (sym e ∙ text)) is.in_order)

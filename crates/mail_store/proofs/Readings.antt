@@ -3,8 +3,8 @@ use Rattle.std.proofs.Common.{◌≡◌, ℕ, List, [], ◌∷◌, ◌++◌, len
 use Rattle.std.specs.List.{flat_map}
 use Rattle.std.proofs.lemmas.List.Concat.{flat_map-cons}
 use Rattle.journal_records.specs.declared.records.Record.{Record}
-use Rattle.mail_store.specs.Kept.{Kept, nothing, after_record, after_all, store_of}
-use Rattle.mail_store.specs.Records.{AreRecords}
+use Rattle.kept_mail.specs.Kept.{Kept, nothing, after_record, after_all, store_of}
+use Rattle.kept_mail.specs.Records.{AreRecords}
 use Rattle.journal_records.specs.Spelling.{fields_of, record_text, journal, first_octets}
 use Rattle.journal_records.specs.Frames.{IsCutShort, IsBeginning}
 use Rattle.mail_store.specs.Opening.{BeginsJournal, HasRecords, HasNoRecord, IsBadAt}

@@ -4,11 +4,11 @@ use Rattle.std.specs.Prelude.{◌==◌, map, count_by, slice_index}
 use Rattle.std.specs.List.{Any, AllByRecursion}
 use Rattle.std.specs.List.Sorted.{IsStrictlyIncreasing}
 use Rattle.std.proofs.lemmas.List.Sums.{sum_by-cons}
-use Rattle.mail_store.specs.declared.kept.Message.{Message}
-use Rattle.mail_store.specs.declared.kept.Listed.{Listed}
+use Rattle.kept_mail.specs.declared.kept.Message.{Message}
+use Rattle.kept_mail.specs.declared.kept.Listed.{Listed}
 use Rattle.journal_records.specs.declared.records.Record.{Record}
 use Rattle.journal_records.specs.declared.records.Record.TheVariants as records
-use Rattle.mail_store.specs.Kept.{Kept, change_at, with_flags, gone, after_record, after_all, uid_next, listed_from, listed, IsListedOrNew}
+use Rattle.kept_mail.specs.Kept.{Kept, change_at, with_flags, gone, after_record, after_all, uid_next, listed_from, listed, IsListedOrNew}
 use Rattle.mail_store.proofs.ListedLemmas.{put, all_put}
 
 abbrev uid_of : Listed → ℕ

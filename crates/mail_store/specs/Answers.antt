@@ -5,8 +5,8 @@ use Rattle.mail_wire.specs.declared.outside.Failed.TheVariants as outcomes
 use Rattle.mail_store.specs.declared.opening.OpenFault.{OpenFault}
 use Rattle.mail_store.specs.declared.opening.OpenFault.TheVariants as faults
 use Rattle.journal_records.specs.declared.records.Record.{Record}
-use Rattle.mail_store.specs.Kept.{Kept, nothing, store_of}
-use Rattle.mail_store.specs.Records.{AreRecords}
+use Rattle.kept_mail.specs.Kept.{Kept, nothing, store_of}
+use Rattle.kept_mail.specs.Records.{AreRecords}
 use Rattle.journal_records.specs.Spelling.{journal}
 use Rattle.mail_store.specs.Opening.{HasRecords, IsBadAt}
 

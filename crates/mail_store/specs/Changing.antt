@@ -1,23 +1,23 @@
 -- What a call that changes a store does, by its answer.
-use Rattle.std.specs.Prelude.{◌≡◌, ◌≢◌, ℕ, ◌+◌, ◌<◌, ◌≤◌, List, [], ◌∷◌, ◌++◌, length, take, map, Bool, true, false, ◌||◌, ◌&&◌, ◌==◌, not, nat_lt, Option, Some, None, is_some, unwrap_or, Result, Ok, Err, slice_get, IfSome, if◌then◌else◌}
+use Rattle.std.specs.Prelude.{◌≡◌, ◌≢◌, ℕ, ◌+◌, ◌<◌, ◌≤◌, List, ◌++◌, length, take, map, Bool, true, false, ◌||◌, not, Option, Some, None, is_some, Result, Ok, Err, slice_get, IfSome, if◌then◌else◌}
 use Rattle.std.specs.List.{All, flat_map, list_all}
 use Rattle.std.specs.Option.{option_map_or}
 use Rattle.mail_wire.specs.Keeping.{with_last}
 use Rattle.mail_wire.specs.KeeperTelling.{KeeperTelling}
 use Rattle.address_grammar.specs.declared.Address.{Address}
-use Rattle.address_grammar.specs.Addresses.{address_text}
 use Rattle.mail_store.specs.declared.changing.StoreFault.{StoreFault}
 use Rattle.mail_store.specs.declared.changing.StoreFault.TheVariants as faults
-use Rattle.mail_store.specs.declared.delivery.Delivery.{Delivery}
-use Rattle.mail_store.specs.declared.kept.Message.{Message}
-use Rattle.mail_store.specs.declared.limits.TheConstants.{THINGS_MAX, RECIPIENTS_MAX}
+use Rattle.kept_mail.specs.declared.delivery.Delivery.{Delivery}
+use Rattle.kept_mail.specs.declared.kept.Message.{Message}
+use Rattle.kept_mail.specs.declared.limits.TheConstants.{RECIPIENTS_MAX}
 use Rattle.journal_records.specs.declared.records.Record.{Record}
 use Rattle.journal_records.specs.declared.records.Record.TheVariants as records
-use Rattle.journal_records.specs.Addresses.{IsSendable, path_text}
+use Rattle.journal_records.specs.Addresses.{IsSendable}
 use Rattle.journal_records.specs.Grammar.{IsDate}
-use Rattle.mail_store.specs.Kept.{Kept, nothing, store_of, inbox_of, find_account, is_local}
+use Rattle.kept_mail.specs.Kept.{Kept, nothing, store_of, find_account, find_folder, is_local}
 use Rattle.mail_store.specs.Opening.{HasRecords}
-use Rattle.mail_store.specs.Records.{AreRecords, recipient_count}
+use Rattle.kept_mail.specs.Deliveries.{has_large_octets, has_many_things}
+use Rattle.kept_mail.specs.Records.{AreRecords, are_too_many}
 use Rattle.journal_records.specs.Spelling.{record_text, journal}
 use Rattle.journal_records.specs.Stored.{IsStored}
 use Rattle.mail_store.specs.StoreState.{StoreState, with_records}
@@ -51,15 +51,6 @@ IsRefusedAs (Err faults.Exists) refusal = refusal ≡ Some faults.Exists
 IsRefusedAs (Err faults.NoSuch) refusal = refusal ≡ Some faults.NoSuch
 IsRefusedAs (Err faults.TooLarge) refusal = refusal ≡ Some faults.TooLarge
 
--- The text was put last in the keeper, or a prefix of it where the keeper failed, which is noted; a word of the private calls.
-abbrev pub Writes : {T : Type 0} → Bool → Bool → Option (List ℕ) → Option (List ℕ) → Result T StoreFault → List ℕ → Type 0
-Writes old new had has (Ok done) text = (new ≡ old) × (has ≡ with_last had text)
-Writes old new had has (Err faults.Keeper) text = (new ≡ true) × (n : ℕ) × (has ≡ with_last had (take n text))
-Writes old new had has (Err faults.Memory) text = (new ≡ old) × (has ≡ had)
-Writes old new had has (Err faults.Exists) text = ⊥
-Writes old new had has (Err faults.NoSuch) text = ⊥
-Writes old new had has (Err faults.TooLarge) text = ⊥
-
 -- the store is the fold of these records, and the keeper holds their journal
 pub record IsStoreOf (store : StoreState) (octets : Option (List ℕ)) (all : List Record) : Type 0 where
   pub records : AreRecords nothing all
@@ -74,10 +65,6 @@ pub record HoldsFirst (octets : Option (List ℕ)) (all more : List Record) : Ty
   pub records : HasRecords kept (all ++ take count more)
 
 -- ---- refusals
-
--- so many more things of a kind would pass its limit
-abbrev pub are_too_many : ℕ → ℕ → Bool
-are_too_many count more = nat_lt THINGS_MAX (count + more)
 
 -- the domain is there, or there would be too many
 abbrev pub domain_refusal : Kept → List ℕ → Option StoreFault
@@ -94,6 +81,13 @@ account_refusal path_of kept address =
     else if are_too_many (length kept.accounts) 1 || are_too_many (length kept.folders) 1 then Some faults.TooLarge
     else None
 
+-- the account has a folder that is meant by the name, or there would be too many
+abbrev pub folder_refusal : Kept → ℕ → List ℕ → Option StoreFault
+folder_refusal kept account name =
+    if is_some (find_folder kept account name) then Some faults.Exists
+    else if are_too_many (length kept.folders) 1 then Some faults.TooLarge
+    else None
+
 -- ---- deliver
 
 -- the accounts are there, the date is one, the octets have trees, and the addresses are such and not too many
@@ -106,45 +100,18 @@ pub record IsDeliverable (store : StoreState) (delivery : Delivery) : Type 0 whe
   pub addresses : All IsSendable delivery.remote
   pub few : length delivery.remote ≤ RECIPIENTS_MAX
 
--- a message without flags for a folder
-abbrev pub copy_for : List ℕ → List ℕ → ℕ → Record
-copy_for date octets folder = records.Message folder 0 date octets
-
-abbrev pub inboxes_of : Kept → List ℕ → List ℕ
-inboxes_of kept accounts = map (λ account. unwrap_or (inbox_of kept account) 0) accounts
-
--- a message waits for the remote recipients, where there are any
-abbrev pub queued : Delivery → List Record
-queued delivery =
-    if length delivery.remote == 0 then []
-    else records.Queue (path_text delivery.path) (map address_text delivery.remote) delivery.remote_octets ∷ []
-
--- one message for the INBOX of each local account, in order, and then one for the queue
-abbrev pub delivered : Kept → Delivery → List Record
-delivered kept delivery = map (copy_for delivery.date delivery.local_octets) (inboxes_of kept delivery.local) ++ queued delivery
-
--- octets that are to be kept are more than the limit
-abbrev pub has_large_octets : ℕ → Delivery → Bool
-has_large_octets message_max delivery =
-    (not (length delivery.local == 0) && nat_lt message_max (length delivery.local_octets))
-    || (not (length delivery.remote == 0) && nat_lt message_max (length delivery.remote_octets))
-
--- messages, entries or recipients of the queue would be too many
-abbrev pub has_many_things : Kept → Delivery → Bool
-has_many_things kept delivery =
-    are_too_many (length kept.messages) (length delivery.local)
-    || (not (length delivery.remote == 0)
-    && (are_too_many (length kept.entries) 1 || are_too_many (recipient_count kept.entries) (length delivery.remote)))
-
 abbrev pub delivery_refusal : StoreState → Delivery → Option StoreFault
 delivery_refusal store delivery =
     if has_large_octets store.message_max delivery || has_many_things store.kept delivery then Some faults.TooLarge else None
 
--- ---- expunge
+-- ---- flags and expunge
 
 -- the message is there and isn't expunged
 abbrev pub is_live : Kept → ℕ → Bool
 is_live kept id = option_map_or (λ (message : Message). message.live) (slice_get kept.messages id) false
+
+abbrev pub flags_refusal : Kept → ℕ → Option StoreFault
+flags_refusal kept id = if is_live kept id then None else Some faults.NoSuch
 
 abbrev pub expunge_refusal : Kept → List ℕ → Option StoreFault
 expunge_refusal kept ids = if list_all (is_live kept) ids then None else Some faults.NoSuch

@@ -1,8 +1,8 @@
 -- The whole records of a keeper's octets, what is cut behind them, and where a journal is bad.
 use Rattle.std.specs.Prelude.{◌≡◌, ◌≢◌, ◌⊎◌, ℕ, List, [], ◌++◌, length}
 use Rattle.journal_records.specs.declared.records.Record.{Record}
-use Rattle.mail_store.specs.Kept.{Kept, nothing, store_of}
-use Rattle.mail_store.specs.Records.{IsRecord, AreRecords}
+use Rattle.kept_mail.specs.Kept.{Kept, nothing, store_of}
+use Rattle.kept_mail.specs.Records.{IsRecord, AreRecords}
 use Rattle.journal_records.specs.Frames.{IsBeginning, IsCutShort}
 use Rattle.journal_records.specs.Spelling.{record_text, journal, first_octets}
 

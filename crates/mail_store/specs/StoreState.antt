@@ -1,15 +1,17 @@
 -- A store, as contracts see it.
-use Rattle.std.specs.Prelude.{◌≡◌, ℕ, ◌≤◌, List, length, Bool, Option, slice_get}
+use Rattle.std.specs.Prelude.{◌≡◌, ◌≢◌, ℕ, ◌+◌, ◌<◌, ◌≤◌, ◌^◌, List, [], ◌∷◌, length, Bool, Option, slice_get}
 use Rattle.std.specs.List.{All}
-use Rattle.mail_store.specs.declared.contents.Content.{Content}
-use Rattle.mail_store.specs.declared.limits.TheConstants.{THINGS_MAX}
+use Rattle.kept_mail.specs.declared.contents.Content.{Content}
+use Rattle.kept_mail.specs.declared.limits.TheConstants.{THINGS_MAX}
 use Rattle.journal_records.specs.declared.records.Record.{Record}
-use Rattle.mail_store.specs.declared.kept.Message.{Message}
+use Rattle.kept_mail.specs.declared.kept.Message.{Message}
 use Rattle.journal_records.specs.Addresses.{WithPaths, IsDomainText}
-use Rattle.mail_store.specs.private.Chains.{AreChained}
-use Rattle.mail_store.specs.Kept.{Kept, after_record, after_all, inbox_of}
-use Rattle.mail_store.specs.private.Names.{first_name, first_mailbox}
-use Rattle.mail_store.specs.Records.{recipient_count}
+use Rattle.journal_records.specs.Grammar.{inbox}
+use Rattle.journal_records.specs.Spelling.{record_text}
+use Rattle.kept_mail.specs.private.Chains.{AreChained}
+use Rattle.kept_mail.specs.Kept.{Kept, after_all, inbox_of, first_named}
+use Rattle.kept_mail.specs.private.Names.{first_name, first_mailbox, folder_key}
+use Rattle.kept_mail.specs.Records.{recipient_count}
 use Rattle.journal_records.specs.Stored.{IsStored}
 
 pub record StoreState : Type 0 where
@@ -17,26 +19,32 @@ pub record StoreState : Type 0 where
   pub kept : Kept
   -- the most octets that a message may have that is taken from now on
   pub message_max : ℕ
-  -- a call was answered Keeper
+  -- The keeper may have other records: a call was answered Keeper, or catching up was refused, and the store hasn't caught up since.
   pub failed : Bool
+  -- where the journal of the records ends
+  pub end : ℕ
 
-abbrev pub with_record : StoreState → Record → StoreState
-with_record store one = record store { kept = after_record store.kept one }
+-- where a journal ends after these records, if it ended there before them
+abbrev pub end_after : ℕ → List Record → ℕ
+end_after end [] = end
+end_after end (one ∷ others) = end_after (end + length (record_text one)) others
 
+-- the store with these records put last
 abbrev pub with_records : StoreState → List Record → StoreState
-with_records store all = record store { kept = after_all store.kept all }
+with_records store all = record store { kept = after_all store.kept all; end = end_after store.end all }
 
 -- the octets of each message may be kept
 pub record AreStored (messages : List Message) : Type 0 where
   pub each : All (λ message. IsStored message.octets) messages
 
 -- What is kept beside for speed: how many messages each folder had, and the last of them; the message before each message in
--- its folder; each account's INBOX; the first account of each mailbox and the first number of each domain; and how many
--- recipients the queue ever had.
+-- its folder; each account's INBOX; the first folder of each other name of an account; the first account of each mailbox and
+-- the first number of each domain; and how many recipients the queue ever had.
 pub record Indexes : Type 0 where
   pub contents : List Content
   pub previous : List (Option ℕ)
   pub inboxes : List ℕ
+  pub names : List ℕ → Option ℕ
   pub mailboxes : List ℕ → Option ℕ
   pub locals : List ℕ → Option ℕ
   pub recipients : ℕ
@@ -56,6 +64,9 @@ pub record AreIndexes (kept : Kept) (indexes : Indexes) : Type 0 where
   pub chained : AreChained kept.messages indexes.contents indexes.previous
   pub account_count : length indexes.inboxes ≡ length kept.accounts
   pub inboxes_is : (account : ℕ) → slice_get indexes.inboxes account ≡ inbox_of kept account
+  pub inboxes_named : (account : ℕ) → first_named account inbox 0 kept.folders ≡ inbox_of kept account
+  pub names_is : (account : ℕ) (name : List ℕ) → account < 2 ^ 32 → name ≢ inbox
+      → indexes.names (folder_key account name) ≡ first_named account name 0 kept.folders
   pub mailboxes_is : WithPaths (λ path_of. (key : List ℕ) → indexes.mailboxes key ≡ first_mailbox path_of key 0 kept.accounts)
   pub locals_is : (name : List ℕ) → indexes.locals name ≡ first_name name 0 kept.domains
   pub recipients_is : indexes.recipients ≡ recipient_count kept.entries

@@ -1,7 +1,7 @@
 -- What private functions answer.
 pub mod Adding
-pub mod Names
 pub mod Store
 pub mod Replaying
-pub mod Chains
-pub mod Delivering
+pub mod Accounts
+pub mod Writing
+pub mod Folders

@@ -1,39 +1,36 @@
 //! The calls that change a store, and write the change to its keeper.
-ghost use Rattle.std.specs.Prelude.{◌≡◌, ◌≢◌, ◌≤◌, ◌<◌, ◌+◌, ◌==◌, ◌||◌, ◌∷◌, ◌++◌, [], length, vec_len, vec_capacity, IfOk, OnOk, OnErr, List, IfSome, IsUtf8, Some, None, Err, false, map, ℕ, slice_get};
-ghost use Rattle.std.specs.List.{All, IsDistinct, flat_map, list_all};
+ghost use Rattle.std.specs.Prelude.{◌≡◌, ◌≢◌, ◌≤◌, ◌<◌, ◌+◌, ◌==◌, ◌||◌, ◌∷◌, [], length, vec_len, vec_capacity, IfOk, OnOk, IsUtf8, None, Err, false, map};
+ghost use Rattle.std.specs.List.{All, IsDistinct, flat_map};
 ghost use Rattle.mail_wire.specs.Keeping.{HasKeeperCause};
-ghost use Rattle.std.specs.Option.{option_map_or, option_to_list};
 ghost use Rattle.ace_domains.specs.Domains.{normal_form, compared_form};
-ghost use Rattle.mail_store.specs.Kept.{inbox, is_local};
-ghost use Rattle.mail_store.specs.private.Names.{PutsName, number_named as number_of_name};
-ghost use Rattle.mail_store.specs.private.Chains.{empty_content};
-ghost use Rattle.mail_store.specs.private.Delivering.{copied, IsEntryOf, IsNewAccount, fronts_text, delivery_text, HasShortCopies, room_refusal};
-ghost use Rattle.mail_store.specs.StoreState.{with_record, with_records};
-ghost use Rattle.mail_store.specs.declared.kept.Message.{Message as MessageValue};
+ghost use Rattle.kept_mail.specs.Kept.{is_local};
+ghost use Rattle.mail_store.specs.private.Accounts.{IsNewAccount, room_refusal};
+ghost use Rattle.kept_mail.specs.private.Delivering.{copied, IsEntryOf, fronts_text, delivery_text, HasShortCopies};
+ghost use Rattle.mail_store.specs.private.Adding.{with_record, keeping};
+ghost use Rattle.mail_store.specs.private.Writing.{Writes};
 ghost use Rattle.address_grammar.specs.Addresses.{address_text};
 ghost use Rattle.address_grammar.specs.Paths.{ComesInPath};
 ghost use Rattle.journal_records.specs.declared.limits.TheConstants.{TEXT_MAX};
-ghost use Rattle.mail_store.specs.declared.limits.TheConstants.{THINGS_MAX};
 ghost use Rattle.journal_records.specs.declared.records.Record.TheVariants as records;
 ghost use Rattle.journal_records.specs.Addresses.{WithPaths, IsSendable, mailbox_key as mailbox_key_of};
-ghost use Rattle.journal_records.specs.Spelling.{IsWritableRecord, record_text};
-ghost use Rattle.mail_store.specs.Changing.{Writes, Changes, LeavesAll, IsRefusedAs, IsDeliverable, queued as queued_of, copy_for, inboxes_of, has_many_things, domain_refusal, account_refusal, delivery_refusal, delivered, expunge_refusal, expunged, has_large_octets as has_large_octets_of};
+ghost use Rattle.journal_records.specs.Spelling.{record_text};
+ghost use Rattle.mail_store.specs.Changing.{Changes, LeavesAll, IsRefusedAs, IsDeliverable, domain_refusal, account_refusal, delivery_refusal, expunge_refusal, flags_refusal, expunged};
+ghost use Rattle.kept_mail.specs.Deliveries.{queued as queued_of, copy_for, inboxes_of, has_many_things, delivered, has_large_octets as has_large_octets_of};
 ghost use Rattle.mail_store.specs.declared.changing.StoreFault.TheVariants as faults;
 
-use crate::checks::{are_too_many, is_live};
-use crate::contents::{Content, EMPTY, push_reserved};
-use crate::delivery::Delivery;
-use crate::kept::{Account, Entry, Folder, Message};
-use crate::names::{number_of, put_first, take_back};
-use crate::parcels::{Parcel, is_for_nobody, parts_of, put_parcel, reserve_delivery, waiting_of};
-use crate::storing::{Store, take_away};
+use crate::storing::Store;
+use crate::writing::{Named, Progress, write, write_named, write_parts};
 use address_grammar::{Address, write_address};
 use journal_records::{
-    Record, account_text, copy_front, domain_key, domain_text, expunge_text, mailbox_key,
+    account_text, copy_front, domain_key, domain_text, expunge_text, flags_text, mailbox_key,
 };
-use mail_wire::{Failed, Keeper, Memory as OutOfMemory, Octets};
+use kept_mail::{
+    Account, Delivery, Entry, Message, Parcel, are_live, are_too_many, has_large_octets,
+    is_for_nobody, is_live, number_of, parts_of, push_reserved, put_account, put_flags, put_parcel,
+    reserve_account, reserve_delivery, take_away, waiting_of,
+};
+use mail_wire::{Keeper, Memory as OutOfMemory, Octets};
 use std::alloc::{AllocError, AllocFailed, Global};
-use std::collections::BTreeMap;
 use thiserror::Error;
 
 /// Why a store wasn't changed.
@@ -80,65 +77,6 @@ impl<T: Drop> From<AllocFailed<T>> for StoreFault {
     }
 }
 
-// Puts the text of records, in parts, last in the keeper, and notes it where the keeper failed.
-fn write_parts<J: Keeper>(
-    keeper: &mut J,
-    parts: &[&[u8]],
-    failed: &mut bool,
-) -> Result<(), StoreFault>
-    ensures writes { Writes failed.old failed.new (J.tells keeper.old).octets (J.tells keeper.new).octets result (flat_map (λ part. part.now) parts.now) }
-    ensures cause { HasKeeperCause (J.tells keeper.old) (J.tells keeper.new) result StoreFault.Keeper }
-{
-    match keeper.append_all(parts) {
-        Ok(()) => Ok(()),
-        Err(Failed::Outside) => {
-            *failed = true;
-            Err(StoreFault::Keeper)
-        }
-        Err(Failed::Memory) => Err(StoreFault::Memory),
-    }
-}
-
-// Puts the text of records last in the keeper, and notes it where the keeper failed.
-fn write<J: Keeper>(keeper: &mut J, text: &[u8], failed: &mut bool) -> Result<(), StoreFault>
-    ensures writes { Writes failed.old failed.new (J.tells keeper.old).octets (J.tells keeper.new).octets result text.now }
-    ensures cause { HasKeeperCause (J.tells keeper.old) (J.tells keeper.new) result StoreFault.Keeper }
-{
-    write_parts(keeper, &[text], failed)
-}
-
-// A name, the number that it is to get, and the text of the record that brings it.
-#[derive(Drop)]
-struct Named {
-    name: Octets,
-    number: u32,
-    text: Octets,
-}
-
-// Puts the number at a name that has none, and the text last in the keeper. Where that fails the name has none again.
-fn write_named<J: Keeper>(
-    alloc: Global,
-    keeper: &mut J,
-    numbers: &mut BTreeMap<Vec<u8>, u32>,
-    named: &Named,
-    failed: &mut bool,
-) -> Result<(), StoreFault>
-    requires { number_of_name numbers.old named.now.name ≡ None }
-    ensures writes { Writes failed.old failed.new (J.tells keeper.old).octets (J.tells keeper.new).octets result named.now.text }
-    ensures ok { OnOk result (PutsName (number_of_name numbers.old) (number_of_name numbers.new) named.now.name named.now.number) }
-    ensures err { OnErr result ((q : List ℕ) → number_of_name numbers.new q ≡ number_of_name numbers.old q) }
-    ensures cause { HasKeeperCause (J.tells keeper.old) (J.tells keeper.new) result StoreFault.Keeper }
-{
-    put_first(alloc, numbers, named.name.as_slice(), named.number)?;
-    match write(keeper, named.text.as_slice(), failed) {
-        Ok(()) => Ok(()),
-        Err(fault) => {
-            take_back(numbers, named.name.as_slice());
-            Err(fault)
-        }
-    }
-}
-
 fn account_made(alloc: Global, address: &Address, password: &[u8]) -> Result<Account, OutOfMemory>
     requires { ComesInPath address.now }
     ensures address { IfOk result (λ made. made.address ≡ address_text address.now) }
@@ -157,59 +95,6 @@ struct NewAccount {
     own: Account,
 }
 
-// Makes room for an account and its folder, and the folder's name.
-pub(crate) fn reserve_account(
-    alloc: Global,
-    accounts: &mut Vec<Account>,
-    folders: &mut Vec<Folder>,
-    contents: &mut Vec<Content>,
-    inboxes: &mut Vec<u32>,
-) -> Result<Octets, OutOfMemory>
-    ensures name { IfOk result (λ name. name ≡ inbox) }
-    ensures accounts { accounts.new.items ≡ accounts.old.items }
-    ensures folders { folders.new.items ≡ folders.old.items }
-    ensures contents { contents.new.items ≡ contents.old.items }
-    ensures inboxes { inboxes.new.items ≡ inboxes.old.items }
-    ensures account_room { OnOk result (vec_len accounts.new < vec_capacity accounts.new) }
-    ensures folder_room { OnOk result (vec_len folders.new < vec_capacity folders.new) }
-    ensures content_room { OnOk result (vec_len contents.new < vec_capacity contents.new) }
-    ensures inbox_room { OnOk result (vec_len inboxes.new < vec_capacity inboxes.new) }
-{
-    accounts.reserve(1)?;
-    folders.reserve(1)?;
-    contents.reserve(1)?;
-    inboxes.reserve(1)?;
-    Octets::from_slice(alloc, b"INBOX")
-}
-
-// Puts an account and its folder last, for which there is room.
-pub(crate) fn put_account(
-    accounts: &mut Vec<Account>,
-    folders: &mut Vec<Folder>,
-    contents: &mut Vec<Content>,
-    inboxes: &mut Vec<u32>,
-    own: Account,
-    name: Octets,
-)
-    requires account_room { vec_len accounts.old < vec_capacity accounts.old }
-    requires folder_room { vec_len folders.old < vec_capacity folders.old }
-    requires content_room { vec_len contents.old < vec_capacity contents.old }
-    requires inbox_room { vec_len inboxes.old < vec_capacity inboxes.old }
-    requires few { length accounts.old.items ≤ THINGS_MAX }
-    requires few_folders { length folders.old.items ≤ THINGS_MAX }
-    ensures accounts { accounts.new.items ≡ accounts.old.items ++ own ∷ [] }
-    ensures folders { folders.new.items ≡ folders.old.items ++ record { account = length accounts.old.items; name = name } ∷ [] }
-    ensures contents { contents.new.items ≡ contents.old.items ++ empty_content ∷ [] }
-    ensures inboxes { inboxes.new.items ≡ inboxes.old.items ++ length folders.old.items ∷ [] }
-{
-    let account = accounts.len() as u32;
-    let folder = folders.len() as u32;
-    push_reserved(accounts, own);
-    push_reserved(folders, Folder { account, name });
-    push_reserved(contents, EMPTY);
-    push_reserved(inboxes, folder);
-}
-
 // What is written of a delivery, and what is put last for it.
 #[derive(Clone, Copy)]
 struct Letter<'a> {
@@ -224,10 +109,10 @@ fn write_delivery<J: Keeper>(
     messages: &mut Vec<Message>,
     previous: &mut Vec<Option<u32>>,
     entries: &mut Vec<Entry>,
-    failed: &mut bool,
+    progress: &mut Progress,
     letter: Letter,
 ) -> Result<(), StoreFault>
-    ensures writes { Writes failed.old failed.new (J.tells keeper.old).octets (J.tells keeper.new).octets result
+    ensures writes { Writes progress.old progress.new (J.tells keeper.old).octets (J.tells keeper.new).octets result
         (delivery_text letter.entry.parcel.now.fronts.items letter.entry.parcel.now.waiting.front letter.entry.delivery.now) }
     ensures messages { messages.new.items ≡ messages.old.items }
     ensures previous { previous.new.items ≡ previous.old.items }
@@ -244,23 +129,7 @@ fn write_delivery<J: Keeper>(
         &letter.parcel.waiting.front,
         letter.delivery,
     )?;
-    write_parts(keeper, &parts, failed)
-}
-
-/// Whether the octets for the local accounts, or those for the remote recipients, are more than the limit. Octets that nobody
-/// is to have don't count.
-pub fn has_large_octets(delivery: &Delivery, message_max: u32) -> bool
-    ensures { result ≡ has_large_octets_of message_max delivery.now }
-{
-    (delivery.local.len() > 0 && delivery.local_octets.len() > message_max as usize)
-        || (delivery.remote.len() > 0 && delivery.remote_octets.len() > message_max as usize)
-}
-
-// Whether each of the messages is there and isn't expunged.
-fn are_live(messages: &[Message], ids: &[u32]) -> bool
-    ensures { result ≡ list_all (λ id. option_map_or (λ (message : MessageValue). message.live) (slice_get messages.now id) false) ids.now }
-{
-    ids.iter().all(|id| is_live(messages, *id))
+    write_parts(keeper, &parts, progress)
 }
 
 impl Store {
@@ -280,7 +149,7 @@ impl Store {
             keeper,
             &mut self.locals,
             &named,
-            &mut self.failed,
+            &mut self.progress,
         )?;
         push_reserved(&mut self.domains, named.name);
         Ok(())
@@ -357,7 +226,7 @@ impl Store {
             keeper,
             &mut self.mailboxes,
             &made.named,
-            &mut self.failed,
+            &mut self.progress,
         )?;
         put_account(
             &mut self.accounts,
@@ -534,7 +403,7 @@ impl Store {
             &mut self.messages,
             &mut self.previous,
             &mut self.entries,
-            &mut self.failed,
+            &mut self.progress,
             letter,
         )?;
         put_parcel(
@@ -586,6 +455,28 @@ impl Store {
         })
     }
 
+    /// Gives a message other flags in place of those that it has.
+    pub fn set_flags<J: Keeper>(
+        &mut self,
+        keeper: &mut J,
+        id: u32,
+        flags: u8,
+    ) -> Result<(), StoreFault>
+        requires works { self.old.failed ≡ false }
+        requires flags { flags < 32 }
+        ensures changes { Changes self.old self.new (J.tells keeper.old).octets (J.tells keeper.new).octets result (records.Flags id flags ∷ []) }
+        ensures refusal { IsRefusedAs result (flags_refusal self.old.kept id) }
+        ensures cause { HasKeeperCause (J.tells keeper.old) (J.tells keeper.new) result StoreFault.Keeper }
+    {
+        if !is_live(&self.messages, id) {
+            return Err(StoreFault::NoSuch);
+        }
+        let text = flags_text(self.alloc, id, flags)?;
+        write(keeper, text.as_slice(), &mut self.progress)?;
+        put_flags(&mut self.messages, id as usize, flags);
+        Ok(())
+    }
+
     // The message goes.
     fn put_expunged(&mut self, id: u32)
         requires { id < length self.old.kept.messages }
@@ -597,7 +488,7 @@ impl Store {
     // The messages go.
     fn put_all_expunged(&mut self, ids: &[u32])
         requires { All (λ id. id < length self.old.kept.messages) ids.now }
-        ensures { self.new ≡ with_records self.old (expunged ids.now) }
+        ensures { self.new ≡ keeping self.old (expunged ids.now) }
     {
         for id in ids {
             self.put_expunged(*id);
@@ -620,7 +511,7 @@ impl Store {
             return Ok(());
         }
         let text = expunge_text(self.alloc, ids)?;
-        write(keeper, text.as_slice(), &mut self.failed)?;
+        write(keeper, text.as_slice(), &mut self.progress)?;
         self.put_all_expunged(ids);
         Ok(())
     }

@@ -1,15 +1,17 @@
 //! Laws of journals and stores.
-ghost use Rattle.std.specs.Prelude.{◌≡◌, ◌==◌, ◌<◌, ◌≤◌, ℕ, List, ◌++◌, map, slice_get, Option, Ok, Err};
+ghost use Rattle.std.specs.Prelude.{◌≡◌, ◌==◌, ◌<◌, ◌≤◌, ℕ, List, ◌++◌, length, map, slice_get, Option, Some, Ok, Err, IfSome};
 ghost use Rattle.std.specs.List.{AllByRecursion, IsDistinct};
 ghost use Rattle.std.specs.List.Sorted.{IsStrictlyIncreasing};
 ghost use Rattle.mail_store.specs.declared.changing.StoreFault.{StoreFault};
-ghost use Rattle.mail_store.specs.declared.kept.Listed.{Listed as ListedValue};
+ghost use Rattle.kept_mail.specs.declared.kept.Listed.{Listed as ListedValue};
 ghost use Rattle.journal_records.specs.declared.records.Record.{Record};
+ghost use Rattle.journal_records.specs.Spelling.{journal};
+ghost use Rattle.mail_store.specs.Catching.{HasReadFirst};
 ghost use Rattle.mail_store.specs.Changing.{IsStoreOf, Changes, HoldsFirst};
 ghost use Rattle.mail_store.specs.Following.{Follows, Breaks};
-ghost use Rattle.mail_store.specs.Kept.{Kept, listed, uid_next, after_all, IsListedOrNew};
+ghost use Rattle.kept_mail.specs.Kept.{Kept, listed, uid_next, after_all, IsListedOrNew};
 ghost use Rattle.mail_store.specs.Opening.{HasRecords, IsBadAt};
-ghost use Rattle.mail_store.specs.Records.{IsLive};
+ghost use Rattle.kept_mail.specs.Records.{IsLive};
 ghost use Rattle.mail_store.specs.StoreState.{StoreState};
 
 /// Octets have their records in one way only, or are bad.
@@ -49,4 +51,15 @@ pub fn uids_stay()
     ensures below { (kept : Kept) (folder : ℕ) → AllByRecursion (λ one. one.uid < uid_next kept folder) (listed kept folder) }
     ensures stay { (kept : Kept) (more : List Record) (folder : ℕ) → AllByRecursion (IsListedOrNew kept folder) (listed (after_all kept more) folder) }
     ensures next { (kept : Kept) (more : List Record) (folder : ℕ) → uid_next kept folder ≤ uid_next (after_all kept more) folder }
+{}
+
+/// A store that was opened or changed has what its keeper begins with, whatever others put behind that, and also where the keeper
+/// failed in a change: so it catches up with the whole records that are there.
+pub fn stores_catch_up()
+    ensures changed { (old new : StoreState) (had has : Option (List ℕ)) (all more : List Record) → old.end ≡ length (journal all)
+        → Changes {T = Unit {0}} old new had has (Ok tt) more → new.end ≡ length (journal (all ++ more)) }
+    ensures behind { (store : StoreState) (octets : List ℕ) (all : List Record) (more : List ℕ) → IsStoreOf store (Some octets) all → store.end ≡ length (journal all)
+        → HasReadFirst store (octets ++ more) all }
+    ensures failed { (old new : StoreState) (had has : Option (List ℕ)) (all more : List Record) → IsStoreOf old had all → old.end ≡ length (journal all)
+        → Changes {T = Unit {0}} old new had has (Err StoreFault.Keeper) more → IfSome has (λ octets. HasReadFirst new octets all) }
 {}

@@ -1,22 +1,15 @@
-//! The store of a mail system: accounts, domains, folders, messages and a queue, as the fold of a journal's records.
+//! The store of a mail system over a keeper: accounts, domains, folders, messages and a queue, as the fold of a journal's records.
 #![tactic(auto)]
 
+mod catching;
 mod changing;
-mod checks;
-mod contents;
-mod delivery;
+mod folders;
 mod frames;
-mod kept;
 pub mod laws;
-mod limits;
-mod names;
 mod opening;
-mod parcels;
 mod storing;
+mod writing;
 
-pub use changing::{StoreFault, has_large_octets};
-pub use delivery::{Addresses, Delivery};
-pub use kept::{Account, Entry, Folder, Listed, Message, Numbers, Recipient, Recipients};
-pub use limits::{MESSAGE_MAX, RECIPIENTS_MAX, THINGS_MAX};
+pub use changing::StoreFault;
 pub use opening::OpenFault;
 pub use storing::Store;

@@ -1,15 +1,15 @@
 //! The store opened from a keeper's octets.
-ghost use Rattle.std.specs.Prelude.{◌≡◌, ◌+◌, ◌≤◌, length, ◌<◌, ◌^◌, IfOk, OnOk, OnErr, IfErr, IfSome, option_map, false};
+ghost use Rattle.std.specs.Prelude.{◌≡◌, ◌+◌, ◌≤◌, length, drop, ◌<◌, ◌^◌, IfOk, OnOk, OnErr, IfErr, IfSome, option_map, false};
 ghost use Rattle.mail_wire.specs.Keeping.{HasKeeperCause};
 ghost use Rattle.mail_store.specs.private.Adding.{AddsNext, Added};
 ghost use Rattle.mail_store.specs.Answers.{open_fault, IsFold, OpensTo, IsJournalFault, LeavesRecords};
-ghost use Rattle.mail_store.specs.Kept.{nothing};
-ghost use Rattle.journal_records.specs.Frames.{IsBeginningOf};
-ghost use Rattle.mail_store.specs.private.Replaying.{IsOutside, IsFieldsFault, fields_at, EndsJournalAt, IsReadingFault, repaired, HalfRepairs};
+ghost use Rattle.kept_mail.specs.declared.limits.TheConstants.{MESSAGE_MAX};
+ghost use Rattle.kept_mail.specs.Kept.{nothing};
+ghost use Rattle.journal_records.specs.Frames.{IsBeginningOf, IsCutShort};
+ghost use Rattle.mail_store.specs.private.Replaying.{IsOutside, IsFieldsFault, IsReadTo, IsRestFault, fields_at, EndsJournalAt, IsReadingFault, repaired, HalfRepairs};
 ghost use Rattle.journal_records.specs.declared.frames.Beginning.TheVariants as beginnings;
 
 use crate::frames::{fill, frame_at, read_beginning};
-use crate::limits::MESSAGE_MAX;
 use crate::storing::Store;
 use journal_records::{Beginning, FIRST_OCTETS, Frame, RECORD_MAX, ReadFault, read_record};
 use mail_wire::{Failed, Keeper};
@@ -57,14 +57,17 @@ impl From<AllocError> for OpenFault {
 
 // The fields of a record are put last, or they are none.
 fn add_next(alloc: Global, store: &mut Store, fields: &[u8]) -> Result<(), ReadFault>
-    requires { length fields.now ≤ RECORD_MAX }
+    requires short { length fields.now ≤ RECORD_MAX }
+    requires place { store.old.end + (4 + length fields.now) < 2 ^ 64 }
     ensures { AddsNext store.old store.new result fields.now }
 {
     let one = read_record(alloc, fields)?;
-    store.add(one)
+    store.add(one)?;
+    store.lengthen(4 + fields.len() as u64);
+    Ok(())
 }
 
-// Puts the record last whose length stands at a place.
+// Puts the record last whose length stands where the store's journal ends.
 fn add_at<J: Keeper>(
     alloc: Global,
     keeper: &mut J,
@@ -73,12 +76,14 @@ fn add_at<J: Keeper>(
     len: usize,
     buffer: &mut Vec<u8>,
 ) -> Result<(), OpenFault>
+    requires at_is { at ≡ store.old.end }
     requires short { len ≤ RECORD_MAX }
     requires within { IfSome (J.tells keeper.old).octets (λ octets. at + (4 + len) ≤ length octets) }
     requires place { at + (4 + len) < 2 ^ 64 }
     ensures added { OnOk result (Added store.old store.new buffer.new.items) }
     ensures len { OnOk result (length buffer.new.items ≡ len) }
     ensures fields { OnOk result (IfSome (J.tells keeper.old).octets (λ octets. buffer.new.items ≡ fields_at octets at len)) }
+    ensures stays { OnErr result (store.new ≡ store.old) }
     ensures fault { IfErr result (IsFieldsFault (J.tells keeper.old).octets at len store.old) }
     ensures same { (J.tells keeper.new).octets ≡ (J.tells keeper.old).octets }
     ensures cause { HasKeeperCause (J.tells keeper.old) (J.tells keeper.new) result OpenFault.Keeper }
@@ -93,7 +98,35 @@ fn add_at<J: Keeper>(
     }
 }
 
-// Puts the journal's records last, one after the other, and says where they end.
+/// Puts the records last, one after the other, that stand behind those that the store has.
+pub(crate) fn read_on<J: Keeper>(
+    alloc: Global,
+    keeper: &mut J,
+    store: &mut Store,
+    had: u64,
+    buffer: &mut Vec<u8>,
+) -> Result<(), OpenFault>
+    requires had { IfSome (J.tells keeper.old).octets (λ octets. had ≡ length octets) }
+    requires within { store.old.end ≤ had }
+    ensures reads { IsReadTo (J.tells keeper.old).octets store.old store.new }
+    ensures rest { OnOk result (IfSome (J.tells keeper.old).octets (λ octets. IsCutShort (drop store.new.end octets))) }
+    ensures within { store.new.end ≤ had }
+    ensures fault { IfErr result (IsRestFault (J.tells keeper.old).octets store.new) }
+    ensures same { (J.tells keeper.new).octets ≡ (J.tells keeper.old).octets }
+    ensures cause { HasKeeperCause (J.tells keeper.old) (J.tells keeper.new) result OpenFault.Keeper }
+{
+    loop {
+        let at = store.end();
+        let len = match frame_at(keeper, at, had, buffer)? {
+            Frame::CutShort => return Ok(()),
+            Frame::Bad => return Err(OpenFault::BadJournal { at }),
+            Frame::Whole(len) => len,
+        };
+        add_at(alloc, keeper, store, at, len, buffer)?;
+    }
+}
+
+// Puts the journal's records last, and says where they end.
 fn replay<J: Keeper>(
     alloc: Global,
     keeper: &mut J,
@@ -102,10 +135,12 @@ fn replay<J: Keeper>(
     buffer: &mut Vec<u8>,
 ) -> Result<u64, OpenFault>
     requires start { store.old.kept ≡ nothing }
+    requires start_end { store.old.end ≡ 8 }
     requires had { IfSome (J.tells keeper.old).octets (λ octets. had ≡ length octets) }
     requires long { 8 ≤ had }
     requires first { IfSome (J.tells keeper.old).octets (IsBeginningOf beginnings.Journal) }
     ensures ends { IfOk result (λ end. IfSome (J.tells keeper.old).octets (λ octets. EndsJournalAt octets end store.new.kept)) }
+    ensures place { IfOk result (λ end. IfSome (J.tells keeper.old).octets (λ octets. store.new.end ≡ length (repaired end octets))) }
     ensures fold { OnOk result (IsFold store.new.kept) }
     ensures within { IfOk result (λ end. end ≤ had) }
     ensures message_max { OnOk result (store.new.message_max ≡ store.old.message_max) }
@@ -114,16 +149,8 @@ fn replay<J: Keeper>(
     ensures same { (J.tells keeper.new).octets ≡ (J.tells keeper.old).octets }
     ensures cause { HasKeeperCause (J.tells keeper.old) (J.tells keeper.new) result OpenFault.Keeper }
 {
-    let mut at = 8;
-    loop {
-        let len = match frame_at(keeper, at, had, buffer)? {
-            Frame::CutShort => return Ok(at),
-            Frame::Bad => return Err(OpenFault::BadJournal { at }),
-            Frame::Whole(len) => len,
-        };
-        add_at(alloc, keeper, store, at, len, buffer)?;
-        at += 4 + len as u64;
-    }
+    read_on(alloc, keeper, store, had, buffer)?;
+    Ok(store.end())
 }
 
 // The records of all the octets are put last. It says where they end, which is 0 where no journal is begun.
@@ -134,8 +161,10 @@ fn read_all<J: Keeper>(
     had: u64,
 ) -> Result<u64, OpenFault>
     requires start { store.old.kept ≡ nothing }
+    requires start_end { store.old.end ≡ 8 }
     requires had { IfSome (J.tells keeper.old).octets (λ octets. had ≡ length octets) }
     ensures ends { IfOk result (λ end. IfSome (J.tells keeper.old).octets (λ octets. EndsJournalAt octets end store.new.kept)) }
+    ensures place { IfOk result (λ end. IfSome (J.tells keeper.old).octets (λ octets. store.new.end ≡ length (repaired end octets))) }
     ensures fold { OnOk result (IsFold store.new.kept) }
     ensures within { IfOk result (λ end. end ≤ had) }
     ensures message_max { OnOk result (store.new.message_max ≡ store.old.message_max) }
@@ -183,6 +212,7 @@ impl Store {
         ensures fold { IfOk result (λ store. IsFold store.kept) }
         ensures message_max { IfOk result (λ store. store.message_max ≡ message_max) }
         ensures failed { IfOk result (λ store. store.failed ≡ false) }
+        ensures end { IfOk result (λ store. IfSome (J.tells keeper.new).octets (λ octets. store.end ≡ length octets)) }
 
         // A bad journal is bad there, and a fault of the keeper has its cause.
         ensures fault { IfErr result (λ fault. IfSome (J.tells keeper.old).octets (λ old. IsJournalFault old (J.tells keeper.new).octets fault)) }

@@ -1,26 +1,26 @@
 //! The store: what is kept, and the indexes beside it.
-ghost use Rattle.std.specs.Prelude.{◌≡◌, ℕ, reverse, ◌↔◌, ◌<◌, ◌≤◌, length, IfOk, IfSome, false, slice_get, Some, IsTrue, option_map, IsUtf8};
+ghost use Rattle.std.specs.Prelude.{◌≡◌, ◌↔◌, ◌+◌, ◌^◌, ◌<◌, ◌≤◌, length, IfOk, IfSome, false, slice_get, Some, IsTrue, option_map, IsUtf8};
 ghost use Rattle.std.specs.List.{All};
 ghost use Rattle.address_grammar.specs.Paths.{ComesInPath};
-ghost use Rattle.mail_store.specs.declared.limits.TheConstants.{MESSAGE_MAX};
+ghost use Rattle.kept_mail.specs.declared.limits.TheConstants.{MESSAGE_MAX};
 ghost use Rattle.journal_records.specs.declared.records.Record.TheVariants as records;
-ghost use Rattle.mail_store.specs.private.Adding.{AddsRecord, IsKeyed};
+ghost use Rattle.mail_store.specs.private.Adding.{AddsRecord, IsKeyed, lengthened, marked};
 ghost use Rattle.journal_records.specs.Addresses.{WithPaths};
-ghost use Rattle.mail_store.specs.private.Chains.{chain};
-ghost use Rattle.mail_store.specs.Kept.{nothing, change_at, with_flags, gone, without, inbox_of, uid_next, listed, listed_one, listed_from, numbers_in, logged_in, find_account, is_local, name_of, has_password};
-ghost use Rattle.mail_store.specs.Records.{IsInOrder, IsUnsettled};
+ghost use Rattle.kept_mail.specs.Kept.{nothing, inbox_of, uid_next, listed, logged_in, find_account, is_local, name_of};
+ghost use Rattle.kept_mail.specs.Records.{IsInOrder};
 ghost use Rattle.journal_records.specs.Stored.{IsStored};
 
-use crate::changing::{put_account, reserve_account};
-use crate::checks::{self, account_fits, are_too_many, has_room, message_fits};
-use crate::contents::{Content, EMPTY, push_reserved, put_message};
-use crate::kept::{Account, Entry, Folder, Listed, Message, waiting_entry};
-use crate::names::{number_of, put_first};
-use crate::parcels::put_entry;
+use crate::writing::Progress;
 use address_grammar::Address;
 use journal_records::{
     ReadFault, Record, Texts, are_addresses, domain_key, is_domain_text, is_folder_name,
     is_path_text, is_stored, mailbox_key, read_text,
+};
+use kept_mail::{
+    Account, Content, Entry, Folder, Listed, Message, account_fits, are_too_many, folder_key,
+    has_password, has_room, is_live, is_unsettled, list_back, message_fits, number_of,
+    push_reserved, put_account, put_entry, put_first, put_flags, put_folder, put_message,
+    reserve_account, reserve_folder, settle_at, take_away, waiting_entry,
 };
 use mail_wire::{Memory, Octets};
 use std::alloc::Global;
@@ -32,7 +32,7 @@ use std::marker::Model;
 pub struct Store {
     pub(crate) alloc: Global,
     pub(crate) message_max: u32,
-    pub(crate) failed: bool,
+    pub(crate) progress: Progress,
     pub(crate) accounts: Vec<Account>,
     pub(crate) domains: Vec<Octets>,
     pub(crate) folders: Vec<Folder>,
@@ -44,6 +44,8 @@ pub struct Store {
     pub(crate) previous: Vec<Option<u32>>,
     // each account's first folder
     pub(crate) inboxes: Vec<u32>,
+    // the first folder of each other name of an account
+    pub(crate) names: BTreeMap<Vec<u8>, u32>,
     // the first account of each mailbox
     pub(crate) mailboxes: BTreeMap<Vec<u8>, u32>,
     // the first number of each domain
@@ -64,65 +66,6 @@ impl Model for Store {
     ghost invariant = { IsIndexed };
 }
 
-// What is listed of a message.
-fn listed_one(messages: &[Message], id: u32, uid: u32) -> Option<Listed>
-    ensures listed { result ≡ listed_one (slice_get messages.now id) id uid }
-    ensures known { IfSome result (λ one. one.id < length messages.now) }
-{
-    match messages.get(id as usize) {
-        Some(message) => {
-            if message.live {
-                Some(Listed {
-                    id,
-                    uid,
-                    flags: message.flags,
-                })
-            } else {
-                None
-            }
-        }
-        None => None,
-    }
-}
-
-// What is listed of a folder's messages, the last of them first.
-fn list_back(
-    alloc: Global,
-    messages: &[Message],
-    previous: &[Option<u32>],
-    content: Content,
-) -> Result<Vec<Listed>, Memory>
-    requires len { length previous.now ≡ length messages.now }
-    requires count { length (chain content.count previous.now content.last) ≡ content.count }
-    requires known { All (λ id. id < length messages.now) (chain content.count previous.now content.last) }
-    ensures listing { IfOk result (λ listing. (folder : ℕ) → chain content.count previous.now content.last ≡ reverse (numbers_in folder 0 messages.now)
-        → reverse listing.items ≡ listed_from folder 0 1 messages.now) }
-    ensures known { IfOk result (λ listing. All (λ one. one.id < length messages.now) listing.items) }
-{
-    let mut listing = Vec::new(alloc);
-    let mut place = content.last;
-    for back in 0..content.count {
-        let Some(id) = place else {
-            break;
-        };
-        if let Some(one) = listed_one(messages, id, content.count - back) {
-            listing.push(one)?;
-        }
-        place = previous[id as usize];
-    }
-    Ok(listing)
-}
-
-// Whether there is such an account, and the password is its own.
-fn has_password(accounts: &[Account], account: u32, password: &[u8]) -> bool
-    ensures { result ≡ has_password (slice_get accounts.now account) password.now }
-{
-    match accounts.get(account as usize) {
-        Some(account) => account.password.as_slice() == password,
-        None => false,
-    }
-}
-
 // The name of a store without a domain.
 const LOCALHOST: &str = "localhost";
 
@@ -134,31 +77,6 @@ fn domain_text(domain: &[u8]) -> &str
     std::str::from_utf8(domain).unwrap_or(LOCALHOST)
 }
 
-fn put_flags(messages: &mut Vec<Message>, at: usize, flags: u8)
-    requires { at < length messages.old.items }
-    ensures { messages.new.items ≡ change_at (with_flags flags) messages.old.items at }
-{
-    let message = &mut messages[at];
-    message.flags = flags;
-}
-
-/// The message is expunged.
-pub(crate) fn take_away(messages: &mut Vec<Message>, at: usize)
-    requires { at < length messages.old.items }
-    ensures { messages.new.items ≡ change_at gone messages.old.items at }
-{
-    let message = &mut messages[at];
-    message.live = false;
-}
-
-fn settle_at(entries: &mut Vec<Entry>, at: u32, index: u32)
-    requires { IsUnsettled (slice_get entries.old.items at) index }
-    ensures { entries.new.items ≡ change_at (without index) entries.old.items at }
-{
-    let entry = &mut entries[at as usize];
-    entry.recipients.settle(index);
-}
-
 impl Store {
     /// A store of nothing.
     pub(crate) fn new(alloc: Global, message_max: u32) -> Self
@@ -166,11 +84,15 @@ impl Store {
         ensures kept { result.kept ≡ nothing }
         ensures message_max { result.message_max ≡ message_max }
         ensures failed { result.failed ≡ false }
+        ensures end { result.end ≡ 8 }
     {
         Store {
             alloc,
             message_max,
-            failed: false,
+            progress: Progress {
+                end: 8,
+                failed: false,
+            },
             accounts: Vec::new(alloc),
             domains: Vec::new(alloc),
             folders: Vec::new(alloc),
@@ -179,6 +101,7 @@ impl Store {
             contents: Vec::new(alloc),
             previous: Vec::new(alloc),
             inboxes: Vec::new(alloc),
+            names: BTreeMap::new(alloc),
             mailboxes: BTreeMap::new(alloc),
             locals: BTreeMap::new(alloc),
             recipients: 0,
@@ -252,9 +175,15 @@ impl Store {
         {
             return Err(ReadFault::NoRecord);
         }
-        self.folders.reserve(1)?;
-        self.contents.push(EMPTY)?;
-        push_reserved(&mut self.folders, Folder { account, name });
+        let key = folder_key(self.alloc, account, name.as_slice())?;
+        let number = self.folders.len();
+        reserve_folder(&mut self.folders, &mut self.contents)?;
+        put_first(self.alloc, &mut self.names, key.as_slice(), number as u32)?;
+        put_folder(
+            &mut self.folders,
+            &mut self.contents,
+            Folder { account, name },
+        );
         Ok(())
     }
 
@@ -297,7 +226,7 @@ impl Store {
     fn add_flags_record(&mut self, message: u32, flags: u8) -> Result<(), ReadFault>
         ensures { AddsRecord self.old self.new result (records.Flags message flags) }
     {
-        if flags >= 32 || !checks::is_live(&self.messages, message) {
+        if flags >= 32 || !is_live(&self.messages, message) {
             return Err(ReadFault::NoRecord);
         }
         put_flags(&mut self.messages, message as usize, flags);
@@ -308,7 +237,7 @@ impl Store {
     fn add_expunge_record(&mut self, message: u32) -> Result<(), ReadFault>
         ensures { AddsRecord self.old self.new result (records.Expunge message) }
     {
-        if !checks::is_live(&self.messages, message) {
+        if !is_live(&self.messages, message) {
             return Err(ReadFault::NoRecord);
         }
         take_away(&mut self.messages, message as usize);
@@ -351,7 +280,7 @@ impl Store {
     fn add_settle_record(&mut self, entry: u32, index: u32) -> Result<(), ReadFault>
         ensures { AddsRecord self.old self.new result (records.Settle entry index) }
     {
-        if !checks::is_unsettled(&self.entries, entry, index) {
+        if !is_unsettled(&self.entries, entry, index) {
             return Err(ReadFault::NoRecord);
         }
         settle_at(&mut self.entries, entry, index);
@@ -383,11 +312,34 @@ impl Store {
         }
     }
 
-    /// Whether a call was answered Keeper.
+    /// Whether the keeper may have other records than the store: a call was answered Keeper, or catching up was refused, and
+    /// the store hasn't caught up since.
     pub fn failed(&self) -> bool
         ensures { result ≡ self.now.failed }
     {
-        self.failed
+        self.progress.failed
+    }
+
+    /// Where the journal of the store's records ends.
+    pub(crate) fn end(&self) -> u64
+        ensures { result ≡ self.now.end }
+    {
+        self.progress.end
+    }
+
+    /// The journal is so many octets longer.
+    pub(crate) fn lengthen(&mut self, len: u64)
+        requires { self.old.end + len < 2 ^ 64 }
+        ensures { self.new ≡ lengthened self.old len }
+    {
+        self.progress.end += len;
+    }
+
+    /// Notes whether the keeper may have other records than the store.
+    pub(crate) fn mark(&mut self, failed: bool)
+        ensures { self.new ≡ marked self.old failed }
+    {
+        self.progress.failed = failed;
     }
 
     /// The most octets that a message may have that is taken.

@@ -4,12 +4,13 @@ ghost use Rattle.std.specs.List.{All};
 ghost use Rattle.journal_records.specs.Addresses.{IsSendable};
 ghost use Rattle.journal_records.specs.Grammar.{IsDate};
 ghost use Rattle.journal_records.specs.Stored.{IsStored};
-ghost use Rattle.mail_store.specs.declared.limits.TheConstants.{RECIPIENTS_MAX};
+ghost use Rattle.kept_mail.specs.declared.limits.TheConstants.{RECIPIENTS_MAX};
 
 use ace_domains::normal;
 use address_grammar::{Address, write_address};
 use journal_records::{TEXT_MAX, is_date, is_stored, read_text};
-use mail_store::{Addresses, Delivery, Numbers, Store, StoreFault};
+use kept_mail::{Addresses, Delivery, Numbers};
+use mail_store::{Store, StoreFault};
 use mail_wire::{Failure, MemKeeper, Octets};
 use std::alloc::Global;
 use std::test::Fail;

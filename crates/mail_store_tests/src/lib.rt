@@ -2,6 +2,10 @@
 #![tactic(auto)]
 
 #[cfg(test)]
+mod catching;
+#[cfg(test)]
 mod changes;
+#[cfg(test)]
+mod folders;
 #[cfg(test)]
 mod journals;

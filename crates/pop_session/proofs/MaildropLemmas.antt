@@ -5,12 +5,12 @@ use Rattle.std.specs.List.{AllByRecursion, IsDistinct, list_all}
 use Rattle.std.specs.Option.{option_map_or}
 use Rattle.std.proofs.lemmas.List.Sums.{sum_by-append, sum_by-cons}
 use Rattle.mail_store.specs.Changing.{is_live, expunged, expunge_refusal}
-use Rattle.mail_store.specs.Kept.{Kept, change_at, listed, name_of}
-use Rattle.mail_store.specs.Records.{IsLive}
+use Rattle.kept_mail.specs.Kept.{Kept, change_at, listed, name_of}
+use Rattle.kept_mail.specs.Records.{IsLive}
 use Rattle.mail_store.specs.StoreState.{StoreState, with_records}
-use Rattle.mail_store.specs.declared.kept.Listed.{Listed}
+use Rattle.kept_mail.specs.declared.kept.Listed.{Listed}
 use Rattle.mail_store.proofs.ListedLemmas.{listed_live, listed_distinct}
-use Rattle.mail_store.specs.declared.kept.Message.{Message}
+use Rattle.kept_mail.specs.declared.kept.Message.{Message}
 use Rattle.session_core.proofs.DeskLemmas.{expunged_domains}
 use Rattle.pop_session.specs.declared.states.MaildropMessage.{MaildropMessage}
 use Rattle.pop_session.specs.Machine.{marked, unmarked, deleted_ids, left_of}

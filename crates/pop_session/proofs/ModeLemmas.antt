@@ -5,12 +5,12 @@ use Rattle.std.specs.Option.{option_map_or}
 use Rattle.mail_wire.specs.Framing.{Framed, waiting, whole, too_long, next_line}
 use Rattle.session_core.specs.Turns.{Turn, stay, behind, turns}
 use Rattle.session_core.proofs.TurnsLemmas.{turns-stop}
-use Rattle.mail_store.specs.declared.kept.Listed.{Listed}
+use Rattle.kept_mail.specs.declared.kept.Listed.{Listed}
 use Rattle.journal_records.specs.declared.records.Record.{Record}
 use Rattle.session_core.specs.Acts.{Act}
 use Rattle.session_core.specs.Grammar.{turn_by, turn_in}
 use Rattle.mail_store.specs.Following.{records_of}
-use Rattle.mail_store.specs.Kept.{logged_in}
+use Rattle.kept_mail.specs.Kept.{logged_in}
 use Rattle.mail_store.specs.StoreState.{StoreState, with_records}
 use Rattle.surrogate_cache.specs.Served.{Mode, legacy}
 use Rattle.session_core.specs.Meanings.{Meanings}

@@ -9,9 +9,9 @@ use Rattle.std.proofs.lemmas.Option.{slice_get_past, slice_get_within}
 use Rattle.mail_wire.specs.declared.outside.Fault.{Fault}
 use Rattle.mail_wire.specs.declared.outside.Fault.TheVariants as fault
 use Rattle.mail_store.specs.Following.{records_of}
-use Rattle.mail_store.specs.Kept.{change_at}
+use Rattle.kept_mail.specs.Kept.{change_at}
 use Rattle.mail_store.specs.StoreState.{StoreState, with_records}
-use Rattle.mail_store.specs.declared.kept.Listed.{Listed}
+use Rattle.kept_mail.specs.declared.kept.Listed.{Listed}
 use Rattle.session_core.proofs.DoneLemmas.{changes_in-acts}
 use Rattle.surrogate_cache.specs.Served.{Mode}
 use Rattle.session_core.specs.Around.{Around}

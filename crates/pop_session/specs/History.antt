@@ -1,7 +1,7 @@
 -- What the commands of a session come to, one after another: which mode it is in, and which messages are marked.
 use Rattle.std.specs.Prelude.{◌≡◌, ℕ, zero, suc, ◌==◌, ◌||◌, List, [], ◌∷◌, Bool, true, false, Option, None, Some, length}
 use Rattle.mail_wire.specs.Framing.{Framed, waiting, whole, too_long, next_line}
-use Rattle.mail_store.specs.declared.kept.Listed.{Listed}
+use Rattle.kept_mail.specs.declared.kept.Listed.{Listed}
 use Rattle.surrogate_cache.specs.Served.{Mode, enabled}
 use Rattle.session_core.specs.Meanings.{Meanings}
 use Rattle.pop_session.specs.declared.command.Keyword.{Keyword}

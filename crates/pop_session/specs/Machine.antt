@@ -4,10 +4,10 @@ use Rattle.std.specs.Str.{bytes_eq}
 use Rattle.std.specs.Fmt.{decimal}
 use Rattle.std.specs.Option.{option_map_or}
 use Rattle.mail_wire.specs.Lines.{crlf, lines_of}
-use Rattle.mail_store.specs.declared.kept.Listed.{Listed}
+use Rattle.kept_mail.specs.declared.kept.Listed.{Listed}
 use Rattle.session_core.specs.Acts.{Act, acts_of}
 use Rattle.mail_store.specs.Changing.{expunged}
-use Rattle.mail_store.specs.Kept.{Kept, change_at, logged_in, inbox_of, listed}
+use Rattle.kept_mail.specs.Kept.{Kept, change_at, logged_in, inbox_of, listed}
 use Rattle.mail_store.specs.StoreState.{StoreState}
 use Rattle.journal_records.specs.declared.records.Record.{Record}
 use Rattle.surrogate_cache.specs.Served.{Mode, enabled, served_by}

@@ -9,9 +9,9 @@ use Rattle.mail_wire.proofs.NumberLemmas.{ascii-decimal}
 use Rattle.journal_records.specs.declared.records.Record.{Record}
 use Rattle.mail_store.specs.Changing.{expunged}
 use Rattle.mail_store.specs.Following.{records_of}
-use Rattle.mail_store.specs.Kept.{logged_in}
+use Rattle.kept_mail.specs.Kept.{logged_in}
 use Rattle.mail_store.specs.StoreState.{StoreState, AreStored, with_records}
-use Rattle.mail_store.specs.declared.kept.Listed.{Listed}
+use Rattle.kept_mail.specs.declared.kept.Listed.{Listed}
 use Rattle.session_core.proofs.FitLemmas.{fit_acts}
 use Rattle.surrogate_cache.specs.Served.{Mode, legacy, enabled}
 use Rattle.session_core.specs.Desks.{IsOpen}

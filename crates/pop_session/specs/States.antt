@@ -2,8 +2,8 @@
 use Rattle.std.specs.Prelude.{◌≡◌, ◌==◌, ℕ, List, map, slice_get, Option, None, Some}
 use Rattle.std.specs.List.{AllByRecursion, IsDistinct}
 use Rattle.pop_session.specs.declared.states.MaildropMessage.{MaildropMessage}
-use Rattle.mail_store.specs.Kept.{logged_in}
-use Rattle.mail_store.specs.Records.{IsLive}
+use Rattle.kept_mail.specs.Kept.{logged_in}
+use Rattle.kept_mail.specs.Records.{IsLive}
 use Rattle.mail_store.specs.StoreState.{StoreState}
 use Rattle.surrogate_cache.specs.Served.{legacy, enabled}
 use Rattle.session_core.specs.Meanings.{Meanings}

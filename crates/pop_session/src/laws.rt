@@ -2,7 +2,7 @@
 ghost use Rattle.std.specs.Prelude.{◌≡◌, ◌≢◌, ◌++◌, ◌∷◌, ◌↔◌, [], ℕ, List, Option, None, Some, codes, IsTrue};
 ghost use Rattle.std.specs.List.{All, flat_map};
 ghost use Rattle.mail_wire.specs.Lines.{lines_of};
-ghost use Rattle.mail_store.specs.declared.kept.Listed.{Listed};
+ghost use Rattle.kept_mail.specs.declared.kept.Listed.{Listed};
 ghost use Rattle.mail_store.specs.Following.{records_of};
 ghost use Rattle.mail_store.specs.StoreState.{StoreState, with_records};
 ghost use Rattle.surrogate_cache.specs.Served.{Mode, legacy};

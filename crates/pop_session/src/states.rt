@@ -1,6 +1,6 @@
 //! The states of a session (RFC 1939, 4 to 6), each a type of its own.
 ghost use Rattle.std.specs.Prelude.{◌≡◌, ◌<◌, [], None, Some, IfOk, List, ℕ, Option, length, map, true, false};
-ghost use Rattle.mail_store.specs.Kept.{change_at};
+ghost use Rattle.kept_mail.specs.Kept.{change_at};
 ghost use Rattle.surrogate_cache.specs.Served.{legacy, enabled};
 ghost use Rattle.session_core.specs.Desks.{IsOpen};
 ghost use Rattle.session_core.specs.Doing.{Makes};
@@ -9,7 +9,8 @@ ghost use Rattle.session_core.specs.Meanings.{WithMeanings};
 ghost use Rattle.pop_session.specs.Machine.{State, authorization, transaction, unmarked, marked, deleted_ids as deleted_ids_of, taken_out};
 ghost use Rattle.pop_session.specs.States.{state_of, IsLogin, Knows, KnowsLogin};
 
-use mail_store::{Listed, Store};
+use kept_mail::Listed;
+use mail_store::Store;
 use mail_wire::{Clock, Fault, Keeper, Memory, Octets, Wire};
 use session_core::Outside;
 use std::alloc::Global;

@@ -9,20 +9,21 @@ use Rattle.mail_wire.specs.declared.outside.Fault.{Fault}
 use Rattle.mail_wire.specs.declared.outside.Fault.TheVariants as fault
 use Rattle.mail_wire.proofs.AllLemmas.{all-append}
 use Rattle.mail_wire.proofs.Moving.{GoesOn-nil, HasWireCause-fine}
-use Rattle.mail_store.specs.Changing.{copy_for, delivered, delivery_refusal, expunged, inboxes_of, queued}
+use Rattle.mail_store.specs.Changing.{delivery_refusal, expunged}
+use Rattle.kept_mail.specs.Deliveries.{copy_for, delivered, inboxes_of, queued}
 use Rattle.mail_store.specs.Following.{records_of}
-use Rattle.mail_store.specs.Kept.{Kept, after_record, after_all, change_at, gone, name_of, with_flags}
-use Rattle.mail_store.specs.Records.{AreRecords, IsRecord}
+use Rattle.kept_mail.specs.Kept.{Kept, after_record, after_all, change_at, gone, name_of, with_flags}
+use Rattle.kept_mail.specs.Records.{AreRecords, IsRecord}
 use Rattle.journal_records.specs.Stored.{IsStored}
 use Rattle.mail_store.specs.StoreState.{StoreState, AreStored}
 use Rattle.mail_store.specs.declared.changing.StoreFault.{StoreFault}
-use Rattle.mail_store.specs.declared.delivery.Delivery.{Delivery}
-use Rattle.mail_store.specs.declared.kept.Message.{Message}
+use Rattle.kept_mail.specs.declared.delivery.Delivery.{Delivery}
+use Rattle.kept_mail.specs.declared.kept.Message.{Message}
 use Rattle.journal_records.specs.declared.records.Record.{Record}
 use Rattle.journal_records.specs.declared.records.Record.TheVariants as records
 use Rattle.mail_store.proofs.ChangeLemmas.{after_all-append}
 use Rattle.mail_store.proofs.DeliveryLemmas.{after-copies}
-use Rattle.mail_store.proofs.SameMessages.{AreSameMessages-flags, AreSameMessages-gone, stored-same}
+use Rattle.kept_mail.proofs.SameMessages.{AreSameMessages-flags, AreSameMessages-gone, stored-same}
 use Rattle.session_core.specs.Around.{Around}
 use Rattle.session_core.specs.Changes.{calls_of, changes_of, unless_refused}
 use Rattle.session_core.specs.Doing.{IsChanged}

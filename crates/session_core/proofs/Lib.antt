@@ -1,5 +1,6 @@
 pub mod MeaningLemmas
 pub mod DeskLemmas
+pub mod CaughtLemmas
 pub mod KeepsLemmas
 pub mod TurnsLemmas
 pub mod DoneLemmas

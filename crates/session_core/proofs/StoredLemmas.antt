@@ -17,10 +17,10 @@ use Rattle.surrogate_rope.proofs.AllSurrogates.{some_surrogate}
 use Rattle.surrogate_rope.proofs.SurrogateBlocks.{surrogate_blocks}
 use Rattle.journal_records.specs.Stored.{IsStored}
 use Rattle.mail_store.specs.Changing.{expunged}
-use Rattle.mail_store.specs.Kept.{Kept, after_all, change_at, gone}
+use Rattle.kept_mail.specs.Kept.{Kept, after_all, change_at, gone}
 use Rattle.mail_store.specs.StoreState.{StoreState, AreStored}
-use Rattle.mail_store.specs.declared.kept.Message.{Message}
-use Rattle.mail_store.proofs.SameMessages.{AreSameMessages-gone, stored-same}
+use Rattle.kept_mail.specs.declared.kept.Message.{Message}
+use Rattle.kept_mail.proofs.SameMessages.{AreSameMessages-gone, stored-same}
 use Rattle.session_core.specs.Desks.{stored_octets}
 use Rattle.session_core.specs.Meanings.{Meanings, AreMeanings}
 

@@ -1,9 +1,10 @@
 -- What the bundle's changing calls do to a store.
 use Rattle.std.specs.Prelude.{List, [], ◌∷◌, Option, None, Some}
-use Rattle.mail_store.specs.Changing.{delivered, delivery_refusal}
+use Rattle.mail_store.specs.Changing.{delivery_refusal}
+use Rattle.kept_mail.specs.Deliveries.{delivered}
 use Rattle.mail_store.specs.StoreState.{StoreState}
 use Rattle.mail_store.specs.declared.changing.StoreFault.{StoreFault}
-use Rattle.mail_store.specs.declared.delivery.Delivery.{Delivery}
+use Rattle.kept_mail.specs.declared.delivery.Delivery.{Delivery}
 use Rattle.journal_records.specs.declared.records.Record.{Record}
 use Rattle.session_core.specs.declared.outside.Delivered.{Delivered}
 use Rattle.session_core.specs.declared.outside.Delivered.TheVariants.{Stored, TooLarge}

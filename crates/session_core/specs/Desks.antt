@@ -1,11 +1,13 @@
 -- What sessions are served from, and when it serves them.
-use Rattle.std.specs.Prelude.{◌≡◌, ◌⊎◌, ℕ, ◌<◌, ◌≤◌, List, [], codes, false, slice_get}
+use Rattle.std.specs.Prelude.{◌≡◌, ◌⊎◌, ℕ, ◌<◌, ◌≤◌, List, [], codes, false, slice_get, Option, IfSome}
 use Rattle.std.specs.Option.{option_map_or}
-use Rattle.mail_store.specs.declared.limits.TheConstants.{MESSAGE_MAX}
+use Rattle.kept_mail.specs.declared.limits.TheConstants.{MESSAGE_MAX}
 use Rattle.journal_records.specs.Addresses.{IsDomainText}
-use Rattle.mail_store.specs.Kept.{Kept, name_of}
+use Rattle.journal_records.specs.declared.records.Record.{Record}
+use Rattle.kept_mail.specs.Kept.{Kept, name_of}
+use Rattle.mail_store.specs.Catching.{HasReadFirst}
 use Rattle.mail_store.specs.StoreState.{StoreState, AreStored}
-use Rattle.mail_store.specs.declared.kept.Message.{Message}
+use Rattle.kept_mail.specs.declared.kept.Message.{Message}
 use Rattle.surrogate_cache.specs.declared.cache.Cache.{Cache}
 use Rattle.session_core.specs.declared.desk.Desk.{Desk}
 use Rattle.session_core.specs.declared.desk.Limits.{Limits}
@@ -35,6 +37,18 @@ pub record IsOpen (desk : Desk) : Type 0 where
   pub named : IsStoreName (name_of desk.store.kept)
   pub stored : AreStored desk.store.kept.messages
   pub cached : IsCacheOf desk.cache desk.store.kept
+
+-- A desk that serves sessions within these limits, or will once its store has caught up.
+pub record WorksWithin (limits : Limits) (desk : Desk) : Type 0 where
+  pub are_limits : AreLimits limits
+  pub own : desk.limits ≡ limits
+  pub agrees : desk.store.message_max ≡ limits.message_max
+  pub named : IsStoreName (name_of desk.store.kept)
+  pub stored : AreStored desk.store.kept.messages
+
+-- a desk that is kept has what the octets begin with
+abbrev pub HasFirst : Option Desk → List ℕ → Type 0
+HasFirst kept octets = IfSome kept (λ desk. (all : List Record) × HasReadFirst desk.store octets all)
 
 -- the octets of a message of the store
 abbrev pub stored_octets : StoreState → ℕ → List ℕ

@@ -4,7 +4,7 @@ use Rattle.mail_wire.specs.Keeping.{HasKeeperCause}
 use Rattle.mail_wire.specs.Moves.{HasWireCause}
 use Rattle.mail_wire.specs.declared.outside.Fault.{Fault}
 use Rattle.mail_wire.specs.declared.outside.Fault.TheVariants as fault
-use Rattle.mail_store.specs.Kept.{name_of}
+use Rattle.kept_mail.specs.Kept.{name_of}
 use Rattle.session_core.specs.Around.{Around}
 use Rattle.session_core.specs.Desks.{IsOpen}
 

@@ -1,10 +1,12 @@
 //! What sessions are served from, and within which limits.
-ghost use Rattle.std.specs.Prelude.{◌≡◌, IfOk, IfErr, IfSome};
+ghost use Rattle.std.specs.Prelude.{◌≡◌, length, IfOk, IfErr, IfSome, OnErr, OnOk, is_err};
 ghost use Rattle.mail_wire.specs.Keeping.{HasKeeperCause};
 ghost use Rattle.mail_store.specs.Answers.{IsFold, OpensTo, IsJournalFault, LeavesRecords};
-ghost use Rattle.session_core.specs.Desks.{AreLimits, IsOpen};
+ghost use Rattle.mail_store.specs.Catching.{ReadsOn, CatchesUp, IsCatchFault};
+ghost use Rattle.session_core.specs.Desks.{AreLimits, HasFirst, IsOpen, WorksWithin};
 
-use mail_store::{MESSAGE_MAX, OpenFault, Store};
+use kept_mail::MESSAGE_MAX;
+use mail_store::{OpenFault, Store};
 use mail_wire::Keeper;
 use std::alloc::Global;
 use surrogate_cache::Cache;
@@ -44,6 +46,7 @@ pub fn open_desk<J: Keeper>(
     // Its store is the fold of the whole records that were there, and the keeper holds them and nothing more.
     ensures opens { IfOk result (λ desk. IfSome (J.tells keeper.old).octets (λ old. OpensTo old (J.tells keeper.new).octets desk.store.kept)) }
     ensures fold { IfOk result (λ desk. IsFold desk.store.kept) }
+    ensures end { IfOk result (λ desk. IfSome (J.tells keeper.new).octets (λ octets. desk.store.end ≡ length octets)) }
     ensures open { IfOk result IsOpen }
     ensures limits { IfOk result (λ desk. desk.limits ≡ limits) }
 
@@ -57,4 +60,54 @@ pub fn open_desk<J: Keeper>(
         cache: Cache::plain(),
         limits,
     })
+}
+
+impl Desk {
+    /// The store catches up with what others wrote to its journal, and the cache with the store. Where that is refused, the desk isn't to be
+    /// served from before it has caught up.
+    pub fn catch_up<J: Keeper>(&mut self, keeper: &mut J) -> Result<(), OpenFault>
+        ensures reads { ReadsOn (J.tells keeper.old).octets self.old.store self.new.store }
+        ensures catches { OnOk result (IfSome (J.tells keeper.old).octets (λ old. CatchesUp self.old.store old (J.tells keeper.new).octets self.new.store.kept)) }
+        ensures end { OnOk result (IfSome (J.tells keeper.new).octets (λ octets. self.new.store.end ≡ length octets)) }
+        ensures open { OnOk result (WorksWithin self.old.limits self.old → IsOpen self.new) }
+        ensures limits { self.new.limits ≡ self.old.limits }
+
+        ensures same { OnErr result ((J.tells keeper.new).octets ≡ (J.tells keeper.old).octets) }
+        ensures fault { IfErr result (λ fault. IfSome (J.tells keeper.old).octets (λ old. IsCatchFault self.old.store old fault)) }
+        ensures cause { HasKeeperCause (J.tells keeper.old) (J.tells keeper.new) result OpenFault.Keeper }
+        ensures failed { self.new.store.failed ≡ is_err result }
+    {
+        self.store.catch_up(keeper)
+    }
+}
+
+/// The desk for the next session: the one that was kept, once it has caught up. Where it can't or there is none, one that is opened anew.
+pub fn next_desk<J: Keeper>(
+    alloc: Global,
+    kept: Option<Desk>,
+    keeper: &mut J,
+    limits: Limits,
+) -> Result<Desk, OpenFault>
+    requires limits { AreLimits limits }
+    requires kept { IfSome kept (WorksWithin limits) }
+    // Its store is the fold of the whole records that are there, whoever wrote them, and the keeper holds them and nothing more.
+    ensures opens { IfOk result (λ desk. IfSome (J.tells keeper.old).octets (λ old. HasFirst kept old → OpensTo old (J.tells keeper.new).octets desk.store.kept)) }
+    ensures end { IfOk result (λ desk. IfSome (J.tells keeper.new).octets (λ octets. desk.store.end ≡ length octets)) }
+    ensures open { IfOk result IsOpen }
+    ensures limits { IfOk result (λ desk. desk.limits ≡ limits) }
+
+    ensures fault { IfErr result (λ fault. IfSome (J.tells keeper.old).octets (λ old. IsJournalFault old (J.tells keeper.new).octets fault)) }
+    ensures cause { HasKeeperCause (J.tells keeper.old) (J.tells keeper.new) result OpenFault.Keeper }
+    ensures leaves { OnErr result (LeavesRecords (J.tells keeper.old).octets (J.tells keeper.new).octets) }
+{
+    let Some(mut desk) = kept else {
+        return open_desk(alloc, keeper, limits);
+    };
+    match desk.catch_up(keeper) {
+        Ok(()) => Ok(desk),
+        Err(_) => {
+            drop(desk);
+            open_desk(alloc, keeper, limits)
+        }
+    }
 }

@@ -9,7 +9,7 @@ mod outside;
 mod rows;
 mod serving;
 
-pub use desk::{Desk, LIMITS, Limits, open_desk};
+pub use desk::{Desk, LIMITS, Limits, next_desk, open_desk};
 pub use feeding::{Reading, Session, feed};
 pub use machine::{Came, Machine};
 pub use outside::{Delivered, Outside, Stamp};

@@ -14,7 +14,8 @@ ghost use Rattle.session_core.specs.Doing.{IsChanged, Makes, Replies};
 ghost use Rattle.session_core.specs.Keeps.{Keeps, fault_of};
 
 use crate::desk::{Desk, Limits};
-use mail_store::{Delivery, Store, StoreFault};
+use kept_mail::Delivery;
+use mail_store::{Store, StoreFault};
 use mail_wire::{
     Clock, Fault, Keeper, Memory, Octets, Wire, date_text, give_all, internal_date, take_piece,
 };

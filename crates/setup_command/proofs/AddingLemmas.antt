@@ -16,9 +16,9 @@ use Rattle.journal_records.specs.declared.records.Record.{Record}
 use Rattle.mail_store.specs.Answers.{IsFold, OpensTo, IsJournalFault, LeavesRecords}
 use Rattle.mail_store.specs.Changing.{Changes, IsRefusedAs, IsStoreOf, HoldsFirst}
 use Rattle.mail_store.specs.Following.{Follows}
-use Rattle.mail_store.specs.Kept.{Kept, nothing, store_of}
+use Rattle.kept_mail.specs.Kept.{Kept, nothing, store_of}
 use Rattle.mail_store.specs.Opening.{HasRecords, IsBadAt}
-use Rattle.mail_store.specs.Records.{AreRecords}
+use Rattle.kept_mail.specs.Records.{AreRecords}
 use Rattle.journal_records.specs.Spelling.{journal}
 use Rattle.mail_store.specs.StoreState.{StoreState}
 use Rattle.mail_store.proofs.FollowLemmas.{followed, broken, Breaks-one, records_of-one, Follows-nil}

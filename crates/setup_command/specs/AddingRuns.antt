@@ -12,7 +12,7 @@ use Rattle.mail_store.specs.declared.opening.OpenFault.TheVariants as opening
 use Rattle.journal_records.specs.declared.records.Record.{Record}
 use Rattle.mail_store.specs.Answers.{LeavesRecords}
 use Rattle.mail_store.specs.Following.{Follows}
-use Rattle.mail_store.specs.Kept.{Kept, store_of}
+use Rattle.kept_mail.specs.Kept.{Kept, store_of}
 use Rattle.mail_store.specs.Opening.{HasRecords}
 use Rattle.mail_store.specs.StoreState.{StoreState}
 use Rattle.setup_command.specs.declared.statuses.TheConstants.{DONE, KEEPER_FAULT, BAD_JOURNAL, ADDING_REFUSED}

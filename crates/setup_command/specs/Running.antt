@@ -10,9 +10,9 @@ use Rattle.journal_records.specs.declared.records.Record.{Record}
 use Rattle.mail_store.specs.Answers.{IsFold, OpensTo, IsJournalFault}
 use Rattle.mail_store.specs.Changing.{HoldsFirst}
 use Rattle.mail_store.specs.Following.{records_of}
-use Rattle.mail_store.specs.Kept.{nothing, store_of}
+use Rattle.kept_mail.specs.Kept.{nothing, store_of}
 use Rattle.mail_store.specs.Opening.{IsBadAt}
-use Rattle.mail_store.specs.Records.{AreRecords}
+use Rattle.kept_mail.specs.Records.{AreRecords}
 use Rattle.journal_records.specs.Spelling.{journal}
 use Rattle.mail_store.specs.StoreState.{StoreState}
 use Rattle.setup_command.specs.declared.statuses.TheConstants.{WIRE_FAULT, KEEPER_FAULT, WANT_OF_MEMORY, BAD_JOURNAL}

@@ -13,7 +13,8 @@ ghost use Rattle.setup_command.specs.Statuses.{status_of};
 use crate::refusals::{tell_refused, tell_unopened};
 use crate::statuses::DONE;
 use address_grammar::Address;
-use mail_store::{MESSAGE_MAX, Store};
+use kept_mail::MESSAGE_MAX;
+use mail_store::Store;
 use mail_wire::{Fault, Keeper, Wire};
 use std::alloc::Global;
 

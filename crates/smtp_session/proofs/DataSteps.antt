@@ -7,7 +7,8 @@ use Rattle.std.proofs.lemmas.List.Elements.{All-nil, All-from_recursion}
 use Rattle.mail_wire.specs.Dots.{unstuffed}
 use Rattle.mail_wire.specs.Lines.{Cut}
 use Rattle.mail_wire.specs.declared.outside.Fault.{Fault}
-use Rattle.mail_store.specs.Changing.{delivery_refusal, has_large_octets}
+use Rattle.mail_store.specs.Changing.{delivery_refusal}
+use Rattle.kept_mail.specs.Deliveries.{has_large_octets}
 use Rattle.mail_store.specs.StoreState.{StoreState}
 use Rattle.session_core.specs.Around.{Around}
 use Rattle.session_core.specs.Doing.{Does}

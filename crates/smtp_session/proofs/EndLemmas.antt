@@ -4,11 +4,12 @@ use Rattle.std.specs.Prelude.{nat_lt}
 use Rattle.std.proofs.lemmas.Bool.Decides.{nat_tests}
 use Rattle.mail_wire.specs.Dots.{unstuffed}
 use Rattle.mail_wire.specs.declared.outside.Fault.{Fault}
-use Rattle.mail_store.specs.Changing.{IsDeliverable, has_large_octets}
-use Rattle.mail_store.specs.Kept.{name_of}
+use Rattle.mail_store.specs.Changing.{IsDeliverable}
+use Rattle.kept_mail.specs.Deliveries.{has_large_octets}
+use Rattle.kept_mail.specs.Kept.{name_of}
 use Rattle.mail_store.specs.StoreState.{StoreState}
 use Rattle.journal_records.specs.Stored.{IsStored}
-use Rattle.mail_store.specs.declared.delivery.Delivery.{Delivery}
+use Rattle.kept_mail.specs.declared.delivery.Delivery.{Delivery}
 use Rattle.session_core.specs.Around.{Around}
 use Rattle.session_core.specs.Desks.{IsStoreName}
 use Rattle.session_core.specs.Doing.{Does, Makes, Replies}

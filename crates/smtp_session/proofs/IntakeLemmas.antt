@@ -7,16 +7,17 @@ use Rattle.std.proofs.lemmas.List.Elements.{All-from_recursion, recursion_from_A
 use Rattle.std.proofs.lemmas.Option.{same_Some, none-some}
 use Rattle.address_grammar.specs.declared.Address.{Address}
 use Rattle.address_grammar.specs.Addresses.{address_text}
-use Rattle.mail_store.specs.declared.delivery.Delivery.{Delivery}
-use Rattle.mail_store.specs.declared.kept.Folder.{Folder}
-use Rattle.mail_store.specs.declared.kept.Message.{Message}
+use Rattle.kept_mail.specs.declared.delivery.Delivery.{Delivery}
+use Rattle.kept_mail.specs.declared.kept.Folder.{Folder}
+use Rattle.kept_mail.specs.declared.kept.Message.{Message}
 use Rattle.journal_records.specs.declared.records.Record.{Record}
 use Rattle.journal_records.specs.declared.records.Record.TheVariants as records
 use Rattle.mail_store.specs.Answers.{IsFold}
 use Rattle.journal_records.specs.Addresses.{path_text}
-use Rattle.mail_store.specs.Changing.{copy_for, delivered, delivery_refusal, has_large_octets, inboxes_of, queued}
-use Rattle.mail_store.specs.private.Delivering.{copied}
-use Rattle.mail_store.specs.Kept.{Kept, nothing, after_record, after_all, first_folder, inbox_of}
+use Rattle.mail_store.specs.Changing.{delivery_refusal}
+use Rattle.kept_mail.specs.Deliveries.{copy_for, delivered, has_large_octets, inboxes_of, queued}
+use Rattle.kept_mail.specs.private.Delivering.{copied}
+use Rattle.kept_mail.specs.Kept.{Kept, nothing, after_record, after_all, first_folder, inbox_of}
 use Rattle.mail_store.specs.StoreState.{StoreState}
 use Rattle.mail_store.proofs.ChangeLemmas.{after_all-append}
 use Rattle.mail_store.proofs.DeliveryLemmas.{after-copies}

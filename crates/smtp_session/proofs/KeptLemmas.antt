@@ -27,7 +27,7 @@ use Rattle.journal_records.specs.Addresses.{IsSendable}
 use Rattle.mail_store.specs.Changing.{IsDeliverable}
 use Rattle.mail_wire.specs.Numbers.{is_digit}
 use Rattle.journal_records.specs.Grammar.{IsDate, date_shape, fits_letter, months}
-use Rattle.mail_store.specs.Kept.{name_of}
+use Rattle.kept_mail.specs.Kept.{name_of}
 use Rattle.journal_records.specs.Stored.{IsStored}
 use Rattle.mail_store.specs.StoreState.{StoreState}
 use Rattle.smtp_grammar.specs.Commands.{is_client, is_client_octet}

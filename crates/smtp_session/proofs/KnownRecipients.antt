@@ -5,9 +5,9 @@ use Rattle.std.specs.List.{AllByRecursion, IsDistinct, list_any}
 use Rattle.std.proofs.lemmas.Bool.{cases_Bool, cond_both, or_parts}
 use Rattle.std.proofs.lemmas.List.Elements.{All-nil, All-push}
 use Rattle.address_grammar.specs.declared.Address.{Address}
-use Rattle.mail_store.specs.declared.kept.Account.{Account}
-use Rattle.mail_store.specs.declared.limits.TheConstants.{RECIPIENTS_MAX}
-use Rattle.mail_store.specs.Kept.{Kept, find_account, first_account, is_account_of, is_local}
+use Rattle.kept_mail.specs.declared.kept.Account.{Account}
+use Rattle.kept_mail.specs.declared.limits.TheConstants.{RECIPIENTS_MAX}
+use Rattle.kept_mail.specs.Kept.{Kept, find_account, first_account, is_account_of, is_local}
 use Rattle.mail_store.specs.StoreState.{StoreState}
 use Rattle.smtp_grammar.specs.declared.command.Verb.{Verb}
 use Rattle.smtp_grammar.specs.declared.command.Verb.TheVariants as verb

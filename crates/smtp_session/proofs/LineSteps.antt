@@ -6,7 +6,7 @@ use Rattle.mail_wire.specs.Framing.{Framed, waiting, whole, too_long, next_line}
 use Rattle.mail_wire.specs.declared.outside.Fault.{Fault}
 use Rattle.mail_wire.specs.declared.outside.Fault.TheVariants as fault
 use Rattle.mail_store.specs.Following.{records_of}
-use Rattle.mail_store.specs.Kept.{name_of}
+use Rattle.kept_mail.specs.Kept.{name_of}
 use Rattle.mail_store.specs.StoreState.{StoreState, with_records}
 use Rattle.session_core.specs.Acts.{acts_of}
 use Rattle.session_core.specs.Around.{Around}

@@ -8,7 +8,7 @@ use Rattle.mail_wire.specs.Lines.{crlf}
 use Rattle.mail_wire.specs.declared.values.Memory.{Memory}
 use Rattle.address_grammar.specs.declared.Address.{Address}
 use Rattle.address_grammar.specs.Addresses.{address_text, local_text, quoted_octet, quoted_string, is_dot_atom}
-use Rattle.mail_store.specs.Kept.{name_of}
+use Rattle.kept_mail.specs.Kept.{name_of}
 use Rattle.mail_store.specs.StoreState.{StoreState}
 use Rattle.smtp_session.specs.Machine.{offers}
 use Rattle.smtp_session.specs.Session.{reply_octets}

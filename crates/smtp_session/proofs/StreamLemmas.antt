@@ -12,12 +12,13 @@ use Rattle.session_core.specs.Turns.{Turn, all_turns}
 use Rattle.session_core.proofs.TurnsLemmas.{all_turns-stop, all_turns-go}
 use Rattle.mail_wire.specs.Dots.{unstuffed}
 use Rattle.ace_domains.proofs.FormLemmas.{form_name}
-use Rattle.mail_store.specs.declared.delivery.Delivery.{Delivery}
+use Rattle.kept_mail.specs.declared.delivery.Delivery.{Delivery}
 use Rattle.journal_records.specs.declared.records.Record.{Record}
 use Rattle.session_core.specs.Acts.{Act, gives, changes, acts_of}
 use Rattle.mail_store.specs.Answers.{IsFold}
-use Rattle.mail_store.specs.Changing.{delivered, delivery_refusal, has_large_octets}
-use Rattle.mail_store.specs.Kept.{name_of}
+use Rattle.mail_store.specs.Changing.{delivery_refusal}
+use Rattle.kept_mail.specs.Deliveries.{delivered, has_large_octets}
+use Rattle.kept_mail.specs.Kept.{name_of}
 use Rattle.mail_store.specs.StoreState.{StoreState, with_records}
 use Rattle.smtp_grammar.specs.declared.command.Verb.{Verb}
 use Rattle.smtp_grammar.specs.Commands.{command_of}

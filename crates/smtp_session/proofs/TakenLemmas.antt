@@ -10,12 +10,13 @@ use Rattle.session_core.proofs.TurnsLemmas.{all_turns-go}
 use Rattle.mail_wire.specs.Dots.{stuffed}
 use Rattle.mail_store.specs.declared.changing.StoreFault.{StoreFault}
 use Rattle.mail_store.specs.declared.changing.StoreFault.TheVariants as faults
-use Rattle.mail_store.specs.declared.delivery.Delivery.{Delivery}
-use Rattle.mail_store.specs.declared.limits.TheConstants.{THINGS_MAX}
+use Rattle.kept_mail.specs.declared.delivery.Delivery.{Delivery}
+use Rattle.kept_mail.specs.declared.limits.TheConstants.{THINGS_MAX}
 use Rattle.journal_records.specs.declared.records.Record.{Record}
 use Rattle.session_core.specs.Acts.{Act, gives, changes}
-use Rattle.mail_store.specs.Changing.{delivered, delivery_refusal, has_large_octets, has_many_things}
-use Rattle.mail_store.specs.Records.{recipient_count as waiting_count}
+use Rattle.mail_store.specs.Changing.{delivery_refusal}
+use Rattle.kept_mail.specs.Deliveries.{delivered, has_large_octets, has_many_things}
+use Rattle.kept_mail.specs.Records.{recipient_count as waiting_count}
 use Rattle.mail_store.specs.StoreState.{StoreState, with_records}
 use Rattle.journal_records.specs.Stored.{IsStored}
 use Rattle.smtp_grammar.specs.declared.command.Verb.TheVariants as verb

@@ -4,9 +4,9 @@ use Rattle.std.specs.Prelude.{nat_lt, slice_index_or, sum_by}
 use Rattle.std.specs.List.{list_any}
 use Rattle.std.proofs.lemmas.Bool.{cond_both}
 use Rattle.address_grammar.specs.declared.Address.{Address}
-use Rattle.mail_store.specs.declared.limits.TheConstants.{RECIPIENTS_MAX}
+use Rattle.kept_mail.specs.declared.limits.TheConstants.{RECIPIENTS_MAX}
 use Rattle.mail_store.specs.Answers.{IsFold}
-use Rattle.mail_store.specs.Kept.{Kept, find_account, is_local, name_of}
+use Rattle.kept_mail.specs.Kept.{Kept, find_account, is_local, name_of}
 use Rattle.mail_store.specs.StoreState.{StoreState}
 use Rattle.smtp_grammar.specs.declared.command.Verb.{Verb}
 use Rattle.smtp_grammar.specs.declared.command.Verb.TheVariants as verb

@@ -3,15 +3,15 @@ use Rattle.std.specs.Prelude.{◌≡◌, ◌≢◌, ℕ, ◌<◌, ◌++◌, ◌=
 use Rattle.std.specs.List.{All, IsDistinct}
 use Rattle.address_grammar.specs.declared.Address.{Address}
 use Rattle.address_grammar.specs.Addresses.{address_text}
-use Rattle.mail_store.specs.declared.delivery.Delivery.{Delivery}
-use Rattle.mail_store.specs.declared.kept.Entry.{Entry}
-use Rattle.mail_store.specs.declared.kept.Message.{Message}
+use Rattle.kept_mail.specs.declared.delivery.Delivery.{Delivery}
+use Rattle.kept_mail.specs.declared.kept.Entry.{Entry}
+use Rattle.kept_mail.specs.declared.kept.Message.{Message}
 use Rattle.journal_records.specs.declared.records.Record.{Record}
 use Rattle.session_core.specs.Acts.{Act, gives, changes}
 use Rattle.journal_records.specs.Addresses.{path_text}
-use Rattle.mail_store.specs.private.Delivering.{copied}
+use Rattle.kept_mail.specs.private.Delivering.{copied}
 use Rattle.mail_store.specs.Following.{records_of}
-use Rattle.mail_store.specs.Kept.{Kept, inbox_of, waiting}
+use Rattle.kept_mail.specs.Kept.{Kept, inbox_of, waiting}
 use Rattle.mail_store.specs.StoreState.{StoreState, with_records}
 use Rattle.smtp_session.specs.declared.states.Envelope.{Envelope}
 use Rattle.smtp_session.specs.Machine.{State, Step, fresh, greeted, mail, collecting, ended, is_same_remote}

@@ -5,12 +5,13 @@ use Rattle.std.specs.Str.{bytes_eq}
 use Rattle.mail_wire.specs.Octets.{is_ascii}
 use Rattle.address_grammar.specs.declared.Address.{Address}
 use Rattle.journal_records.specs.Addresses.{is_same_domain, path_text}
-use Rattle.mail_store.specs.Changing.{delivered, delivery_refusal, has_large_octets}
-use Rattle.mail_store.specs.Kept.{find_account, is_local, name_of}
+use Rattle.mail_store.specs.Changing.{delivery_refusal}
+use Rattle.kept_mail.specs.Deliveries.{delivered, has_large_octets}
+use Rattle.kept_mail.specs.Kept.{find_account, is_local, name_of}
 use Rattle.mail_store.specs.StoreState.{StoreState}
-use Rattle.mail_store.specs.declared.delivery.Delivery.{Delivery}
+use Rattle.kept_mail.specs.declared.delivery.Delivery.{Delivery}
 use Rattle.journal_records.specs.declared.limits.TheConstants.{TEXT_MAX}
-use Rattle.mail_store.specs.declared.limits.TheConstants.{RECIPIENTS_MAX}
+use Rattle.kept_mail.specs.declared.limits.TheConstants.{RECIPIENTS_MAX}
 use Rattle.journal_records.specs.declared.records.Record.{Record}
 use Rattle.smtp_grammar.specs.declared.command.Verb.{Verb}
 use Rattle.smtp_grammar.specs.declared.command.Verb.TheVariants as verb

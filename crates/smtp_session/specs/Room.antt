@@ -1,8 +1,8 @@
 -- Which messages a store has room for.
 use Rattle.std.specs.Prelude.{◌+◌, ◌<◌, ◌≤◌, length}
-use Rattle.mail_store.specs.declared.delivery.Delivery.{Delivery}
-use Rattle.mail_store.specs.declared.limits.TheConstants.{THINGS_MAX}
-use Rattle.mail_store.specs.Records.{recipient_count as waiting_count}
+use Rattle.kept_mail.specs.declared.delivery.Delivery.{Delivery}
+use Rattle.kept_mail.specs.declared.limits.TheConstants.{THINGS_MAX}
+use Rattle.kept_mail.specs.Records.{recipient_count as waiting_count}
 use Rattle.mail_store.specs.StoreState.{StoreState}
 
 -- A store takes a delivery: what is kept of it is no larger than a message may be, and it has room for as many messages, and where

@@ -4,9 +4,9 @@ use Rattle.std.specs.Prelude.{nat_lt, sum_by}
 use Rattle.std.specs.List.{AllByRecursion, list_any}
 use Rattle.std.specs.Fmt.{decimal}
 use Rattle.address_grammar.specs.declared.Address.{Address}
-use Rattle.mail_store.specs.Kept.{name_of, is_local, find_account}
+use Rattle.kept_mail.specs.Kept.{name_of, is_local, find_account}
 use Rattle.mail_store.specs.StoreState.{StoreState}
-use Rattle.mail_store.specs.declared.limits.TheConstants.{RECIPIENTS_MAX}
+use Rattle.kept_mail.specs.declared.limits.TheConstants.{RECIPIENTS_MAX}
 use Rattle.smtp_grammar.specs.declared.command.Verb.{Verb}
 use Rattle.smtp_grammar.specs.declared.command.Verb.TheVariants as verb
 use Rattle.smtp_grammar.specs.Commands.{is_client, path_behind, parameter_of, are_malformed, is_unknown, is_smtputf8, announced}

@@ -8,9 +8,9 @@ use Rattle.mail_wire.specs.Lines.{Cut, crlf}
 use Rattle.mail_wire.specs.Octets.{is_ascii}
 use Rattle.journal_records.specs.Addresses.{IsSendable}
 use Rattle.mail_store.specs.Following.{records_of}
-use Rattle.mail_store.specs.Kept.{name_of}
+use Rattle.kept_mail.specs.Kept.{name_of}
 use Rattle.mail_store.specs.StoreState.{StoreState, with_records}
-use Rattle.mail_store.specs.declared.limits.TheConstants.{RECIPIENTS_MAX}
+use Rattle.kept_mail.specs.declared.limits.TheConstants.{RECIPIENTS_MAX}
 use Rattle.smtp_grammar.specs.Commands.{command_of, is_client}
 use Rattle.smtp_grammar.specs.Data.{data_cut}
 use Rattle.smtp_grammar.specs.Reading.{HasRead}

@@ -18,12 +18,13 @@ use Rattle.mail_wire.proofs.FramingLemmas.{IsSteady, steady}
 use Rattle.ace_domains.proofs.FormLemmas.{form_ascii}
 use Rattle.address_grammar.specs.declared.Address.{Address}
 use Rattle.journal_records.specs.declared.records.Record.{Record}
-use Rattle.mail_store.specs.Kept.{name_of, Kept, after_all, find_account, is_local}
-use Rattle.mail_store.specs.Changing.{delivered, delivery_refusal, has_large_octets}
+use Rattle.kept_mail.specs.Kept.{name_of, Kept, after_all, find_account, is_local}
+use Rattle.mail_store.specs.Changing.{delivery_refusal}
+use Rattle.kept_mail.specs.Deliveries.{delivered, has_large_octets}
 use Rattle.mail_store.specs.Following.{records_of}
 use Rattle.mail_store.specs.StoreState.{StoreState, with_records}
-use Rattle.mail_store.specs.declared.delivery.Delivery.{Delivery}
-use Rattle.mail_store.specs.declared.limits.TheConstants.{RECIPIENTS_MAX}
+use Rattle.kept_mail.specs.declared.delivery.Delivery.{Delivery}
+use Rattle.kept_mail.specs.declared.limits.TheConstants.{RECIPIENTS_MAX}
 use Rattle.smtp_grammar.specs.Commands.{command_of, announced, are_malformed, is_client, is_smtputf8, is_unknown, parameter_of, path_behind}
 use Rattle.smtp_grammar.specs.Data.{data_cut}
 use Rattle.smtp_grammar.specs.declared.command.Verb.{Verb}

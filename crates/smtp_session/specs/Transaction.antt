@@ -2,8 +2,8 @@
 use Rattle.std.specs.Prelude.{◌≡◌, ◌⊎◌, ℕ, ◌++◌, ◌==◌, List, [], ◌∷◌, Bool, true, false, Option, Some, codes}
 use Rattle.std.specs.List.{list_any}
 use Rattle.address_grammar.specs.declared.Address.{Address}
-use Rattle.mail_store.specs.declared.delivery.Delivery.{Delivery}
-use Rattle.mail_store.specs.Kept.{Kept, find_account, is_local, name_of}
+use Rattle.kept_mail.specs.declared.delivery.Delivery.{Delivery}
+use Rattle.kept_mail.specs.Kept.{Kept, find_account, is_local, name_of}
 use Rattle.smtp_grammar.specs.Commands.{path_behind}
 use Rattle.smtp_session.specs.declared.states.Client.{Client}
 use Rattle.smtp_session.specs.declared.states.Envelope.{Envelope}

@@ -2,7 +2,7 @@
 ghost use Rattle.std.specs.Prelude.{◌≡◌, ◌++◌, ◌∷◌, [], IfOk};
 
 use address_grammar::Address;
-use mail_store::{Addresses, Numbers};
+use kept_mail::{Addresses, Numbers};
 use mail_wire::{Memory, Octets};
 use std::alloc::Global;
 

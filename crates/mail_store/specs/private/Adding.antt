@@ -1,17 +1,31 @@
 -- What reading a record and putting it last does, by its answer.
-use Rattle.std.specs.Prelude.{◌≡◌, ◌≢◌, ℕ, List, Result, Ok, Err}
+use Rattle.std.specs.Prelude.{◌≡◌, ◌≢◌, ℕ, ◌+◌, Bool, List, [], ◌∷◌, Result, Ok, Err}
 use Rattle.journal_records.specs.declared.reading.ReadFault.{ReadFault}
 use Rattle.journal_records.specs.declared.reading.ReadFault.TheVariants.{Memory, NoRecord}
 use Rattle.journal_records.specs.declared.records.Record.{Record}
 use Rattle.address_grammar.specs.declared.Address.{Address}
 use Rattle.journal_records.specs.declared.records.Record.TheVariants as records
 use Rattle.journal_records.specs.Addresses.{IsTextOfAddress, mailbox_key}
-use Rattle.mail_store.specs.Kept.{Kept}
-use Rattle.mail_store.specs.Records.{IsInOrder, IsRecord}
+use Rattle.kept_mail.specs.Kept.{Kept, after_record, after_all}
+use Rattle.kept_mail.specs.Records.{IsInOrder, IsRecord}
 use Rattle.journal_records.specs.Spelling.{fields_of}
-use Rattle.mail_store.specs.StoreState.{StoreState, with_record}
+use Rattle.mail_store.specs.StoreState.{StoreState, with_records}
 
--- The record was put last, or it is none. The store changes only at Ok.
+-- the store that keeps a record more, or some, and whose journal ends where it did
+abbrev pub with_record : StoreState → Record → StoreState
+with_record store one = record store { kept = after_record store.kept one }
+
+-- the store whose journal is so many octets longer, and the one of which this is noted
+abbrev pub lengthened : StoreState → ℕ → StoreState
+lengthened store len = record store { end = store.end + len }
+
+abbrev pub marked : StoreState → Bool → StoreState
+marked store failed = record store { failed = failed }
+
+abbrev pub keeping : StoreState → List Record → StoreState
+keeping store all = record store { kept = after_all store.kept all }
+
+-- The record is kept, or it is none. The store changes only at Ok.
 abbrev pub AddsRecord : {T : Type 0} → StoreState → StoreState → Result T ReadFault → Record → Type 0
 AddsRecord old new (Ok done) one = IsInOrder old.kept one × (new ≡ with_record old one)
 AddsRecord old new (Err Memory) one = new ≡ old
@@ -35,7 +49,7 @@ pub record Added (old new : StoreState) (fields : List ℕ) : Type 0 where
   pub one : Record
   pub is_record : IsRecord old.kept one
   pub text : fields ≡ fields_of one
-  pub new_is : new ≡ with_record old one
+  pub new_is : new ≡ with_records old (one ∷ [])
 
 -- these are no fields of a record
 abbrev pub NotAdded : StoreState → List ℕ → Type 0
@@ -43,5 +57,5 @@ NotAdded old fields = (one : Record) → IsRecord old.kept one → fields ≢ fi
 
 abbrev pub AddsNext : {T : Type 0} → StoreState → StoreState → Result T ReadFault → List ℕ → Type 0
 AddsNext old new (Ok done) fields = Added old new fields
-AddsNext old new (Err Memory) fields = Unit {0}
-AddsNext old new (Err NoRecord) fields = NotAdded old fields
+AddsNext old new (Err Memory) fields = new ≡ old
+AddsNext old new (Err NoRecord) fields = NotAdded old fields × (new ≡ old)

@@ -1,14 +1,16 @@
 -- Words of the private calls that go over a journal.
 use Rattle.std.specs.Prelude.{◌≡◌, ◌⊎◌, ℕ, ◌+◌, ◌≤◌, List, [], ◌++◌, length, take, drop, Option, Some, None, IfSome, IsTrue, ◌==◌, if◌then◌else◌}
+use Rattle.std.specs.List.{flat_map}
 use Rattle.mail_wire.specs.KeeperTelling.{KeeperTelling}
 use Rattle.mail_store.specs.declared.opening.OpenFault.{OpenFault}
 use Rattle.mail_store.specs.declared.opening.OpenFault.TheVariants as faults
 use Rattle.journal_records.specs.declared.records.Record.{Record}
-use Rattle.mail_store.specs.Kept.{Kept, nothing, store_of}
-use Rattle.mail_store.specs.Records.{AreRecords}
-use Rattle.mail_store.specs.Opening.{HasRecords, IsBadAt}
-use Rattle.journal_records.specs.Spelling.{journal, first_octets}
-use Rattle.mail_store.specs.StoreState.{StoreState}
+use Rattle.kept_mail.specs.Kept.{Kept, nothing, store_of}
+use Rattle.kept_mail.specs.Records.{AreRecords}
+use Rattle.mail_store.specs.Opening.{HasRecords, HasNoRecord, IsBadAt}
+use Rattle.journal_records.specs.Frames.{IsCutShort}
+use Rattle.journal_records.specs.Spelling.{record_text, journal, first_octets}
+use Rattle.mail_store.specs.StoreState.{StoreState, with_records}
 use Rattle.mail_store.specs.private.Adding.{NotAdded}
 
 -- the octets are as before, the count of faults isn't less, and a keeper that never fails goes on
@@ -33,22 +35,30 @@ IsFieldsFault told at n old faults.Keeper = Unit {0}
 IsFieldsFault told at n old (faults.BadJournal place) = (place ≡ at) × IfSome told (λ octets. NotAdded old (fields_at octets at n))
 IsFieldsFault told at n old faults.Memory = Unit {0}
 
--- the records so far, and the octets that are left, where they are told
-pub record IsSoFar (told : Option (List ℕ)) (at : ℕ) (first store : StoreState) : Type 0 where
-  pub all : List Record
-  pub records : AreRecords nothing all
-  pub kept_is : store.kept ≡ store_of all
-  pub at_is : at ≡ length (journal all)
-  pub text : IfSome told (λ octets. octets ≡ journal all ++ drop at octets)
-  pub message_max : store.message_max ≡ first.message_max
-  pub failed : store.failed ≡ first.failed
+-- These records were put last in a store, one after the other as they stand behind those that it had.
+pub record IsReadTo (told : Option (List ℕ)) (first store : StoreState) : Type 0 where
+  pub more : List Record
+  pub records : AreRecords first.kept more
+  pub store_is : store ≡ with_records first more
+  pub text : IfSome told (λ octets. drop first.end octets ≡ flat_map record_text more ++ drop store.end octets)
 
 -- what a loop over a journal keeps
-pub record IsGoing (before now : KeeperTelling) (at had : ℕ) (first store : StoreState) : Type 0 where
-  pub so_far : IsSoFar before.octets at first store
+pub record IsGoing (before now : KeeperTelling) (had : ℕ) (first store : StoreState) : Type 0 where
+  pub so_far : IsReadTo before.octets first store
   pub stays : KeeperStays before now
-  pub within : at ≤ had
-  pub begun : 8 ≤ at
+  pub within : store.end ≤ had
+
+-- where the store's journal ends, no record and no prefix of one stands
+pub record IsBadRest (octets : List ℕ) (store : StoreState) (at : ℕ) : Type 0 where
+  pub at_is : at ≡ store.end
+  pub no_prefix : IsCutShort (drop store.end octets) → ⊥
+  pub no_record : HasNoRecord store.kept (drop store.end octets)
+
+-- why no more records were put last
+abbrev pub IsRestFault : Option (List ℕ) → StoreState → OpenFault → Type 0
+IsRestFault told store faults.Keeper = Unit {0}
+IsRestFault told store (faults.BadJournal at) = IfSome told (λ octets. IsBadRest octets store at)
+IsRestFault told store faults.Memory = Unit {0}
 
 -- the first octets, or an empty journal
 abbrev pub repaired : ℕ → List ℕ → List ℕ

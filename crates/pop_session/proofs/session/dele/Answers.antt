@@ -1,7 +1,7 @@
 use Rattle.std.proofs.Common.{◌-◌, Some, Ok, true, refl}
 use Rattle.std.proofs.lemmas.Result.{err_from_is_err_and}
 use Rattle.mail_wire.specs.Numbers.{number_of}
-use Rattle.mail_store.specs.Kept.{change_at}
+use Rattle.kept_mail.specs.Kept.{change_at}
 use Rattle.pop_session.specs.Machine.{answers, done, marked, no_such_message, syntax_error, transaction}
 use Rattle.pop_session.proofs.MaildropLemmas.{knows-marked}
 use Rattle.pop_session.proofs.RowLemmas.{dele_found, found_within, takes_failed, takes_reply}

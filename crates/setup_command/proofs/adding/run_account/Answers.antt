@@ -2,7 +2,7 @@ use Rattle.std.proofs.Common.{ℕ}
 use Rattle.address_grammar.specs.Addresses.{address_text}
 use Rattle.address_lists.proofs.PathPiecesLemmas.{paths_read}
 use Rattle.mail_store.specs.Changing.{account_refusal}
-use Rattle.mail_store.specs.Kept.{Kept}
+use Rattle.kept_mail.specs.Kept.{Kept}
 use Rattle.journal_records.specs.declared.records.Record.TheVariants as records
 use Rattle.setup_command.proofs.AddingLemmas.{unopened, added, refused}
 use Rattle.setup_command.proofs.adding.run_account.Goals as goal

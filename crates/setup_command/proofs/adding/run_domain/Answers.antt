@@ -1,6 +1,6 @@
 use Rattle.ace_domains.specs.Domains.{compared_form}
 use Rattle.mail_store.specs.Changing.{domain_refusal}
-use Rattle.mail_store.specs.Kept.{Kept}
+use Rattle.kept_mail.specs.Kept.{Kept}
 use Rattle.journal_records.specs.declared.records.Record.TheVariants as records
 use Rattle.setup_command.proofs.AddingLemmas.{unopened, added, refused}
 use Rattle.setup_command.proofs.adding.run_domain.Goals as goal

@@ -1,8 +1,8 @@
 use Rattle.std.proofs.Common.{◌≡◌, ◌<◌, ℕ, List, length, subst, ◌∙◌, arith}
 use Rattle.journal_records.specs.Addresses.{mailbox_key}
-use Rattle.mail_store.specs.declared.limits.TheConstants.{THINGS_MAX}
+use Rattle.kept_mail.specs.declared.limits.TheConstants.{THINGS_MAX}
 use Rattle.mail_store.specs.private.Adding.{HasKey}
-use Rattle.mail_store.specs.private.Names.{number_named, PutsName}
+use Rattle.kept_mail.specs.private.Names.{number_named, PutsName}
 use Rattle.mail_store.specs.private.Store.{kept_of, indexes_of}
 use Rattle.mail_store.proofs.IndexLemmas.{AreIndexes-account}
 use Rattle.mail_store.proofs.storing.Store.add_account_record.Goals as goal
@@ -26,6 +26,6 @@ invariant_of-self-2 c =
         c.in_ok-inbox.ensures.folders,
         c.in_ok-inbox.ensures.contents,
         c.in_ok-inbox.ensures.inboxes,
-      ) (AreIndexes-account (kept_of c.self.inside) (indexes_of c.self.inside) after (record { address = c.args.address; password = c.args.password }) keyed.own c.in_ok-inbox.inbox c.self.invariant.indexes keyed.text more room puts);
+      ) (AreIndexes-account (kept_of c.self.inside) (indexes_of c.self.inside) after (record { address = c.args.address; password = c.args.password }) keyed.own c.in_ok-inbox.inbox c.in_ok-inbox.ensures.name c.self.invariant.indexes keyed.text more room puts);
       message_bound = c.self.invariant.message_bound;
     }

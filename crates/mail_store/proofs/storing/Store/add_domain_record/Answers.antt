@@ -1,7 +1,7 @@
 use Rattle.std.proofs.Common.{◌≡◌, ◌<◌, ℕ, List, length, subst, arith}
-use Rattle.mail_store.specs.declared.limits.TheConstants.{THINGS_MAX}
+use Rattle.kept_mail.specs.declared.limits.TheConstants.{THINGS_MAX}
 use Rattle.journal_records.specs.Addresses.{IsDomainText}
-use Rattle.mail_store.specs.private.Names.{number_named, PutsName}
+use Rattle.kept_mail.specs.private.Names.{number_named, PutsName}
 use Rattle.mail_store.specs.private.Store.{kept_of, indexes_of}
 use Rattle.mail_store.proofs.IndexLemmas.{AreIndexes-domain, AreIndexes-locals}
 use Rattle.mail_store.proofs.storing.Store.add_domain_record.Goals as goal

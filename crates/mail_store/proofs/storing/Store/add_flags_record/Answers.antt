@@ -1,6 +1,6 @@
-use Rattle.mail_store.specs.Kept.{change_at, with_flags}
+use Rattle.kept_mail.specs.Kept.{change_at, with_flags}
 use Rattle.mail_store.specs.private.Store.{kept_of, indexes_of}
-use Rattle.mail_store.proofs.SameMessages.{AreSameMessages-flags}
+use Rattle.kept_mail.proofs.SameMessages.{AreSameMessages-flags}
 use Rattle.mail_store.proofs.IndexLemmas.{AreIndexes-changed}
 use Rattle.mail_store.proofs.storing.Store.add_flags_record.Goals as goal
 

@@ -1,7 +1,8 @@
-use Rattle.std.proofs.Common.{arith, ◌<◌, length}
-use Rattle.mail_store.specs.declared.limits.TheConstants.{THINGS_MAX}
+use Rattle.std.proofs.Common.{◌≡◌, ℕ, List, arith, ◌<◌, length, ap, subst, ◌∙◌}
+use Rattle.kept_mail.specs.declared.limits.TheConstants.{THINGS_MAX}
+use Rattle.kept_mail.specs.private.Names.{folder_key, number_named, PutsName}
 use Rattle.mail_store.specs.private.Store.{kept_of, indexes_of}
-use Rattle.mail_store.proofs.IndexLemmas.{AreIndexes-folder}
+use Rattle.mail_store.proofs.IndexLemmas.{AreIndexes-folder, AreIndexes-names}
 use Rattle.mail_store.proofs.storing.Store.add_folder_record.Goals as goal
 
 pub invariant_of-self-2 : goal.invariant_of-self-2
@@ -9,8 +10,21 @@ invariant_of-self-2 c =
     let there : c.args.account < length c.self.inside.accounts.items = omega arith in
     let has = c.has_room.ensures.0 c.if-not-has_room.false in
     let room : length c.self.inside.folders.items < THINGS_MAX = omega (arith, has) in
+    let number : c.len-number.result ≡ length c.self.inside.folders.items = omega (arith, c.len-number.ensures) in
+    let after = number_named c.put_first.new.numbers in
+    let key = c.as_slice-3.ensures ∙ c.in_ok-key.ensures ∙ ap (folder_key c.args.account) c.as_slice-2.ensures in
+    let puts : PutsName (number_named c.self.inside.names) after (folder_key c.args.account c.args.name) (length c.self.inside.folders.items) =
+    subst (λ (k : List ℕ). PutsName (number_named c.self.inside.names) after k (length c.self.inside.folders.items)) key
+    (subst (PutsName (number_named c.self.inside.names) after c.as_slice-3.result.now) number c.in_ok-put_first.ensures.ok) in
     record {
-      indexes = rw (c.push_reserved.ensures.items, c.in_ok-push.ensures.items, c.in_ok-reserve.ensures.items)
-          (AreIndexes-folder (kept_of c.self.inside) (indexes_of c.self.inside) (record { account = c.args.account; name = c.args.name }) c.self.invariant.indexes there room);
+      indexes = rw (c.put_folder.ensures.folders, c.put_folder.ensures.contents, c.in_ok-reserve_folder.ensures.folders, c.in_ok-reserve_folder.ensures.contents)
+          (AreIndexes-folder (kept_of c.self.inside) (indexes_of c.self.inside) after (record { account = c.args.account; name = c.args.name }) c.self.invariant.indexes there room puts);
       message_bound = c.self.invariant.message_bound;
     }
+
+pub invariant_of-self-in_err-put_first : goal.invariant_of-self-in_err-put_first
+invariant_of-self-in_err-put_first c = record {
+  indexes = rw (c.in_ok-reserve_folder.ensures.folders, c.in_ok-reserve_folder.ensures.contents)
+      (AreIndexes-names (kept_of c.self.inside) (indexes_of c.self.inside) (number_named c.put_first.new.numbers) c.self.invariant.indexes c.in_err-put_first.ensures.err);
+  message_bound = c.self.invariant.message_bound;
+}

@@ -1,13 +1,13 @@
 use Rattle.std.proofs.Common.{◌≡◌, ◌+◌, ◌≤◌, List, [], ◌∷◌, ◌++◌, length, true, refl, subst, sym, ap, ◌∙◌, arith}
 use Rattle.std.specs.List.{All}
 use Rattle.std.proofs.lemmas.List.Elements.{All-push, All-nil}
-use Rattle.mail_store.specs.declared.kept.Message.{Message}
-use Rattle.mail_store.specs.declared.limits.TheConstants.{THINGS_MAX}
-use Rattle.mail_store.specs.private.Chains.{AreChained}
+use Rattle.kept_mail.specs.declared.kept.Message.{Message}
+use Rattle.kept_mail.specs.declared.limits.TheConstants.{THINGS_MAX}
+use Rattle.kept_mail.specs.private.Chains.{AreChained}
 use Rattle.mail_store.specs.private.Store.{kept_of, indexes_of}
 use Rattle.journal_records.specs.Stored.{IsStored}
 use Rattle.mail_store.proofs.IndexLemmas.{AreIndexes-messages}
-use Rattle.mail_store.proofs.QueueLemmas.{refutes}
+use Rattle.kept_mail.proofs.QueueLemmas.{refutes}
 use Rattle.mail_store.proofs.storing.Store.add_message_record.Goals as goal
 
 pub returns-then-not-branch : goal.returns-then-not-branch

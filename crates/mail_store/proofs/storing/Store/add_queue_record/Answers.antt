@@ -1,9 +1,10 @@
 use Rattle.std.proofs.Common.{Some, refl, ap}
 use Rattle.journal_records.specs.declared.records.Record.TheVariants as records
 use Rattle.mail_store.specs.private.Store.{kept_of, indexes_of}
-use Rattle.mail_store.specs.StoreState.{StoreState, with_record}
+use Rattle.mail_store.specs.StoreState.{StoreState}
+use Rattle.mail_store.specs.private.Adding.{with_record}
 use Rattle.mail_store.proofs.EntryLemmas.{recorded-room, indexes-entry, few-recipients}
-use Rattle.mail_store.proofs.QueueLemmas.{refutes}
+use Rattle.kept_mail.proofs.QueueLemmas.{refutes}
 use Rattle.mail_store.proofs.storing.Store.add_queue_record.Goals as goal
 
 pub returns-then-not-branch : goal.returns-then-not-branch

@@ -1,11 +1,11 @@
 use Rattle.std.proofs.Common.{◌+◌, ◌<◌, ◌≤◌, length, subst, arith}
 use Rattle.std.specs.Prelude.{IfOk, IsTrue, ◌↔◌}
 use Rattle.journal_records.specs.declared.records.Record.TheVariants as records
-use Rattle.mail_store.specs.declared.limits.TheConstants.{THINGS_MAX}
-use Rattle.mail_store.specs.Records.{IsInOrder, recipient_count}
+use Rattle.kept_mail.specs.declared.limits.TheConstants.{THINGS_MAX}
+use Rattle.kept_mail.specs.Records.{IsInOrder, recipient_count}
 use Rattle.mail_store.specs.StoreState.{StoreState}
 use Rattle.mail_store.specs.private.Store.{kept_of}
-use Rattle.mail_store.proofs.QueueLemmas.{few_enough, waits}
+use Rattle.kept_mail.proofs.QueueLemmas.{few_enough, waits}
 use Rattle.mail_store.proofs.storing.Store.can_wait.Goals as goal
 
 pub returns : goal.returns

@@ -1,6 +1,6 @@
 use Rattle.std.proofs.Common.{◌≡◌, map, take}
-use Rattle.mail_store.specs.Changing.{inboxes_of}
-use Rattle.mail_store.specs.private.Delivering.{copied}
+use Rattle.kept_mail.specs.Deliveries.{inboxes_of}
+use Rattle.kept_mail.specs.private.Delivering.{copied}
 use Rattle.mail_store.proofs.storing.Store.copies.Given as goal
 
 abbrev pub invariant-loop-account : goal.invariant-loop-account

@@ -1,7 +1,7 @@
 use Rattle.std.proofs.Common.{◌≡◌, map, take}
 use Rattle.std.specs.List.{flat_map}
-use Rattle.mail_store.specs.Changing.{copy_for, inboxes_of}
-use Rattle.mail_store.specs.private.Delivering.{fronts_text}
+use Rattle.kept_mail.specs.Deliveries.{copy_for, inboxes_of}
+use Rattle.kept_mail.specs.private.Delivering.{fronts_text}
 use Rattle.journal_records.specs.Spelling.{record_text}
 use Rattle.mail_store.proofs.storing.Store.copy_fronts.Given as goal
 

@@ -1,8 +1,9 @@
 use Rattle.std.proofs.Common.{true, false, sym, subst, ◌∙◌}
 use Rattle.std.proofs.lemmas.Result.{err_from_is_err_and}
 use Rattle.std.proofs.lemmas.Bool.{true≢false}
-use Rattle.mail_store.specs.declared.parcels.Parcel.{Parcel}
-use Rattle.mail_store.specs.Changing.{IsRefusedAs, delivered, delivery_refusal}
+use Rattle.kept_mail.specs.declared.parcels.Parcel.{Parcel}
+use Rattle.mail_store.specs.Changing.{IsRefusedAs, delivery_refusal}
+use Rattle.kept_mail.specs.Deliveries.{delivered}
 use Rattle.mail_store.proofs.AccountLemmas.{refused_as}
 use Rattle.mail_store.proofs.EntryLemmas.{changes-nothing, for-nobody, nobody-of}
 use Rattle.mail_store.proofs.storing.Store.deliver.Goals as goal

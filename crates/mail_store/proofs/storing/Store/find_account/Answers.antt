@@ -1,6 +1,6 @@
 use Rattle.std.proofs.Common.{◌≡◌, ◌∙◌, ◌<◌, length, subst, IfSome}
 use Rattle.journal_records.specs.Addresses.{WithPaths}
-use Rattle.mail_store.specs.Kept.{find_account}
+use Rattle.kept_mail.specs.Kept.{find_account}
 use Rattle.mail_store.specs.private.Store.{kept_of, indexes_of}
 use Rattle.mail_store.specs.StoreState.{StoreState}
 use Rattle.mail_store.proofs.MailboxLemmas.{found_is, found_known}

@@ -4,8 +4,8 @@ use Rattle.std.proofs.lemmas.Result.{err_from_is_err_and}
 use Rattle.address_lists.proofs.PathPiecesLemmas.{path_parts}
 use Rattle.mail_store.specs.declared.changing.StoreFault.TheVariants as faults
 use Rattle.mail_store.specs.Changing.{account_refusal, IsRefusedAs}
-use Rattle.mail_store.specs.private.Delivering.{room_refusal}
-use Rattle.mail_store.specs.private.Names.{number_named}
+use Rattle.mail_store.specs.private.Accounts.{room_refusal}
+use Rattle.kept_mail.specs.private.Names.{number_named}
 use Rattle.mail_store.specs.private.Store.{kept_of, indexes_of}
 use Rattle.mail_store.proofs.AccountLemmas.{found_account, account_exists, account_rest, refused_as}
 use Rattle.mail_store.proofs.storing.Store.free_key.Goals as goal

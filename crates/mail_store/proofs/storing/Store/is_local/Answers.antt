@@ -1,5 +1,5 @@
 use Rattle.std.proofs.Common.{◌≡◌, ◌∙◌, subst}
-use Rattle.mail_store.specs.Kept.{is_local}
+use Rattle.kept_mail.specs.Kept.{is_local}
 use Rattle.mail_store.specs.private.Store.{kept_of, indexes_of}
 use Rattle.mail_store.specs.StoreState.{StoreState}
 use Rattle.mail_store.proofs.MailboxLemmas.{local_is}

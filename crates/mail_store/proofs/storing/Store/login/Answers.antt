@@ -1,7 +1,7 @@
 use Rattle.std.proofs.Common.{true, false, List, sym, ap, ◌∙◌}
 use Rattle.std.specs.Prelude.{slice_get}
-use Rattle.mail_store.specs.declared.kept.Account.{Account}
-use Rattle.mail_store.specs.Kept.{has_password}
+use Rattle.kept_mail.specs.declared.kept.Account.{Account}
+use Rattle.kept_mail.specs.Kept.{has_password}
 use Rattle.mail_store.specs.StoreState.{StoreState}
 use Rattle.mail_store.proofs.MailboxLemmas.{login_some, login_none}
 use Rattle.mail_store.proofs.storing.Store.login.Goals as goal

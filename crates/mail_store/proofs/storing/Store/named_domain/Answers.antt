@@ -1,8 +1,9 @@
 use Rattle.std.proofs.Common.{◌≡◌, None, Some, length, sym, ap, subst, ◌∙◌, arith}
 use Rattle.std.specs.Prelude.{is_some}
 use Rattle.mail_store.specs.declared.changing.StoreFault.TheVariants as faults
-use Rattle.mail_store.specs.Changing.{are_too_many, domain_refusal}
-use Rattle.mail_store.specs.private.Names.{number_named}
+use Rattle.mail_store.specs.Changing.{domain_refusal}
+use Rattle.kept_mail.specs.Records.{are_too_many}
+use Rattle.kept_mail.specs.private.Names.{number_named}
 use Rattle.mail_store.specs.private.Store.{kept_of, indexes_of}
 use Rattle.mail_store.proofs.DomainLemmas.{writable-domain, found_domain, domain_exists, domain_many, domain_taken}
 use Rattle.mail_store.proofs.storing.Store.named_domain.Goals as goal

@@ -2,12 +2,13 @@ use Rattle.std.proofs.Common.{◌≡◌, None, ap₂, ◌<◌, List, ◌++◌, l
 use Rattle.std.specs.List.{All}
 use Rattle.std.specs.Option.{option_to_list}
 use Rattle.std.proofs.lemmas.Result.{err_from_is_err_and}
-use Rattle.mail_store.specs.declared.kept.Entry.{Entry}
-use Rattle.mail_store.specs.declared.kept.Message.{Message}
-use Rattle.mail_store.specs.Changing.{inboxes_of, IsDeliverable, delivered, delivery_refusal}
-use Rattle.mail_store.specs.private.Delivering.{copied, delivery_text}
-use Rattle.mail_store.specs.Kept.{after_all}
-use Rattle.mail_store.specs.Records.{AreRecords}
+use Rattle.kept_mail.specs.declared.kept.Entry.{Entry}
+use Rattle.kept_mail.specs.declared.kept.Message.{Message}
+use Rattle.mail_store.specs.Changing.{IsDeliverable, delivery_refusal}
+use Rattle.kept_mail.specs.Deliveries.{inboxes_of, delivered}
+use Rattle.kept_mail.specs.private.Delivering.{copied, delivery_text}
+use Rattle.kept_mail.specs.Kept.{after_all}
+use Rattle.kept_mail.specs.Records.{AreRecords}
 use Rattle.mail_store.specs.private.Store.{kept_of, indexes_of, state_of}
 use Rattle.mail_store.specs.StoreState.{StoreState}
 use Rattle.mail_store.proofs.ChangeLemmas.{changes-unwritten, changes-written}
@@ -27,10 +28,10 @@ returns-in_err-write_delivery-clause-changes g c =
     let text = c.requires.text in
     let octets = delivery_text parcel.fronts.items parcel.waiting.front delivery in
     let all = ap (λ s. delivered s.kept delivery) c.self.view_is in
-    let n = ap₂ (λ m e. let s : StoreState = record { kept = record (kept_of c.self.inside) { messages = m; entries = e }; message_max = c.self.inside.message_max; failed = c.write_delivery.new.failed } in s)
+    let n = ap₂ (λ m e. let s : StoreState = record { kept = record (kept_of c.self.inside) { messages = m; entries = e }; message_max = c.self.inside.message_max; failed = c.write_delivery.new.progress.failed; end = c.write_delivery.new.progress.end } in s)
     c.in_err-write_delivery.ensures.messages c.in_err-write_delivery.ensures.entries in
     rw (failed.1, failed.2)
-    (changes-unwritten (Unit {0}) c.args.self.now old _ c.write_delivery.new.failed (g.J.Keeper.tells c.args.keeper.now).octets (g.J.Keeper.tells c.write_delivery.new.keeper).octets
+    (changes-unwritten (Unit {0}) c.args.self.now old _ c.write_delivery.new.progress (g.J.Keeper.tells c.args.keeper.now).octets (g.J.Keeper.tells c.write_delivery.new.keeper).octets
     c.in_err-write_delivery.field-0.0 (delivered c.args.self.now.kept delivery) octets c.self.view_is (subst (AreRecords old.kept) all them) text n c.in_err-write_delivery.ensures.writes)
 
 pub put_parcel-requires-clause-few : goal.put_parcel-requires-clause-few
@@ -91,7 +92,7 @@ returns-clause-changes g c =
     let entries = c.put_parcel.ensures.entries ∙ ap (λ (l : List Entry). l ++ option_to_list parcel.waiting.entry) c.in_ok-write_delivery.ensures.entries in
     let kept = after-delivered old.kept delivery parcel.copies.items entry.0 parcel.waiting.entry c.put_parcel.new.messages.items c.put_parcel.new.entries.items
     copies entry.1 entry.2 messages entries in
-    let n = ap (λ k. let s : StoreState = record { kept = k; message_max = c.self.inside.message_max; failed = c.write_delivery.new.failed } in s) (kept ∙ ap (after_all old.kept) all) in
+    let n = ap (λ k. let s : StoreState = record { kept = k; message_max = c.self.inside.message_max; failed = c.write_delivery.new.progress.failed; end = c.write_delivery.new.progress.end } in s) (kept ∙ ap (after_all old.kept) all) in
     let written = c.in_ok-write_delivery.ensures.writes in
-    changes-written c.args.self.now old c.write_delivery.new.failed _ (g.J.Keeper.tells c.args.keeper.now).octets (g.J.Keeper.tells c.write_delivery.new.keeper).octets (delivered c.args.self.now.kept delivery)
+    changes-written c.args.self.now old c.write_delivery.new.progress _ (g.J.Keeper.tells c.args.keeper.now).octets (g.J.Keeper.tells c.write_delivery.new.keeper).octets (delivered c.args.self.now.kept delivery)
     octets c.self.view_is (subst (AreRecords old.kept) all them) text written.0 written.1 n

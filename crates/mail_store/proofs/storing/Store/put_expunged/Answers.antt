@@ -1,6 +1,6 @@
-use Rattle.mail_store.specs.Kept.{change_at, gone}
+use Rattle.kept_mail.specs.Kept.{change_at, gone}
 use Rattle.mail_store.specs.private.Store.{kept_of, indexes_of}
-use Rattle.mail_store.proofs.SameMessages.{AreSameMessages-gone}
+use Rattle.kept_mail.proofs.SameMessages.{AreSameMessages-gone}
 use Rattle.mail_store.proofs.IndexLemmas.{AreIndexes-changed}
 use Rattle.mail_store.proofs.storing.Store.put_expunged.Goals as goal
 

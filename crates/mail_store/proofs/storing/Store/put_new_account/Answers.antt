@@ -4,10 +4,10 @@ use Rattle.address_grammar.proofs.WritingLemmas.{path_again}
 use Rattle.journal_records.specs.declared.records.Record.TheVariants as records
 use Rattle.journal_records.specs.Addresses.{IsTextOfAddress, WithPaths}
 use Rattle.mail_store.specs.Changing.{account_refusal}
-use Rattle.mail_store.specs.private.Names.{number_named, PutsName}
+use Rattle.kept_mail.specs.private.Names.{number_named, PutsName}
 use Rattle.mail_store.specs.private.Store.{kept_of, indexes_of, state_of}
 use Rattle.mail_store.specs.StoreState.{StoreState}
-use Rattle.mail_store.specs.Records.{AreRecords}
+use Rattle.kept_mail.specs.Records.{AreRecords}
 use Rattle.mail_store.proofs.ChangeLemmas.{changes-unwritten, refused-unwritten, changes-written, text-one}
 use Rattle.mail_store.proofs.DomainLemmas.{AreIndexes-same_mailboxes}
 use Rattle.mail_store.proofs.AccountLemmas.{account_taken, refused_as, room_for, AreRecords-account, account_after}
@@ -41,17 +41,17 @@ returns-in_err-write_named-clause-changes g c =
     let text = text-one one made.named.text c.requires.text_is in
     let them = subst (λ a. AreRecords (kept_of c.self.inside) (records.Account a made.own.password ∷ [])) (sym c.requires.own_is)
     (AreRecords-account (kept_of c.self.inside) c.requires.address made.own.password c.requires.sendable c.requires.short room.0 room.1) in
-    let n = ap₂ (λ a f. let s : StoreState = record { kept = record (kept_of c.self.inside) { accounts = a; folders = f }; message_max = c.self.inside.message_max; failed = c.write_named.new.failed } in s)
+    let n = ap₂ (λ a f. let s : StoreState = record { kept = record (kept_of c.self.inside) { accounts = a; folders = f }; message_max = c.self.inside.message_max; failed = c.write_named.new.progress.failed; end = c.write_named.new.progress.end } in s)
     c.in_ok-inbox.ensures.accounts c.in_ok-inbox.ensures.folders in
     rw (failed.1, failed.2)
-    (changes-unwritten ℕ c.args.self.now (state_of c.self.inside) _ c.write_named.new.failed (g.J.Keeper.tells c.args.keeper.now).octets (g.J.Keeper.tells c.write_named.new.keeper).octets
+    (changes-unwritten ℕ c.args.self.now (state_of c.self.inside) _ c.write_named.new.progress (g.J.Keeper.tells c.args.keeper.now).octets (g.J.Keeper.tells c.write_named.new.keeper).octets
     c.in_err-write_named.field-0.0 (one ∷ []) made.named.text c.self.view_is them text n c.in_err-write_named.ensures.writes)
 
 pub returns-in_err-write_named-clause-refusal : goal.returns-in_err-write_named-clause-refusal
 returns-in_err-write_named-clause-refusal g c =
     let failed = err_from_is_err_and c.from_residual-in_err-write_named.result c.from_residual-in_err-write_named.ensures.1 in
     rw (failed.1, failed.2) (refused_as (Unit {0}) ℕ c.in_err-write_named.field-0.0 None
-    (refused-unwritten (Unit {0}) c.self.inside.failed c.write_named.new.failed (g.J.Keeper.tells c.args.keeper.now).octets (g.J.Keeper.tells c.write_named.new.keeper).octets
+    (refused-unwritten (Unit {0}) c.self.inside.progress c.write_named.new.progress (g.J.Keeper.tells c.args.keeper.now).octets (g.J.Keeper.tells c.write_named.new.keeper).octets
     c.in_err-write_named.field-0.0 c.args.made.named.text None refl c.in_err-write_named.ensures.writes))
 
 pub invariant_of-self-2 : goal.invariant_of-self-2
@@ -75,7 +75,7 @@ invariant_of-self-2 g c =
         c.in_ok-inbox.ensures.folders,
         c.in_ok-inbox.ensures.contents,
         c.in_ok-inbox.ensures.inboxes,
-      ) (AreIndexes-account (kept_of c.self.inside) (indexes_of c.self.inside) (number_named c.write_named.new.numbers) made.own c.requires.address c.in_ok-inbox.inbox c.self.invariant.indexes text room.0 room.1 named);
+      ) (AreIndexes-account (kept_of c.self.inside) (indexes_of c.self.inside) (number_named c.write_named.new.numbers) made.own c.requires.address c.in_ok-inbox.inbox c.in_ok-inbox.ensures.name c.self.invariant.indexes text room.0 room.1 named);
       message_bound = c.self.invariant.message_bound;
     }
 
@@ -89,10 +89,10 @@ returns-clause-changes g c =
     let text = text-one one made.named.text c.requires.text_is in
     let them = subst (λ a. AreRecords (kept_of c.self.inside) (records.Account a made.own.password ∷ [])) (sym c.requires.own_is)
     (AreRecords-account (kept_of c.self.inside) c.requires.address made.own.password c.requires.sendable c.requires.short room.0 room.1) in
-    let n = account_after (state_of c.self.inside) c.write_named.new.failed made.own made.own.address made.own.password c.in_ok-inbox.inbox
+    let n = account_after (state_of c.self.inside) c.write_named.new.progress made.own made.own.address made.own.password c.in_ok-inbox.inbox
     c.put_account.new.accounts.items c.put_account.new.folders.items refl refl c.in_ok-inbox.ensures.name
     (rw c.in_ok-inbox.ensures.accounts at c.put_account.ensures.accounts)
     (rw (c.in_ok-inbox.ensures.accounts, c.in_ok-inbox.ensures.folders) at c.put_account.ensures.folders) in
     let written = c.in_ok-write_named.ensures.writes in
-    changes-written c.args.self.now (state_of c.self.inside) c.write_named.new.failed _ (g.J.Keeper.tells c.args.keeper.now).octets (g.J.Keeper.tells c.write_named.new.keeper).octets
+    changes-written c.args.self.now (state_of c.self.inside) c.write_named.new.progress _ (g.J.Keeper.tells c.args.keeper.now).octets (g.J.Keeper.tells c.write_named.new.keeper).octets
     (one ∷ []) made.named.text c.self.view_is them text written.0 written.1 n

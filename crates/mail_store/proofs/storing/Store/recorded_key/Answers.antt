@@ -6,8 +6,8 @@ use Rattle.std.proofs.lemmas.Bool.{false≢true}
 use Rattle.journal_records.specs.declared.records.Record.TheVariants as records
 use Rattle.journal_records.specs.Addresses.{IsTextOfAddress}
 use Rattle.journal_records.proofs.AddressTexts.{address_missing}
-use Rattle.mail_store.specs.declared.limits.TheConstants.{THINGS_MAX}
-use Rattle.mail_store.specs.Records.{IsInOrder}
+use Rattle.kept_mail.specs.declared.limits.TheConstants.{THINGS_MAX}
+use Rattle.kept_mail.specs.Records.{IsInOrder}
 use Rattle.mail_store.specs.private.Store.{kept_of}
 use Rattle.mail_store.specs.StoreState.{StoreState}
 use Rattle.mail_store.proofs.storing.Store.recorded_key.Goals as goal

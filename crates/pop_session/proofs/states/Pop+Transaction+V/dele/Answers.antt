@@ -1,4 +1,4 @@
-use Rattle.mail_store.proofs.Places.{set-change_at}
+use Rattle.kept_mail.proofs.Places.{set-change_at}
 use Rattle.pop_session.specs.Machine.{marked}
 use Rattle.pop_session.proofs.states.Pop+Transaction+V.dele.Goals as goal
 use Rattle.std.proofs.Common.{true}

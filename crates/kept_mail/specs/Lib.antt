@@ -1,0 +1,4 @@
+pub mod Kept
+pub mod Records
+pub mod Deliveries
+pub mod private

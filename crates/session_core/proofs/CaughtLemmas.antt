@@ -1,0 +1,74 @@
+-- A desk that catches up, or is opened anew.
+use Rattle.std.proofs.Common.{◌≡◌, ℕ, List, [], ◌∷◌, ◌++◌, Option, Some, Result, Ok, Err, ap, sym, subst, ◌∙◌, inl}
+use Rattle.std.specs.Prelude.{IfOk, IfSome, OnOk, codes, is_err, slice_index_or}
+use Rattle.std.proofs.lemmas.Option.{IfSome_then}
+use Rattle.journal_records.specs.Addresses.{IsDomainText}
+use Rattle.journal_records.specs.declared.records.Record.{Record}
+use Rattle.journal_records.specs.declared.records.Record.TheVariants as records
+use Rattle.kept_mail.specs.Kept.{Kept, after_all, after_record, name_of}
+use Rattle.kept_mail.specs.Records.{AreRecords, IsRecord}
+use Rattle.mail_store.specs.Answers.{OpensTo}
+use Rattle.mail_store.specs.Catching.{CatchesUp, ReadsOn}
+use Rattle.mail_store.specs.StoreState.{StoreState, AreStored}
+use Rattle.mail_store.specs.declared.opening.OpenFault.{OpenFault}
+use Rattle.session_core.specs.Desks.{AreLimits, HasFirst, IsOpen, IsStoreName, WorksWithin}
+use Rattle.session_core.specs.declared.desk.Desk.{Desk}
+use Rattle.session_core.specs.declared.desk.Limits.{Limits}
+use Rattle.session_core.proofs.DeskLemmas.{AreStored-after}
+
+-- ---- the desk is open again
+
+first_domain : (domains : List (List ℕ)) (name : List ℕ) → IsDomainText name → IsStoreName (slice_index_or domains 0 (codes "localhost"))
+    → IsStoreName (slice_index_or (domains ++ name ∷ []) 0 (codes "localhost"))
+first_domain [] name is named = inl is
+first_domain (first ∷ domains) name is named = named
+
+named_after : (kept : Kept) (one : Record) → IsRecord kept one → IsStoreName (name_of kept) → IsStoreName (name_of (after_record kept one))
+named_after kept (records.Domain name) is named = first_domain kept.domains name is.in_order.0 named
+named_after kept (records.Message folder flags date octets) is named = named
+named_after kept (records.Flags message flags) is named = named
+named_after kept (records.Expunge message) is named = named
+named_after kept (records.Account address password) is named = named
+named_after kept (records.Folder account name) is named = named
+named_after kept (records.Queue path addresses octets) is named = named
+named_after kept (records.Settle entry index) is named = named
+
+named_all : (kept : Kept) (all : List Record) → AreRecords kept all → IsStoreName (name_of kept) → IsStoreName (name_of (after_all kept all))
+named_all kept [] are named = named
+named_all kept (one ∷ others) are named = named_all (after_record kept one) others are.1 (named_after kept one are.0 named)
+
+pub open_again : {T E : Type 0} (result : Result T E) (desk : Desk) (store : StoreState) (told : Option (List ℕ)) → ReadsOn told desk.store store → store.failed ≡ is_err result
+    → OnOk result (WorksWithin desk.limits desk → IsOpen (record { store = store; cache = desk.cache; limits = desk.limits }))
+open_again (Ok done) desk store told reads failed = λ within. record {
+  limits = within.are_limits;
+  agrees = ap (λ (s : StoreState). s.message_max) reads.store ∙ within.agrees;
+  works = failed;
+  named = subst (λ (s : StoreState). IsStoreName (name_of s.kept)) (sym reads.store) (named_all desk.store.kept reads.more reads.records within.named);
+  stored = subst (λ (s : StoreState). AreStored s.kept.messages) (sym reads.store) (AreStored-after desk.store.kept reads.more reads.records within.stored);
+  cached = tt;
+}
+open_again (Err fault) desk store told reads failed = tt
+
+-- ---- what it has
+
+-- the desk that was kept has caught up
+pub opened_on : (old new : Option (List ℕ)) (desk : Desk) (kept : Kept) → IfSome old (λ octets. CatchesUp desk.store octets new kept)
+    → IfSome old (λ octets. HasFirst (Some desk) octets → OpensTo octets new kept)
+opened_on old new desk kept catches = IfSome_then old {P = λ octets. CatchesUp desk.store octets new kept} catches (λ octets caught first. caught.opens first.0 first.1)
+
+-- A desk was opened, whatever was kept, which left the octets.
+pub opened_anew : (old mid new : Option (List ℕ)) (kept : Option Desk) (result : Result Desk OpenFault) → mid ≡ old → IfOk result (λ desk. IfSome mid (λ octets. OpensTo octets new desk.store.kept))
+    → IfOk result (λ desk. IfSome old (λ octets. HasFirst kept octets → OpensTo octets new desk.store.kept))
+opened_anew old mid new kept (Ok desk) same opens =
+    IfSome_then old {P = λ octets. OpensTo octets new desk.store.kept} (subst (λ (o : Option (List ℕ)). IfSome o (λ octets. OpensTo octets new desk.store.kept)) same opens) (λ octets to first. to)
+opened_anew old mid new kept (Err fault) same opens = tt
+
+-- a desk that is open works within its limits
+pub WorksWithin-open : (limits : Limits) (desk : Desk) → IsOpen desk → desk.limits ≡ limits → WorksWithin limits desk
+WorksWithin-open limits desk opens same = record {
+  are_limits = subst AreLimits same opens.limits;
+  own = same;
+  agrees = opens.agrees ∙ ap (λ (all : Limits). all.message_max) same;
+  named = opens.named;
+  stored = opens.stored;
+}
