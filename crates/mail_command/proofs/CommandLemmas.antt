@@ -4,7 +4,7 @@ use Rattle.mail_wire.specs.Telling.{Telling}
 use Rattle.mail_wire.proofs.Moving.{Gives-nil}
 use Rattle.address_grammar.specs.declared.Address.{Address}
 use Rattle.mail_store.specs.Answers.{LeavesRecords}
-use Rattle.mail_store.specs.Kept.{Kept}
+use Rattle.kept_mail.specs.Kept.{Kept}
 use Rattle.mail_store.specs.declared.changing.StoreFault.{StoreFault}
 use Rattle.journal_records.specs.declared.records.Record.{Record}
 use Rattle.setup_command.specs.AddingRuns.{RunsAdding, Broken, InJournal}

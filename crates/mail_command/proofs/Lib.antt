@@ -7,3 +7,5 @@ pub mod RunLemmas
 pub mod BegunLemmas
 pub mod CourseLemmas
 pub mod SessionLemmas
+pub mod ServeLemmas
+pub mod ConnectionLemmas

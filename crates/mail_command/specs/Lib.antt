@@ -3,3 +3,4 @@ pub mod Words
 pub mod Protocols
 pub mod Outcome
 pub mod Running
+pub mod Connections

@@ -1,7 +1,7 @@
 -- What a command of one message comes to: its status, and the octets that it gives.
 use Rattle.std.specs.Prelude.{◌≡◌, ◌≢◌, ℕ, ◌<◌, ◌≤◌, List, [], ◌++◌, length, codes, decimal}
 use Rattle.mail_wire.specs.Lines.{crlf}
-use Rattle.mail_store.specs.declared.limits.TheConstants.{MESSAGE_MAX}
+use Rattle.kept_mail.specs.declared.limits.TheConstants.{MESSAGE_MAX}
 use Rattle.mime_tree.specs.declared.entity.TreeFault.{TreeFault}
 use Rattle.mime_tree.specs.declared.entity.TreeFault.TheVariants.{Nul, BareCr, BareLf, NotField, NotUtf8, Memory}
 use Rattle.mime_tree.specs.Completing.{IsCompleted}

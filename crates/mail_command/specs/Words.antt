@@ -1,5 +1,5 @@
 -- The words of the commands.
-use Rattle.std.specs.Prelude.{◌≡◌, ℕ, List, [], ◌∷◌, codes, string_bytes, Option, Some, None}
+use Rattle.std.specs.Prelude.{◌≡◌, ℕ, ◌<◌, ◌≤◌, List, [], ◌∷◌, codes, decimal, string_bytes, Option, Some, None}
 use Rattle.address_grammar.specs.declared.Address.{Address}
 use Rattle.setup_command.specs.WordForms.{IsAccountCommand, IsDomainCommand, IsHelpCommand}
 use Rattle.mail_command.specs.declared.command.Command.{Command}
@@ -19,6 +19,20 @@ role_word role.Smtp = codes "smtp"
 -- the one word of the command that serves a session
 abbrev pub IsSession : List (List ℕ) → Role → Type 0
 IsSession words role = words ≡ role_word role ∷ []
+
+-- a number from 1 up to the greatest, as it is spelled in decimal: without a sign or a leading zero
+pub record IsNumberUpTo (max : ℕ) (text : List ℕ) (number : ℕ) : Type 0 where
+  pub text_is : text ≡ decimal number
+  pub some : 0 < number
+  pub bound : number ≤ max
+
+-- `serve`, the word of a protocol, a port, and how many connections are served
+pub record IsServeCommand (words : List (List ℕ)) (role : Role) (port connections : ℕ) : Type 0 where
+  pub port_text : List ℕ
+  pub connections_text : List ℕ
+  pub words_are : words ≡ codes "serve" ∷ role_word role ∷ port_text ∷ connections_text ∷ []
+  pub port_is : IsNumberUpTo 65535 port_text port
+  pub connections_is : IsNumberUpTo 1000000 connections_text connections
 
 -- the words of none
 pub record IsNoCommand (words : List (List ℕ)) : Type 0 where

@@ -19,7 +19,7 @@ ghost use Rattle.mail_command.specs.Running.{RefusesWords, RunsDowngrade, RunsSe
 ghost use Rattle.mail_command.specs.declared.roles.Role.{Role as RoleValue};
 
 use crate::downgrading::run_downgrade;
-use crate::roles::Role;
+use crate::roles::{Role, role_named};
 use crate::sessions::run_session;
 use mail_wire::{Clock, Fault, Keeper, Memory, Wire, Words, give_all};
 use setup_command::{
@@ -44,10 +44,11 @@ fn command_named(word: &str) -> Option<Command>
 {
     match word {
         "downgrade" => Some(Command::Downgrade),
-        "pop" => Some(Command::Session(Role::Pop)),
-        "smtp" => Some(Command::Session(Role::Smtp)),
         "help" => Some(Command::Help),
-        _ => None,
+        _ => {
+            let role = role_named(word)?;
+            Some(Command::Session(role))
+        }
     }
 }
 
@@ -129,6 +130,18 @@ fn work<W: Wire, J: Keeper, C: Clock>(
     }
 }
 
+/// The status that an answer is.
+pub fn status_after(answer: Result<u8, Fault>) -> u8
+    ensures { result ≡ status_of answer }
+{
+    match answer {
+        Ok(status) => status,
+        Err(Fault::Wire) => WIRE_FAULT,
+        Err(Fault::Keeper) => KEEPER_FAULT,
+        Err(Fault::Memory) => WANT_OF_MEMORY,
+    }
+}
+
 /// Runs the command that the words name, and answers its status: 0 where the work is done, 1 after a fault of the wire,
 /// 2 after one of the keeper, 3 for want of memory, 4 where the words are those of no command, 5 where the journal is bad,
 /// 6 where a session took 1 GiB without an end, 7 where the octets are no message or are more than 32 MiB, 9 where the store
@@ -160,10 +173,5 @@ pub fn run<W: Wire, J: Keeper, C: Clock>(
     ensures untouched { ¬ OpensJournal words.now → J.tells keeper.new ≡ J.tells keeper.old }
     ensures cause { HasStatusCause (W.tells wire.old) (W.tells wire.new) (J.tells keeper.old) (J.tells keeper.new) result }
 {
-    match work(alloc, words, wire, keeper, clock) {
-        Ok(status) => status,
-        Err(Fault::Wire) => WIRE_FAULT,
-        Err(Fault::Keeper) => KEEPER_FAULT,
-        Err(Fault::Memory) => WANT_OF_MEMORY,
-    }
+    status_after(work(alloc, words, wire, keeper, clock))
 }

@@ -15,7 +15,7 @@ use std::alloc::Global;
 use surrogate_rope::Rope;
 
 /// The most octets of a message: 32 MiB.
-pub const MESSAGE_MAX: usize = mail_store::MESSAGE_MAX as usize;
+pub const MESSAGE_MAX: usize = kept_mail::MESSAGE_MAX as usize;
 
 // A message is refused at this place.
 fn refused(alloc: Global, at: usize, reason: &[u8]) -> Result<Reply, Memory>

@@ -2,16 +2,21 @@
 #![tactic(auto)]
 
 mod command;
+mod connections;
 mod downgrading;
 pub mod laws;
 mod lines;
 mod roles;
+mod serving_words;
 mod sessions;
 mod taking;
 
-pub use command::run;
+pub use command::{run, status_after};
+pub use connections::serve_next;
 pub use downgrading::downgrade;
+pub use mail_store::OpenFault;
 pub use roles::{Role, serve_one};
-pub use session_core::{Desk, LIMITS, Limits, Outside, Served, open_desk};
+pub use serving_words::serve_words;
+pub use session_core::{Desk, LIMITS, Limits, Outside, Served, next_desk, open_desk};
 pub use sessions::run_session;
-pub use setup_command::{KEEPER_FAULT, WANT_OF_MEMORY, WIRE_FAULT};
+pub use setup_command::{DONE, KEEPER_FAULT, WANT_OF_MEMORY, WIRE_FAULT, tell_unopened};

@@ -1,9 +1,12 @@
 //! The protocols of sessions, and the serving of one.
+ghost use Rattle.std.specs.Prelude.{◌≡◌, ◌≢◌, IfSome, IfNone};
 ghost use Rattle.session_core.specs.Desks.{IsOpen};
 ghost use Rattle.session_core.specs.Keeps.{Keeps};
 ghost use Rattle.session_core.specs.Served.{met_of};
 ghost use Rattle.session_core.specs.Serving.{ServesBy};
-ghost use Rattle.mail_command.specs.Protocols.{protocol_for};
+ghost use Rattle.mail_command.specs.Protocols.{patience_of, protocol_for};
+ghost use Rattle.mail_command.specs.Words.{role_word};
+ghost use Rattle.mail_command.specs.declared.roles.Role.{Role as RoleValue};
 
 use mail_wire::{Clock, Keeper, Wire};
 use pop_session::serve_pop;
@@ -15,6 +18,40 @@ use smtp_session::serve_smtp;
 pub enum Role {
     Pop,
     Smtp,
+}
+
+impl Role {
+    /// The word of the command line.
+    pub fn word(self) -> &'static str
+        ensures { result.now ≡ role_word self }
+    {
+        match self {
+            Role::Pop => "pop",
+            Role::Smtp => "smtp",
+        }
+    }
+
+    /// How many seconds a server waits for a client that says nothing.
+    pub fn patience(self) -> u64
+        ensures { result ≡ patience_of self }
+    {
+        match self {
+            Role::Pop => 600,
+            Role::Smtp => 300,
+        }
+    }
+}
+
+/// The role of this word.
+pub fn role_named(word: &str) -> Option<Role>
+    ensures some { IfSome result (λ role. word.now ≡ role_word role) }
+    ensures none { IfNone result ((role : RoleValue) → word.now ≢ role_word role) }
+{
+    match word {
+        "pop" => Some(Role::Pop),
+        "smtp" => Some(Role::Smtp),
+        _ => None,
+    }
 }
 
 /// Serves one session of the role's protocol, from its greeting to its end.

@@ -2,6 +2,10 @@
 #![tactic(auto)]
 
 #[cfg(test)]
+mod connection_tests;
+#[cfg(test)]
 mod downgrade_tests;
+#[cfg(test)]
+mod in_memory;
 #[cfg(test)]
 mod session_tests;

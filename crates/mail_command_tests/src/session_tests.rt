@@ -1,53 +1,11 @@
 //! The rows of sessions, over wires and keepers in memory.
+use crate::in_memory::{
+    JOURNAL, LEGACY, LEGACY_REPLIES, WITHOUT_MESSAGE, given, keeper_of, wire_of,
+};
 use mail_command::{LIMITS, Limits, Outside, Role, Served, open_desk, run, serve_one};
-use mail_wire::{Entry, Failure, FixedClock, MemKeeper, MemWire, Memory, Octets, Words};
+use mail_wire::{Failure, FixedClock, MemKeeper, MemWire, Memory, Octets, Words};
 use std::alloc::Global;
 use std::test::Fail;
-
-// The domain `example.org`, the account `ann@example.org` with the password `pw`, and a message of 25 octets.
-const JOURNAL: &[u8] = b"MAILJNL1\
-\0\0\0\x10\x02\0\0\0\x0bexample.org\
-\0\0\0\x1a\x01\0\0\0\x0fann@example.org\0\0\0\x02pw\
-\0\0\0\x41\x04\0\0\0\0\0\0\0\0\x1a01-Jan-1970 00:00:00 +0000\0\0\0\x19Subject: caf\xc3\xa9 bar\r\n\r\nx\r\n";
-
-// How many octets of the journal stand before the message.
-const WITHOUT_MESSAGE: usize = 58;
-
-const LEGACY: &[u8] = b"USER ann@example.org\r\nPASS pw\r\nUTF8\r\nSTAT\r\nLIST 1\r\nQUIT\r\n";
-
-const LEGACY_REPLIES: &[u8] =
-    b"+OK ready\r\n+OK\r\n+OK\r\n-ERR out of order\r\n+OK 1 44\r\n+OK 1 44\r\n+OK bye\r\n";
-
-fn wire_of(
-    alloc: Global,
-    input: &[u8],
-    sizes: &[usize],
-    failures: &[Failure],
-) -> Result<MemWire, Memory> {
-    Ok(MemWire::new(
-        alloc,
-        Octets::from_slice(alloc, input)?,
-        Vec::from_slice(alloc, sizes)?,
-        Vec::from_slice(alloc, failures)?,
-    ))
-}
-
-fn keeper_of(alloc: Global, journal: &[u8], failures: &[Failure]) -> Result<MemKeeper, Memory> {
-    Ok(MemKeeper::new(
-        Octets::from_slice(alloc, journal)?,
-        Vec::from_slice(alloc, failures)?,
-    ))
-}
-
-fn given(alloc: Global, wire: &MemWire) -> Result<Octets, Memory> {
-    let mut given = Octets::new(alloc);
-    for entry in wire.entries() {
-        if let Entry::Given(octets) = entry {
-            given.push_slice(octets.as_slice())?;
-        }
-    }
-    Ok(given)
-}
 
 // The status of a command of one word, at the clock's second 0.
 fn status_of(

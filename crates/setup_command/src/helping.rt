@@ -14,13 +14,17 @@ use std::alloc::Global;
 pub const VERSION: &str = "0.9.0";
 
 // The commands, and what each does.
-const COMMANDS: [(&str, &str); 6] = [
+const COMMANDS: [(&str, &str); 7] = [
     (
         "downgrade",
         "Take one message, give its surrogate in ASCII headers",
     ),
     ("pop", "Serve one POP3 session"),
     ("smtp", "Serve one SMTP session"),
+    (
+        "serve",
+        "Serve connections: ROLE (pop or smtp), PORT of 127.0.0.1, how many",
+    ),
     (
         "account",
         "Add the account of the words ADDRESS and PASSWORD",
@@ -33,7 +37,7 @@ const COMMANDS: [(&str, &str); 6] = [
 fn all_commands<'a>(alloc: Global) -> Result<Command<'a>, Memory> {
     let mut all = Command::new(alloc, "dervlask")
         .version(VERSION)
-        .about("A mail server over standard input and output")
+        .about("A mail server over standard input and output, or over a port")
         .override_usage("dervlask COMMAND [WORDS]")
         .disable_version_flag(true)
         .disable_help_flag(true)

@@ -190,7 +190,7 @@ fn the_text_of_help(rt: HostRuntime) -> Result<(), Fail> {
     let mut wire = wire_of(alloc, &[])?;
     assert!(rt; run_help(alloc, &mut wire) == Ok(0));
     let text = "dervlask 0.9.0\n\
-        A mail server over standard input and output\n\
+        A mail server over standard input and output, or over a port\n\
         \n\
         Usage: dervlask COMMAND [WORDS]\n\
         \n\
@@ -198,6 +198,7 @@ fn the_text_of_help(rt: HostRuntime) -> Result<(), Fail> {
         \x20 downgrade  Take one message, give its surrogate in ASCII headers\n\
         \x20 pop        Serve one POP3 session\n\
         \x20 smtp       Serve one SMTP session\n\
+        \x20 serve      Serve connections: ROLE (pop or smtp), PORT of 127.0.0.1, how many\n\
         \x20 account    Add the account of the words ADDRESS and PASSWORD\n\
         \x20 domain     Make the domain of the word DOMAIN local\n\
         \x20 help       Give this text\n";

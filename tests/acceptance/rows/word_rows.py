@@ -14,7 +14,7 @@ BAD = bytes.fromhex("4D41494C4A4E4C310000000109")
 EXISTS, NO_DOMAIN = (9, b"exists\r\n"), (9, b"no such domain\r\n")
 DONE = (0, b"")
 TEXT_MAX = 65_536
-COMMANDS = [b"downgrade", b"pop", b"smtp", b"account", b"domain", b"help"]
+COMMANDS = [b"downgrade", b"pop", b"smtp", b"serve", b"account", b"domain", b"help"]
 
 
 def words_of(*words):
@@ -66,7 +66,11 @@ def refused_words():
     others = [["domain"], ["domain", "x.org", "y.org"], ["DOMAIN", "x.org"], ["account"], ["account", "a@x.org"], ["account", "a@x.org", ""],
         ["account", "a@x.org", "-p"], ["account", "a@x.org", "p", "q"], ["account", "a@x.org", "x" * (TEXT_MAX + 1)], ["Account", "a@x.org", "p"],
         [], ["post"], ["post", "0"], ["pop", "1"], ["smtp", "-1"], ["help", "x"], ["help", ""], ["--help"], ["-h"], ["HELP"], ["downgrade", "pop", "1", "1"]]
+    served = ["serve", "serve pop", "serve pop 110", "serve pop 110 1 1", "serve POP 110 1", "Serve pop 110 1", "serve help 110 1", "serve pop pop 1",
+        *(f"serve pop {port} 1" for port in ("0", "65536", "0110", "+110", "-1", "110.", "0x6e", "4294967406", "9" * 100)),
+        *(f"serve smtp 25 {count}" for count in ("0", "1000001", "01", "007", "+1", "-1", "1e3", "18446744073709551617"))]
     return [
+        *(words_of(*line.split()) for line in served), ["serve", "pop", "110", ""],
         *(words_of("domain", word) for word in domains), *(words_of("account", word, "p") for word in addresses), *(words_of(*words) for words in others),
         [b"domain", b"\xff"], [b"account", b"\xff@x.org", b"p"], [b"account", b"a@x.org", b"\xff"],
     ]

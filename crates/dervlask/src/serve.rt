@@ -1,0 +1,117 @@
+//! Serves connections to a port of this machine, one after the other.
+ghost use Rattle.std.specs.Prelude.{IfOk, IfSome};
+ghost use Rattle.session_core.specs.Desks.{WorksWithin};
+ghost use Rattle.session_core.specs.declared.desk.TheConstants.{LIMITS};
+
+use crate::telling::{JOURNAL, tell, tell_connection, tell_failure, tell_served};
+use mail_command::{
+    DONE, Desk, LIMITS, OpenFault, Role, WIRE_FAULT, open_desk, serve_next, status_after,
+    tell_unopened,
+};
+use mail_wire::{FileKeeper, StdWire, SystemClock};
+use std::alloc::{Alloc, Global};
+use std::fs::{File, Files};
+use std::io::{self, Eprint, Input, Print};
+use std::net::{Net, TcpListener, TcpStream};
+use std::rt::Clock;
+use std::time::Duration;
+use tcp_wire::TcpWire;
+
+// Says why the desk can't be opened. The status that the program ends with.
+fn status_unopened<T>(rt: &T, fault: OpenFault, keeper: &FileKeeper<&T>) -> u8
+where
+    T: Files<File = File> + Input + Print + Eprint + Alloc<A = Global>,
+{
+    let mut wire = StdWire::new(rt.reader(), io::writer(rt));
+    let status = status_after(tell_unopened(rt.alloc(), fault, &mut wire));
+    let _told = tell_failure(rt, status, &wire, keeper);
+    status
+}
+
+// Says why nobody can be served behind this port.
+fn tell_port<T: Eprint + Alloc<A = Global>>(rt: &T, port: u16, error: io::Error) -> io::Result<()> {
+    let place = format!(in rt.alloc(); "127.0.0.1, port {port}")?;
+    tell(rt, place.as_str(), error)
+}
+
+// Serves a connection, and says why it ended if its client didn't end it. The desk for the next one.
+fn serve_stream<T>(
+    rt: &T,
+    role: Role,
+    number: u32,
+    stream: TcpStream,
+    kept: Option<Desk>,
+    keeper: &mut FileKeeper<&T>,
+) -> Result<Option<Desk>, OpenFault>
+where
+    T: Files<File = File> + Clock + Eprint + Alloc<A = Global>,
+    requires { IfSome kept (WorksWithin LIMITS) }
+    ensures { IfOk result (λ kept. IfSome kept (WorksWithin LIMITS)) }
+{
+    let patience = Duration::from_secs(role.patience());
+    let mut wire = match TcpWire::new(stream, patience) {
+        Ok(wire) => wire,
+        Err(error) => {
+            let _told = tell_connection(rt, number, error);
+            return Ok(kept);
+        }
+    };
+    let mut clock = SystemClock::new(rt);
+    let (served, kept) = serve_next(rt.alloc(), role, kept, &mut wire, keeper, &mut clock)?;
+    let _told = tell_served(rt, number, served, &wire, keeper);
+    Ok(kept)
+}
+
+// Serves so many connections. The status that the program ends with, or why the desk can't be opened.
+fn serve_all<T>(
+    rt: &T,
+    role: Role,
+    connections: u32,
+    listener: &TcpListener,
+    keeper: &mut FileKeeper<&T>,
+) -> Result<u8, OpenFault>
+where
+    T: Files<File = File> + Clock + Eprint + Alloc<A = Global>,
+{
+    let mut kept = Some(open_desk(rt.alloc(), keeper, LIMITS)?);
+    keeper.release();
+    for number in 1..=connections {
+        let stream = match listener.accept() {
+            Ok((stream, _)) => stream,
+            Err(error) => {
+                let _told = tell(rt, "accepting", error);
+                return Ok(WIRE_FAULT);
+            }
+        };
+        kept = serve_stream(rt, role, number, stream, kept, keeper)?;
+        keeper.release();
+    }
+    Ok(DONE)
+}
+
+/// Serves so many connections to this port of 127.0.0.1, each by one session of the role, and answers the status that the program ends
+/// with. The journal is this program's alone while a connection is served, and anyone's in between.
+pub fn serve<T>(rt: &T, role: Role, port: u16, connections: u32) -> u8
+where
+    T: Net<Listener = TcpListener, Stream = TcpStream>
+        + Files<File = File>
+        + Clock
+        + Input
+        + Print
+        + Eprint
+        + Alloc<A = Global>,
+{
+    let listener = match TcpListener::bind(rt, ("127.0.0.1", port)) {
+        Ok(listener) => listener,
+        Err(error) => {
+            let _told = tell_port(rt, port, error);
+            return WIRE_FAULT;
+        }
+    };
+    let _told = eprintln!(rt; "dervlask: {} on 127.0.0.1, port {port}", role.word());
+    let mut keeper = FileKeeper::new(rt, JOURNAL);
+    match serve_all(rt, role, connections, &listener, &mut keeper) {
+        Ok(status) => status,
+        Err(fault) => status_unopened(rt, fault, &keeper),
+    }
+}

@@ -1,0 +1,106 @@
+//! Tells on standard error what failed, as the system puts it.
+use mail_command::{KEEPER_FAULT, Served, WANT_OF_MEMORY, WIRE_FAULT};
+use mail_wire::{FileKeeper, StdWire, WireFailure};
+use std::alloc::{Alloc, Global};
+use std::fs::{File, Files};
+use std::io::{self, Eprint, ErrorKind, Read, Write};
+use tcp_wire::TcpWire;
+
+/// The journal, in the current folder.
+pub const JOURNAL: &str = "mail.journal";
+
+// The text of an error without the system's number for it.
+fn without_number(text: &str) -> &str {
+    match text.split_once(" (os error ") {
+        Some((reason, _)) => reason,
+        None => text,
+    }
+}
+
+/// Says what failed, and why.
+pub fn tell<T: Eprint + Alloc<A = Global>>(
+    rt: &T,
+    place: &str,
+    error: io::Error,
+) -> io::Result<()> {
+    let text = format!(in rt.alloc(); "{error}")?;
+    let reason = without_number(text.as_str());
+    eprintln!(rt; "dervlask: {place}: {reason}")
+}
+
+/// Says why a command ended with this status, where the outside failed or memory was wanting.
+pub fn tell_failure<T, R, W, F>(
+    rt: &T,
+    status: u8,
+    wire: &StdWire<R, W>,
+    keeper: &FileKeeper<F>,
+) -> io::Result<()>
+where
+    T: Eprint + Alloc<A = Global>,
+    R: Read,
+    W: Write,
+    F: Files<File = File>,
+{
+    match status {
+        WIRE_FAULT => match wire.failure() {
+            Some(WireFailure::Input(error)) => tell(rt, "standard input", error),
+            Some(WireFailure::Output(error)) => tell(rt, "standard output", error),
+            None => Ok(()),
+        },
+        KEEPER_FAULT => match keeper.failure() {
+            Some(error) => tell(rt, JOURNAL, error),
+            None => Ok(()),
+        },
+        WANT_OF_MEMORY => eprintln!(rt; "dervlask: out of memory"),
+        _ => Ok(()),
+    }
+}
+
+/// Says why a connection failed. A call that waited too long is told so by either of two kinds.
+pub fn tell_connection<T: Eprint + Alloc<A = Global>>(
+    rt: &T,
+    number: u32,
+    error: io::Error,
+) -> io::Result<()> {
+    match error.kind() {
+        ErrorKind::WouldBlock | ErrorKind::TimedOut => {
+            eprintln!(rt; "dervlask: connection {number}: timed out")
+        }
+        _ => {
+            let place = format!(in rt.alloc(); "connection {number}")?;
+            tell(rt, place.as_str(), error)
+        }
+    }
+}
+
+/// Says why a connection came to its end before its client ended it.
+pub fn tell_served<T, F>(
+    rt: &T,
+    number: u32,
+    served: Served,
+    wire: &TcpWire,
+    keeper: &FileKeeper<F>,
+) -> io::Result<()>
+where
+    T: Eprint + Alloc<A = Global>,
+    F: Files<File = File>,
+{
+    match served {
+        Served::Ended => Ok(()),
+        Served::WireFault => match wire.failure() {
+            Some(WireFailure::Input(error) | WireFailure::Output(error)) => {
+                tell_connection(rt, number, error)
+            }
+            None => Ok(()),
+        },
+        Served::KeeperFault => match keeper.failure() {
+            Some(error) => {
+                let place = format!(in rt.alloc(); "connection {number}: {JOURNAL}")?;
+                tell(rt, place.as_str(), error)
+            }
+            None => Ok(()),
+        },
+        Served::Memory => eprintln!(rt; "dervlask: connection {number}: out of memory"),
+        Served::Limit => eprintln!(rt; "dervlask: connection {number}: it took 1 GiB"),
+    }
+}

@@ -1,0 +1,119 @@
+-- A connection that was served from the desk that was kept.
+use Rattle.std.proofs.Common.{◌≡◌, ℕ, List, [], ◌++◌, length, Option, None, Some, refl, sym, ap, subst, ◌∙◌}
+use Rattle.std.specs.Prelude.{IfSome}
+use Rattle.std.proofs.lemmas.Option.{IfSome_then}
+use Rattle.mail_wire.specs.KeeperTelling.{KeeperTelling}
+use Rattle.mail_wire.specs.Telling.{Telling}
+use Rattle.mail_wire.specs.declared.outside.Fault.{Fault}
+use Rattle.mail_wire.specs.declared.outside.Fault.TheVariants as fault
+use Rattle.journal_records.specs.Spelling.{journal}
+use Rattle.journal_records.specs.declared.records.Record.{Record}
+use Rattle.mail_store.specs.Answers.{OpensTo}
+use Rattle.mail_store.specs.Catching.{HasReadFirst}
+use Rattle.mail_store.specs.Changing.{IsStoreOf}
+use Rattle.mail_store.specs.Following.{records_of, Follows}
+use Rattle.mail_store.specs.StoreState.{StoreState}
+use Rattle.mail_store.proofs.CatchLemmas.{behind_journal, end_changed}
+use Rattle.mail_store.proofs.FollowLemmas.{followed}
+use Rattle.session_core.specs.Acts.{Act, changes_in}
+use Rattle.session_core.specs.Around.{Around}
+use Rattle.session_core.specs.Desks.{HasFirst, IsOpen, WorksWithin}
+use Rattle.session_core.specs.Done.{IsDone}
+use Rattle.session_core.specs.Keeps.{Keeps}
+use Rattle.session_core.specs.Protocol.{Protocol}
+use Rattle.session_core.specs.Served.{met_of}
+use Rattle.session_core.specs.Serving.{OfCourse, Serves, ServesBy, course_of}
+use Rattle.session_core.specs.declared.desk.Desk.{Desk}
+use Rattle.session_core.specs.declared.desk.Limits.{Limits}
+use Rattle.session_core.specs.declared.serving.Served.{Served}
+use Rattle.session_core.specs.declared.serving.Served.TheVariants as came_to
+use Rattle.session_core.proofs.CaughtLemmas.{WorksWithin-open}
+use Rattle.session_core.proofs.MeaningLemmas.{meanings_given}
+use Rattle.setup_command.proofs.AddingLemmas.{opened_store}
+use Rattle.mail_command.specs.Connections.{GoesOnFrom, ServesNext}
+use Rattle.mail_command.proofs.CourseLemmas.{with_course}
+use Rattle.mail_command.proofs.SessionLemmas.{IsLent}
+
+-- ---- the session
+
+-- a desk that was readied, with what is lent to its session
+pub record IsReadied (before : Around) (kept : Option Desk) (limits : Limits) (old : Option (List ℕ)) : Type 0 where
+  pub opens : IfSome old (λ octets. HasFirst kept octets → OpensTo octets before.keeper.octets before.desk.store.kept)
+  pub place : IfSome before.keeper.octets (λ octets. before.desk.store.end ≡ length octets)
+  pub works : IsOpen before.desk
+  pub limits_are : before.desk.limits ≡ limits
+
+pub served_next : (protocol : Protocol) (before now : Around) (reading : Option ℕ) (opened : KeeperTelling) (new : Option (List ℕ)) (a b : Telling) (kept : Option Desk) (limits : Limits) (old : Option (List ℕ))
+    (came : Served) → IsLent before reading opened a → IsReadied before kept limits old → ServesBy protocol before now came → now.keeper.octets ≡ new → now.wire ≡ b
+    → OfCourse protocol reading (λ course. ServesNext course kept limits old new a b came)
+served_next protocol before now reading opened new a b kept limits old came lent is serves has given =
+    rw (← lent.clock, ← has, ← lent.wire, ← given)
+    (with_course protocol before.clock (λ course. Serves course before.desk.store now.desk.store before.keeper.octets now.keeper.octets came limits.session_max before.wire now.wire)
+    (λ course. ServesNext course kept limits old now.keeper.octets before.wire now.wire came)
+    (λ course does. record {
+      store = before.desk.store;
+      after = now.desk.store;
+      opened = before.keeper.octets;
+      opens = is.opens;
+      message_limit = is.works.agrees ∙ ap (λ (all : Limits). all.message_max) is.limits_are;
+      serves = does;
+    })
+    (rw is.limits_are at serves))
+
+-- ---- the desk for the next one
+
+-- these records were put last
+record PutLast (store after : StoreState) (opened new : Option (List ℕ)) : Type 0 where
+  more : List Record
+  follows : Follows store after opened new more
+
+-- unless the keeper broke the session off
+put_last : {P : Type 0} (spelled : P → List ℕ) (store after : StoreState) (opened new : Option (List ℕ)) (met : Option Fault) (acts : List (Act P)) (given : List ℕ) → ¬ (met ≡ Some fault.Keeper)
+    → IsDone spelled store after opened new met acts given → PutLast store after opened new
+put_last spelled store after opened new None acts given fine done = record { more = records_of (changes_in acts); follows = done.1 }
+put_last spelled store after opened new (Some fault.Wire) acts given fine done = record { more = records_of (changes_in done.done); follows = done.follows }
+put_last spelled store after opened new (Some fault.Memory) acts given fine done = record { more = records_of (changes_in done.done); follows = done.follows }
+put_last spelled store after opened new (Some fault.Keeper) acts given fine done = absurd (fine refl)
+
+put_by : (protocol : Protocol) (before now : Around) (came : Served) → ServesBy protocol before now came → ¬ (met_of came ≡ Some fault.Keeper)
+    → PutLast before.desk.store now.desk.store before.keeper.octets now.keeper.octets
+put_by protocol before now came serves fine =
+    let course = course_of protocol meanings_given.0 (serves.told ++ []) in
+    let lawful = (serves.holds meanings_given.0 meanings_given.1 []).lawful in
+    put_last course.spelled before.desk.store now.desk.store before.keeper.octets now.keeper.octets (met_of came) _ _ fine lawful.done
+
+-- the store has what the keeper begins with, whatever comes behind that
+reads_first : (store after : StoreState) (opened new : Option (List ℕ)) (all more : List Record) → IsStoreOf store opened all → store.end ≡ length (journal all) → Follows store after opened new more
+    → IfSome new (λ has. (behind : List ℕ) → HasReadFirst after (has ++ behind) (all ++ more))
+reads_first store after opened new all more is end follows =
+    let now = followed store after opened new all more is follows in
+    let ended = end_changed store after opened new all more end (follows.records, follows.store, follows.journal) in
+    subst (λ (o : Option (List ℕ)). IfSome o (λ has. (behind : List ℕ) → HasReadFirst after (has ++ behind) (all ++ more))) (sym now.holds)
+    (λ behind. behind_journal after (journal (all ++ more)) (all ++ more) behind (record { records = now.records; kept_is = now.kept_is; holds = refl }) ended)
+
+goes_by : (old opened new : Option (List ℕ)) (kept : Option Desk) (store : StoreState) (left : Desk) → IfSome old (λ octets. HasFirst kept octets → OpensTo octets opened store.kept)
+    → IfSome opened (λ octets. store.end ≡ length octets) → PutLast store left.store opened new → GoesOnFrom kept (Some left) old new
+goes_by None opened new kept store left opens place put = tt
+goes_by (Some octets) opened new kept store left opens place put = λ first.
+    let to = opens first in
+    let end : store.end ≡ length (journal to.all) = subst (λ (o : Option (List ℕ)). IfSome o (λ l. store.end ≡ length l)) to.holds place in
+    IfSome_then new {P = λ has. (behind : List ℕ) → HasReadFirst left.store (has ++ behind) (to.all ++ put.more)}
+    (reads_first store left.store opened new to.all put.more (opened_store octets opened store to) end put.follows) (λ has reads behind. (to.all ++ put.more, reads behind))
+
+pub goes_on : (protocol : Protocol) (before now : Around) (new : Option (List ℕ)) (kept : Option Desk) (limits : Limits) (old : Option (List ℕ)) (came : Served) (left : Desk) → IsReadied before kept limits old
+    → ServesBy protocol before now came → ¬ (met_of came ≡ Some fault.Keeper) → now.keeper.octets ≡ new → left ≡ now.desk → GoesOnFrom kept (Some left) old new
+goes_on protocol before now new kept limits old came left is serves fine has same =
+    rw (same, ← has) (goes_by old before.keeper.octets now.keeper.octets kept before.desk.store now.desk is.opens is.place (put_by protocol before now came serves fine))
+
+-- the keeper didn't break it off
+pub not_broken : (came : Served) → ¬ (came ≡ came_to.KeeperFault) → ¬ (met_of came ≡ Some fault.Keeper)
+not_broken came_to.Ended fine bad = cc
+not_broken came_to.Limit fine bad = cc
+not_broken came_to.WireFault fine bad = cc
+not_broken came_to.KeeperFault fine bad = fine refl
+not_broken came_to.Memory fine bad = cc
+
+pub still_works : (before now : Around) (limits : Limits) (came : Served) (left : Desk) → IsOpen before.desk → before.desk.limits ≡ limits → Keeps before now (met_of came)
+    → ¬ (met_of came ≡ Some fault.Keeper) → left ≡ now.desk → WorksWithin limits left
+still_works before now limits came left works limits_are keeps fine same =
+    rw same (WorksWithin-open limits now.desk (keeps.works fine works) (keeps.limits ∙ limits_are))

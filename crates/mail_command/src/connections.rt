@@ -1,0 +1,56 @@
+//! Serves the connections of a program, one after the other, from one desk.
+ghost use Rattle.std.specs.Prelude.{◌≡◌, ◌↔◌, IfErr, IfOk, IfSome, IsNone, OnErr};
+ghost use Rattle.mail_wire.specs.Keeping.{HasKeeperCause};
+ghost use Rattle.mail_store.specs.Answers.{IsJournalFault, LeavesRecords};
+ghost use Rattle.session_core.specs.Desks.{WorksWithin};
+ghost use Rattle.session_core.specs.Serving.{OfCourse};
+ghost use Rattle.session_core.specs.declared.desk.TheConstants.{LIMITS};
+ghost use Rattle.session_core.specs.declared.serving.Served.{Served as ServedValue};
+ghost use Rattle.mail_command.specs.Protocols.{protocol_for};
+ghost use Rattle.setup_command.specs.Running.{HasStatusCause};
+ghost use Rattle.mail_command.specs.Connections.{GoesOnFrom, ServesNext};
+ghost use Rattle.mail_command.specs.Running.{status_of_served};
+
+use crate::roles::{Role, serve_one};
+use mail_store::OpenFault;
+use mail_wire::{Clock, Keeper, Wire};
+use session_core::{Desk, LIMITS, Outside, Served, next_desk};
+use std::alloc::Global;
+
+/// Serves the next connection: the desk that was kept catches up with the journal or is opened anew, and serves one session. It
+/// says how that ended, and gives the desk for the next one, unless the keeper failed.
+pub fn serve_next<W: Wire, J: Keeper, C: Clock>(
+    alloc: Global,
+    role: Role,
+    kept: Option<Desk>,
+    wire: &mut W,
+    keeper: &mut J,
+    clock: &mut C,
+) -> Result<(Served, Option<Desk>), OpenFault>
+    requires { IfSome kept (WorksWithin LIMITS) }
+    // The session works on the whole records that the journal has when it begins, whoever wrote them, from connection to connection.
+    ensures serves { IfOk result (λ came. OfCourse (protocol_for role) (C.tells clock.old) (λ course. ServesNext course kept LIMITS
+        (J.tells keeper.old).octets (J.tells keeper.new).octets (W.tells wire.old) (W.tells wire.new) came.0)) }
+    ensures goes_on { IfOk result (λ came. GoesOnFrom kept came.1 (J.tells keeper.old).octets (J.tells keeper.new).octets) }
+    ensures kept { IfOk result (λ came. IfSome came.1 (WorksWithin LIMITS)) }
+    ensures gone { IfOk result (λ came. IsNone came.1 ↔ (came.0 ≡ ServedValue.KeeperFault)) }
+    ensures session_cause { IfOk result (λ came. HasStatusCause (W.tells wire.old) (W.tells wire.new) (J.tells keeper.old) (J.tells keeper.new) (status_of_served came.0)) }
+
+    // A desk that can't be opened serves nobody.
+    ensures quiet { OnErr result (W.tells wire.new ≡ W.tells wire.old) }
+    ensures fault { IfErr result (λ fault. IfSome (J.tells keeper.old).octets (λ old. IsJournalFault old (J.tells keeper.new).octets fault)) }
+    ensures leaves { OnErr result (LeavesRecords (J.tells keeper.old).octets (J.tells keeper.new).octets) }
+    ensures cause { HasKeeperCause (J.tells keeper.old) (J.tells keeper.new) result OpenFault.Keeper }
+{
+    let desk = next_desk(alloc, kept, keeper, LIMITS)?;
+    let mut outside = Outside::new(alloc, desk, wire, keeper, clock);
+    let served = serve_one(role, &mut outside);
+    let (desk, wire, keeper, _clock) = outside.into_parts();
+    // Used once more: a loan that ends within the bundle tells nothing of what was lent.
+    let _wire = &mut *wire;
+    let _keeper = &mut *keeper;
+    match served {
+        Served::KeeperFault => Ok((served, None)),
+        _ => Ok((served, Some(desk))),
+    }
+}

@@ -1,0 +1,52 @@
+//! Wires and keepers in memory, a journal, and a session over it.
+use mail_wire::{Entry, Failure, MemKeeper, MemWire, Memory, Octets};
+use std::alloc::Global;
+
+/// The domain `example.org`, the account `ann@example.org` with the password `pw`, and a message of 25 octets.
+pub const JOURNAL: &[u8] = b"MAILJNL1\
+\0\0\0\x10\x02\0\0\0\x0bexample.org\
+\0\0\0\x1a\x01\0\0\0\x0fann@example.org\0\0\0\x02pw\
+\0\0\0\x41\x04\0\0\0\0\0\0\0\0\x1a01-Jan-1970 00:00:00 +0000\0\0\0\x19Subject: caf\xc3\xa9 bar\r\n\r\nx\r\n";
+
+/// How many octets of the journal stand before the message.
+pub const WITHOUT_MESSAGE: usize = 58;
+
+/// A session that hasn't enabled UTF-8.
+pub const LEGACY: &[u8] = b"USER ann@example.org\r\nPASS pw\r\nUTF8\r\nSTAT\r\nLIST 1\r\nQUIT\r\n";
+
+pub const LEGACY_REPLIES: &[u8] =
+    b"+OK ready\r\n+OK\r\n+OK\r\n-ERR out of order\r\n+OK 1 44\r\n+OK 1 44\r\n+OK bye\r\n";
+
+/// A wire with this input, in pieces of these sizes, that fails so.
+pub fn wire_of(
+    alloc: Global,
+    input: &[u8],
+    sizes: &[usize],
+    failures: &[Failure],
+) -> Result<MemWire, Memory> {
+    Ok(MemWire::new(
+        alloc,
+        Octets::from_slice(alloc, input)?,
+        Vec::from_slice(alloc, sizes)?,
+        Vec::from_slice(alloc, failures)?,
+    ))
+}
+
+/// A keeper with this journal that fails so.
+pub fn keeper_of(alloc: Global, journal: &[u8], failures: &[Failure]) -> Result<MemKeeper, Memory> {
+    Ok(MemKeeper::new(
+        Octets::from_slice(alloc, journal)?,
+        Vec::from_slice(alloc, failures)?,
+    ))
+}
+
+/// What a wire was given.
+pub fn given(alloc: Global, wire: &MemWire) -> Result<Octets, Memory> {
+    let mut given = Octets::new(alloc);
+    for entry in wire.entries() {
+        if let Entry::Given(octets) = entry {
+            given.push_slice(octets.as_slice())?;
+        }
+    }
+    Ok(given)
+}

@@ -1,5 +1,0 @@
-use Rattle.mail_store.proofs.NameLemmas.{takes_others}
-use Rattle.mail_store.proofs.names.take_back.Goals as goal
-
-pub returns-clause-others : goal.returns-clause-others
-returns-clause-others c = takes_others c.args.numbers.now c.remove-number.new.self c.args.name.now c.remove-number.ensures.updates
