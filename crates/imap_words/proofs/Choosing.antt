@@ -8,7 +8,7 @@ use Rattle.imap_words.specs.Going.{Continues}
 use Rattle.imap_words.proofs.Passing.{no_octets}
 use Rattle.imap_words.proofs.Composing.{Avoids, NeverAt}
 use Rattle.imap_words.proofs.TokenSteps.{octet_never}
-use Rattle.imap_words.proofs.Going.{begins, onwards, and_then, never_avoids, left_continues, right_continues, same_continues, Within}
+use Rattle.imap_words.proofs.Going.{onwards, and_then, never_avoids, left_continues, right_continues, same_continues, Within}
 
 pub octet_reads : (x : ℕ) (xs : List ℕ) → Reads (IsOctet x) never (x ∷ xs) x xs
 octet_reads x xs = record { word = x ∷ []; whole = refl; is_word = (refl, refl); only = λ more a b w is on e. inl is }

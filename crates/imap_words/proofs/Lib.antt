@@ -22,3 +22,6 @@ pub mod HighSteps
 pub mod NameSteps
 pub mod StringLaws
 pub mod NameLaws
+pub mod StringThen
+pub mod Parting
+pub mod InLine

@@ -1,5 +1,5 @@
 -- Languages that are the same behind the first octet of the text.
-use Rattle.std.proofs.Common.{◌≡◌, ℕ, zero, suc, ◌<◌, ◌≤◌, Bool, List, [], ◌∷◌, ◌++◌, ◌⊎◌, inl, inr, refl, ap, ◌∙◌, arith}
+use Rattle.std.proofs.Common.{◌≡◌, ℕ, zero, suc, ◌<◌, ◌≤◌, Bool, List, ◌∷◌, ◌++◌, ◌⊎◌, inl, inr, refl, ap, ◌∙◌, arith}
 use Rattle.imap_words.specs.Languages.{Or}
 use Rattle.imap_words.specs.Reading.{StopsReading}
 use Rattle.imap_words.specs.declared.stop.Stop.{Stop}

@@ -3,7 +3,8 @@ use Rattle.std.proofs.Common.{◌≡◌, ℕ, ◌+◌, ◌-◌, ◌<◌, ◌==�
 use Rattle.std.proofs.lemmas.Bool.{and_parts, both_ways, cases_Bool, cond-true, cond-false, eqb-true, eq-eqb, not-true, and_from, ltb-true, lt-ltb}
 use Rattle.std.proofs.lemmas.List.Elements.{Contains-append_cases, Contains-push_cases}
 use Rattle.std.specs.List.{list_all}
-use Rattle.imap_words.specs.Keywords.{Named, upper, IsTable, TellsLonger}
+use Rattle.imap_words.specs.Keywords.{Named, upper, IsWordOf, IsTable, TellsLonger}
+use Rattle.imap_words.proofs.Composing.{NeverAt}
 
 -- two lists of numbers are the same
 abbrev pub same_list : List ℕ → List ℕ → Bool
@@ -56,6 +57,11 @@ upper_cases x = elim (cases_Bool (nat_lt 96 x && nat_lt x 123)) [
       inr (omega (arith, down, from))
   | inr other ↦ inl (sym (cond-false (nat_lt 96 x && nat_lt x 123) _ _ other))
 ]
+
+-- the word begins, and with another octet
+abbrev pub begins_other : ℕ → List ℕ → Bool
+begins_other y [] = false
+begins_other y (z ∷ word) = not (y == z)
 
 module _ {V : Type 0} where
   -- ---- what holds of each entry
@@ -129,3 +135,15 @@ module _ {V : Type 0} where
         | inl same ↦ subst (λ z. later entry.says z ≡ true) (sym same) both.0
         | inr same ↦ subst (λ z. later entry.says z ≡ true) (sym same) both.1
       ]
+
+  -- ---- which octets begin no word
+
+  pub word_never : (table : List (Named V)) (x : ℕ) → list_all (λ (e : Named V). begins_other (upper x) e.word) table ≡ true → NeverAt (IsWordOf table) x
+  word_never table x test a b v more is e = by_word a is.entry.word is.word (each_passes (λ (e : Named V). begins_other (upper x) e.word) table test is.entry is.known) e
+    where
+      by_word : (a word : List ℕ) → map upper a ≡ word → begins_other (upper x) word ≡ true → a ++ b ≡ x ∷ more → ⊥
+      by_word [] word w t e = both_ways false refl (subst (λ z. begins_other (upper x) z ≡ true) (sym w) t)
+      by_word (y ∷ a) word w t e =
+          let same : y ≡ x = cc e in
+          let other : not (upper x == upper y) ≡ true = subst (λ z. begins_other (upper x) z ≡ true) (sym w) t in
+          both_ways (upper x == upper y) (not-true _ other) (eq-eqb (upper x) (upper y) (ap upper (sym same)))

@@ -1,5 +1,5 @@
 -- What the engine of modified UTF-7 is, and which octets its symbols are.
-use Rattle.std.proofs.Common.{◌≡◌, ℕ, ◌+◌, Bool, true, List, [], ◌∷◌, codes, length, ◌<◌, zero, suc, ap, refl, ◌∙◌, arith}
+use Rattle.std.proofs.Common.{◌≡◌, ℕ, ◌+◌, Bool, true, List, [], ◌∷◌, codes, length, length-append, ◌<◌, ◌≤◌, zero, suc, ap, refl, ◌∙◌, arith}
 use Rattle.std.proofs.lemmas.Bool.{and_parts, and_from}
 use Rattle.std.specs.List.{list_all, slice_index}
 use Rattle.base64.specs.GeneralPurpose.{encode_of, engine_symbols, engine_padding, engine_config, IsStrict}
@@ -50,9 +50,16 @@ run_has_no_dash m = all_join is_no_dash (encode_symbols symbols m) [] (symbols_p
 pub run_is_ascii : (m : List ℕ) → list_all is_ascii (modified_base64 m) ≡ true
 run_is_ascii m = all_join is_ascii (encode_symbols symbols m) [] (symbols_pass is_ascii symbols m refl refl) refl
 
--- octets have symbols
-pub run_is_some : (x : ℕ) (m : List ℕ) → 0 < length (modified_base64 (x ∷ m))
+-- a run has a symbol for each octet, or more
+symbols_long : (t m : List ℕ) → length m ≤ length (encode_symbols t m)
 unfolding encode_symbols
-run_is_some x [] = omega arith
-run_is_some x (y ∷ []) = omega arith
-run_is_some x (y ∷ z ∷ m) = omega arith
+symbols_long t [] = omega arith
+symbols_long t (a ∷ []) = omega arith
+symbols_long t (a ∷ b ∷ []) = omega arith
+symbols_long t (a ∷ b ∷ c ∷ m) = omega (arith, symbols_long t m)
+
+pub run_long : (m : List ℕ) → length m ≤ length (modified_base64 m)
+run_long m = omega (arith, symbols_long symbols m, length-append (encode_symbols symbols m) [])
+
+pub run_is_some : (x : ℕ) (m : List ℕ) → 0 < length (modified_base64 (x ∷ m))
+run_is_some x m = omega (arith, run_long (x ∷ m))

@@ -19,5 +19,5 @@ pub use keywords::{Best, better, no_word, take_word};
 pub use sets::set_and_space;
 pub use stop::Stop;
 pub use strings::{Head, header, header8, name_head, string_head};
-pub use tokens::{Kind, line_end, non_zero, number, octet, passes, run};
+pub use tokens::{Kind, line_end, line_feed, non_zero, number, octet, passes, run};
 pub use utf7::{read_mutf7, write_mutf7};

@@ -1,5 +1,7 @@
 //! Readers of strings. A reader stops at a literal's header, and goes on behind the literal's octets.
-ghost use Rattle.std.specs.Prelude.{◌≡◌, ◌≤◌, ℕ, Bool, List, MatchResult};
+ghost use Rattle.std.specs.Prelude.{◌≡◌, ◌≤◌, ℕ, Bool, List, None, Err, MatchResult};
+ghost use Rattle.mail_wire.specs.Lines.{first_line};
+ghost use Rattle.imap_words.specs.declared.stop.Stop.TheVariants.{More};
 ghost use Rattle.imap_words.specs.Reading.{Reads, StopsReading, always, never};
 ghost use Rattle.imap_words.specs.Languages.{IsBetween, SaysItself};
 ghost use Rattle.imap_words.specs.Strings.{IsHeader, IsHeader8, IsPositive, IsNameHeader, IsHighChar, IsQuoted, IsQuotedName, IsHead, IsSpecial, IsOneQuoted, PutsSaid, IsNameHead, BeginsNoString, behind_head, behind_name_head, head_value, least_second as least_second_of, greatest_second as greatest_second_of};
@@ -18,8 +20,10 @@ pub enum Head {
 }
 
 /// Reads a literal's header, `{N}` and CRLF (`literal` of RFC 3501, 9), and gives N and what follows.
+#[tactic(auto, using(crate::proofs::InLine::octet_open, crate::proofs::InLine::octet_joins, crate::proofs::InLine::number_open, crate::proofs::InLine::number_joins))]
 pub fn header(text: &[u8]) -> Result<(u32, &[u8]), Stop>
-    ensures { MatchResult result (λ x. Reads IsHeader never text.now x.0 x.1.now) (λ stop. StopsReading IsHeader never text.now stop) }
+    ensures more { result ≡ Err More → first_line text.now ≡ None }
+    ensures reads { MatchResult result (λ x. Reads IsHeader never text.now x.0 x.1.now) (λ stop. StopsReading IsHeader never text.now stop) }
 {
     let behind_open = octet(b'{', text)?;
     let (size, behind_size) = number(behind_open)?;
@@ -43,8 +47,10 @@ fn positive(text: &[u8]) -> Result<(u32, &[u8]), Stop>
 }
 
 // Reads the header of a literal that has an octet at least.
+#[tactic(auto, using(crate::proofs::InLine::octet_open, crate::proofs::InLine::octet_joins, crate::proofs::InLine::positive_open, crate::proofs::InLine::positive_joins))]
 fn name_header(text: &[u8]) -> Result<(u32, &[u8]), Stop>
-    ensures { MatchResult result (λ x. Reads IsNameHeader never text.now x.0 x.1.now) (λ stop. StopsReading IsNameHeader never text.now stop) }
+    ensures more { result ≡ Err More → first_line text.now ≡ None }
+    ensures reads { MatchResult result (λ x. Reads IsNameHeader never text.now x.0 x.1.now) (λ stop. StopsReading IsNameHeader never text.now stop) }
 {
     let behind_open = octet(b'{', text)?;
     let (size, behind_size) = positive(behind_open)?;
@@ -54,8 +60,10 @@ fn name_header(text: &[u8]) -> Result<(u32, &[u8]), Stop>
 }
 
 /// Reads a literal8's header, `~{N}` and CRLF (RFC 6855, 4), and gives N and what follows.
+#[tactic(auto, using(crate::proofs::InLine::octet_open, crate::proofs::InLine::octet_joins))]
 pub fn header8(text: &[u8]) -> Result<(u32, &[u8]), Stop>
-    ensures { MatchResult result (λ x. Reads IsHeader8 never text.now x.0 x.1.now) (λ stop. StopsReading IsHeader8 never text.now stop) }
+    ensures more { result ≡ Err More → first_line text.now ≡ None }
+    ensures reads { MatchResult result (λ x. Reads IsHeader8 never text.now x.0 x.1.now) (λ stop. StopsReading IsHeader8 never text.now stop) }
 {
     let behind_tilde = octet(b'~', text)?;
     let (size, rest) = header(behind_tilde)?;
@@ -229,6 +237,7 @@ fn quoted_name(alloc: Global, text: &[u8]) -> Result<(Octets, &[u8]), Stop>
 
 /// Reads a run of octets of this kind, a quoted string, or a literal's header (`astring` and `list-mailbox` of RFC 3501, 9).
 /// With `utf8` a quoted string may hold UTF-8 (RFC 6855, 3).
+#[tactic(auto, using(crate::proofs::InLine::no_octet, crate::proofs::InLine::run_open, crate::proofs::InLine::quoted_open))]
 pub fn string_head(
     alloc: Global,
     utf8: bool,
@@ -236,7 +245,8 @@ pub fn string_head(
     text: &[u8],
 ) -> Result<(Head, &[u8]), Stop>
     requires { BeginsNoString kind }
-    ensures { MatchResult result (λ x. Reads (IsHead utf8 kind) (behind_head kind) text.now (head_value x.0) x.1.now) (λ stop. StopsReading (IsHead utf8 kind) (behind_head kind) text.now stop) }
+    ensures more { result ≡ Err More → first_line text.now ≡ None }
+    ensures reads { MatchResult result (λ x. Reads (IsHead utf8 kind) (behind_head kind) text.now (head_value x.0) x.1.now) (λ stop. StopsReading (IsHead utf8 kind) (behind_head kind) text.now stop) }
 {
     let Some((first, _)) = text.split_first() else {
         return Err(Stop::More);
@@ -258,8 +268,10 @@ pub fn string_head(
 
 /// Reads a field's name (`header-fld-name` of RFC 3501, 9), or the header of a literal that is one. It has an octet at least, and
 /// each may stand in a name (RFC 5322, 2.2).
+#[tactic(auto, using(crate::proofs::InLine::no_octet, crate::proofs::InLine::quoted_name_open))]
 pub fn name_head(alloc: Global, text: &[u8]) -> Result<(Head, &[u8]), Stop>
-    ensures { MatchResult result (λ x. Reads IsNameHead behind_name_head text.now (head_value x.0) x.1.now) (λ stop. StopsReading IsNameHead behind_name_head text.now stop) }
+    ensures more { result ≡ Err More → first_line text.now ≡ None }
+    ensures reads { MatchResult result (λ x. Reads IsNameHead behind_name_head text.now (head_value x.0) x.1.now) (λ stop. StopsReading IsNameHead behind_name_head text.now stop) }
 {
     let Some((first, _)) = text.split_first() else {
         return Err(Stop::More);

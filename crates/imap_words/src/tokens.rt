@@ -1,5 +1,7 @@
 //! Readers of the smallest productions.
-ghost use Rattle.std.specs.Prelude.{◌≡◌, ℕ, ◌+◌, ◌-◌, ◌*◌, ◌<◌, ◌^◌, MatchResult, MatchOption, position, not, true};
+ghost use Rattle.std.specs.Prelude.{◌≡◌, ℕ, ◌+◌, ◌-◌, ◌*◌, ◌<◌, ◌^◌, [], None, Err, MatchResult, MatchOption, position, not, true};
+ghost use Rattle.mail_wire.specs.Lines.{first_line};
+ghost use Rattle.imap_words.specs.declared.stop.Stop.TheVariants.{More};
 ghost use Rattle.imap_words.specs.Languages.{IsOctet};
 ghost use Rattle.imap_words.specs.Reading.{Reads, StopsReading, never, always};
 ghost use Rattle.imap_words.specs.Tokens.{IsCrlf, IsRunOf, IsNumber32, IsNonZero, is_atom_char as is_atom_char_of, is_digit as is_digit_of, passes as passes_of};
@@ -37,12 +39,29 @@ pub fn octet(wanted: u8, text: &[u8]) -> Result<&[u8], Stop>
     }
 }
 
+/// Reads LF, and gives what follows it. Behind a CR a text that has no octet has no line's end.
+pub fn line_feed(text: &[u8]) -> Result<&[u8], Stop>
+    ensures more { result ≡ Err More → text.now ≡ [] }
+    ensures reads { MatchResult result (λ rest. Reads (IsOctet 10) never text.now 10 rest.now) (λ stop. StopsReading (IsOctet 10) never text.now stop) }
+{
+    let Some((first, rest)) = text.split_first() else {
+        return Err(Stop::More);
+    };
+    if *first == b'\n' {
+        Ok(rest)
+    } else {
+        Err(Stop::Bad(text.len()))
+    }
+}
+
 /// Reads CR and LF, and gives what follows them.
+#[tactic(auto, using(crate::proofs::InLine::octet_open, crate::proofs::InLine::return_last))]
 pub fn line_end(text: &[u8]) -> Result<&[u8], Stop>
-    ensures { MatchResult result (λ rest. Reads IsCrlf never text.now 10 rest.now) (λ stop. StopsReading IsCrlf never text.now stop) }
+    ensures more { result ≡ Err More → first_line text.now ≡ None }
+    ensures reads { MatchResult result (λ rest. Reads IsCrlf never text.now 10 rest.now) (λ stop. StopsReading IsCrlf never text.now stop) }
 {
     let behind_return = octet(b'\r', text)?;
-    let rest = octet(b'\n', behind_return)?;
+    let rest = line_feed(behind_return)?;
     Ok(rest)
 }
 

@@ -1,5 +1,7 @@
 //! Octets, runs, numbers and sets of messages.
-use imap_words::{Kind, Stop, line_end, non_zero, number, octet, passes, run, set_and_space};
+use imap_words::{
+    Kind, Stop, line_end, line_feed, non_zero, number, octet, passes, run, set_and_space,
+};
 use std::alloc::Global;
 use std::test::Fail;
 
@@ -60,6 +62,7 @@ fn single_octets_are_read(rt: HostRuntime) -> Result<(), Fail> {
     assert!(rt; is_rest(octet(b'(', b"(a"), b"a"));
     assert!(rt; is_stop(octet(b'(', b""), Stop::More));
     assert!(rt; is_stop(octet(b'(', b"a("), Stop::Bad(2)));
+    assert!(rt; is_rest(line_feed(b"\na"), b"a"));
     assert!(rt; is_rest(line_end(b"\r\na"), b"a"));
     assert!(rt; is_stop(line_end(b"\r"), Stop::More));
     assert!(rt; is_stop(line_end(b"\n"), Stop::Bad(1)));

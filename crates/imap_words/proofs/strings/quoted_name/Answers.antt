@@ -1,4 +1,4 @@
-use Rattle.std.proofs.Common.{[], true, ap, subst, sym, refl, ◌∙◌}
+use Rattle.std.proofs.Common.{[], ap, subst, sym, refl, ◌∙◌}
 use Rattle.std.specs.List.{list_all}
 use Rattle.imap_words.specs.Reading.{never}
 use Rattle.imap_words.specs.Tokens.{is_name_char}
