@@ -1,0 +1,102 @@
+-- What is left of a command behind a literal.
+use Rattle.std.specs.Prelude.{◌≡◌, ℕ, ◌<◌, Bool, true, false, List, [], ◌∷◌, ◌++◌, Option, ⊤}
+use Rattle.imap_words.specs.Languages.{Then, After, Is, IsOctet, IsCounted, IsMoreThan, Maybe}
+use Rattle.imap_words.specs.Tokens.{IsSpace, IsCloseParenthesis, IsRunOf, is_name_char}
+use Rattle.imap_words.specs.Strings.{IsAstring, IsListMailbox, IsHeaderName, IsHeader}
+use Rattle.imap_grammar.specs.Flags.{IsFlagList}
+use Rattle.imap_words.specs.Dates.{IsDateTime}
+use Rattle.imap_grammar.specs.Fetching.{IsFetchAtt, IsPartial}
+use Rattle.imap_grammar.specs.Commands.{Announced, IsBareCommand, IsDataEnd, IsDataFront, IsStatusItems, some_flags}
+use Rattle.imap_words.specs.Reading.{Reads, never}
+use Rattle.imap_words.specs.Going.{Leaves}
+use Rattle.imap_grammar.specs.declared.command.Command.{Command}
+use Rattle.imap_grammar.specs.declared.command.Command.TheVariants as command
+use Rattle.imap_grammar.specs.declared.command.FetchItem.{FetchItem}
+use Rattle.imap_grammar.specs.declared.command.FetchItem.TheVariants as item
+use Rattle.imap_grammar.specs.declared.command.SectionPart.TheVariants as part
+use Rattle.imap_grammar.specs.declared.awaited.Naming.{Naming}
+use Rattle.imap_grammar.specs.declared.awaited.Naming.TheVariants as naming
+use Rattle.imap_grammar.specs.declared.awaited.FieldNames.{FieldNames}
+use Rattle.imap_grammar.specs.declared.awaited.Awaited.{Awaited}
+use Rattle.imap_grammar.specs.declared.awaited.Awaited.TheVariants as awaited
+use Rattle.imap_grammar.specs.declared.awaited.Next.{Next}
+use Rattle.imap_grammar.specs.declared.awaited.Next.TheVariants.{Whole, Awaits}
+
+abbrev pub named : Naming → List ℕ → Command
+named naming.Select = command.Select
+named naming.Examine = command.Examine
+named naming.Create = command.Create
+
+-- behind the name of LOGIN
+abbrev pub IsBehindUser : Bool → List ℕ → List ℕ → Command → Type 0
+IsBehindUser utf8 name = After IsSpace (Then (IsAstring utf8) (λ password. IsBareCommand (command.Login name password)))
+
+-- behind the reference of LIST
+abbrev pub IsBehindReference : Bool → List ℕ → List ℕ → Command → Type 0
+IsBehindReference utf8 reference = After IsSpace (Then (IsListMailbox utf8) (λ pattern. IsBareCommand (command.List reference pattern)))
+
+-- behind the mailbox of STATUS
+abbrev pub IsBehindStatusName : List ℕ → List ℕ → Command → Type 0
+IsBehindStatusName mailbox = After IsSpace (Then IsStatusItems (λ items. IsBareCommand (command.Status mailbox items)))
+
+-- behind the data of APPEND
+abbrev pub IsBehindData : List ℕ → ℕ → Option (List ℕ) → Bool → List ℕ → List ℕ → Command → Type 0
+IsBehindData mailbox flags date in_utf8 octets = After (IsDataEnd in_utf8) (Is (command.Append mailbox flags date in_utf8 octets))
+
+-- behind the mailbox of APPEND
+abbrev pub IsBehindAppendName : List ℕ → List ℕ → Command → Type 0
+IsBehindAppendName mailbox =
+    Then (Maybe (After IsSpace IsFlagList)) (λ flags. Then (Maybe (After IsSpace IsDateTime)) (λ date. After IsSpace (Then IsDataFront (λ announced.
+    Then (IsCounted announced.size) (IsBehindData mailbox (some_flags flags) date announced.utf8)))))
+
+-- behind an item of FETCH, which is put last: more of them, or the end
+abbrev pub IsBehindItems : (listed : Bool) → Bool → Bool → List (Option ℕ × Option ℕ) → List FetchItem → List ℕ → Command → Type 0
+IsBehindItems true utf8 by_uid set items = Then (IsMoreThan IsSpace (IsFetchAtt utf8) IsCloseParenthesis items) (λ all. IsBareCommand (command.Fetch by_uid (record { ranges = set }) all))
+IsBehindItems false utf8 by_uid set items = IsBareCommand (command.Fetch by_uid (record { ranges = set }) items)
+
+-- behind a name of a field, which is put last: more names, then the section's end and what follows the item
+abbrev pub IsBehindNames : Bool → FieldNames → List (List ℕ) → List ℕ → Command → Type 0
+IsBehindNames utf8 so_far names =
+    Then (IsMoreThan IsSpace (IsHeaderName utf8) IsCloseParenthesis names) (λ all. After (IsOctet 93) (Then (Maybe IsPartial) (λ partial.
+    IsBehindItems so_far.fetching.listed utf8 so_far.fetching.uid so_far.fetching.set.ranges (so_far.fetching.items ++ item.Section so_far.peek so_far.path (part.Fields all so_far.negated) partial ∷ []))))
+
+-- which octets the literal may have
+abbrev pub IsLiteralBody : ℕ → Awaited → List ℕ → List ℕ → Type 0
+IsLiteralBody size (awaited.FieldName so_far) = λ octets value. IsCounted size octets value × IsRunOf is_name_char value value
+IsLiteralBody size a = IsCounted size
+
+-- what follows the literal
+abbrev pub IsBehindLiteral : Bool → Awaited → List ℕ → List ℕ → Command → Type 0
+IsBehindLiteral utf8 awaited.LoginName v = IsBehindUser utf8 v
+IsBehindLiteral utf8 (awaited.LoginPassword name) v = IsBareCommand (command.Login name v)
+IsBehindLiteral utf8 (awaited.Mailbox n) v = IsBareCommand (named n v)
+IsBehindLiteral utf8 awaited.ListReference v = IsBehindReference utf8 v
+IsBehindLiteral utf8 (awaited.ListPattern reference) v = IsBareCommand (command.List reference v)
+IsBehindLiteral utf8 awaited.StatusName v = IsBehindStatusName v
+IsBehindLiteral utf8 awaited.AppendName v = IsBehindAppendName v
+IsBehindLiteral utf8 (awaited.AppendData mailbox flags date in_utf8) v = IsBehindData mailbox flags date in_utf8 v
+IsBehindLiteral utf8 (awaited.FieldName so_far) v = IsBehindNames utf8 so_far (so_far.names ++ v ∷ [])
+
+-- what is left of the command where a literal is awaited
+abbrev pub IsRestAtLiteral : Bool → ℕ → Awaited → List ℕ → Command → Type 0
+IsRestAtLiteral utf8 size a = Then (IsLiteralBody size a) (IsBehindLiteral utf8 a)
+
+-- the header of a literal of this size stands before the rest
+pub record IsAfterHeader (text : List ℕ) (size : ℕ) (rest : List ℕ) : Type 0 where
+  pub front : List ℕ
+  pub header : List ℕ
+  pub whole : text ≡ front ++ (header ++ rest)
+  pub is_header : IsHeader header size
+
+-- A field's name has an octet.
+abbrev pub IsSized : ℕ → Awaited → Type 0
+IsSized size (awaited.FieldName so_far) = 0 < size
+IsSized size a = ⊤
+
+-- The text is a word, or it is read up to a literal's octets.
+abbrev pub Comes : Bool → (List ℕ → Command → Type 0) → List ℕ → Next → List ℕ → Type 0
+Comes utf8 L text (Whole c) rest = Reads L never text c rest
+Comes utf8 L text (Awaits size a) rest = IsAfterHeader text size rest × IsSized size a × Leaves L text (IsRestAtLiteral utf8 size a) rest
+
+abbrev pub announced_of : Bool × ℕ → Announced
+announced_of front = record { utf8 = front.0; size = front.1 }

@@ -1,0 +1,123 @@
+-- What is left of FETCH where one of its readers hands over to another.
+use Rattle.std.specs.Prelude.{◌≡◌, ℕ, Bool, true, false, ◌==◌, List, [], ◌∷◌, ◌++◌, Option, None, Some}
+use Rattle.mail_wire.specs.Lines.{first_line}
+use Rattle.imap_words.specs.Languages.{Then, After, Or, Is, IsOctet, IsMoreThan, Maybe}
+use Rattle.imap_words.specs.Going.{Leaves}
+use Rattle.imap_words.specs.Tokens.{IsNonZero, IsSpace}
+use Rattle.imap_words.specs.Keywords.{IsWordOf}
+use Rattle.imap_grammar.specs.Fetching.{IsHeaderList, text_words, IsBehindWord, IsNothing, IsPartial, macro_words, IsSectionItem, IsBehindItem, IsFetchAtt, macro_items}
+use Rattle.imap_grammar.specs.Awaiting.{Comes, IsBehindItems, IsRestAtLiteral}
+use Rattle.imap_grammar.specs.declared.command.Command.{Command}
+use Rattle.imap_grammar.specs.declared.command.FetchItem.{FetchItem}
+use Rattle.imap_grammar.specs.declared.command.FetchItem.TheVariants as item
+use Rattle.imap_grammar.specs.declared.command.SectionPart.{SectionPart}
+use Rattle.imap_grammar.specs.declared.command.SectionPart.TheVariants as part
+use Rattle.imap_grammar.specs.declared.words.ItemWord.{ItemWord}
+use Rattle.imap_grammar.specs.declared.words.ItemWord.TheVariants as word
+use Rattle.imap_grammar.specs.declared.words.SectionWord.{SectionWord}
+use Rattle.imap_grammar.specs.declared.awaited.Fetching.{Fetching}
+use Rattle.imap_grammar.specs.declared.awaited.FieldNames.{FieldNames}
+use Rattle.imap_grammar.specs.declared.awaited.Awaited.TheVariants as awaited
+use Rattle.imap_grammar.specs.declared.awaited.Next.{Next}
+use Rattle.imap_grammar.specs.declared.awaited.Next.TheVariants as next
+use Rattle.imap_grammar.specs.declared.fetch.Begun.{Begun}
+use Rattle.imap_grammar.specs.declared.fetch.Step.{Step}
+use Rattle.imap_grammar.specs.declared.fetch.Step.TheVariants.{Read, Awaits}
+
+-- ---- items that were put last
+
+abbrev pub with_items : Fetching → List FetchItem → Fetching
+with_items f items = record { uid = f.uid; set = f.set; items = f.items ++ items; listed = f.listed }
+
+abbrev pub with_name : FieldNames → List ℕ → FieldNames
+with_name f name = record { fetching = f.fetching; peek = f.peek; path = f.path; negated = f.negated; names = f.names ++ name ∷ [] }
+
+abbrev pub with_number : Begun → ℕ → Begun
+with_number b number = record { fetching = b.fetching; peek = b.peek; path = b.path ++ number ∷ [] }
+
+-- behind the items so far and these: more of them, or the end
+abbrev pub IsBehindThese : Bool → Fetching → List FetchItem → List ℕ → Command → Type 0
+IsBehindThese utf8 f items = IsBehindItems f.listed utf8 f.uid f.set.ranges (f.items ++ items)
+
+-- behind what was read
+abbrev pub IsBehindStep : Bool → Step → List ℕ → Command → Type 0
+IsBehindStep utf8 (Read f) = IsBehindItems f.listed utf8 f.uid f.set.ranges f.items
+IsBehindStep utf8 (Awaits size so_far) = IsRestAtLiteral utf8 size (awaited.FieldName so_far)
+
+-- The text is read up to there.
+abbrev pub Goes : Bool → (List ℕ → Command → Type 0) → List ℕ → Step → List ℕ → Type 0
+Goes utf8 L text (Read f) rest = Leaves L text (IsBehindStep utf8 (Read f)) rest
+Goes utf8 L text (Awaits size so_far) rest = Comes utf8 L text (next.Awaits size (awaited.FieldName so_far)) rest
+
+-- A literal is awaited as before, or this comes of what follows the items.
+abbrev pub StepComes : Bool → Step → List ℕ → Next → List ℕ → Type 0
+StepComes utf8 (Read f) text n rest = Comes utf8 (IsBehindStep utf8 (Read f)) text n rest
+StepComes utf8 (Awaits size so_far) text n rest = (n ≡ next.Awaits size (awaited.FieldName so_far)) × (rest ≡ text)
+
+-- an item was read, and no literal is awaited
+abbrev pub is_read : Step → Bool
+is_read (Read f) = true
+is_read (Awaits size so_far) = false
+
+-- Behind an item that was read a line ends, where one does in the text.
+abbrev pub PassesNoEnd : List ℕ → Step → List ℕ → Type 0
+PassesNoEnd text step rest = is_read step ≡ true → first_line rest ≡ None → first_line text ≡ None
+
+-- ---- sections
+
+-- what may go on behind what says which octets
+abbrev pub behind_partial : Option (ℕ × ℕ) → ℕ → Bool
+behind_partial None x = x == 60
+behind_partial (Some p) x = false
+
+-- the end of a section, and all that follows
+abbrev pub IsSectionEnd : Bool → Fetching → Bool → List ℕ → SectionPart → List ℕ → Command → Type 0
+IsSectionEnd utf8 f peek path p = After (IsOctet 93) (Then (Maybe IsPartial) (λ partial. IsBehindThese utf8 f (item.Section peek path p partial ∷ [])))
+
+-- a list of names
+abbrev pub AreNames : Bool → Fetching → Bool → List ℕ → Bool → List ℕ → Command → Type 0
+AreNames utf8 f peek path negated = After IsSpace (Then (IsHeaderList utf8) (λ names. IsSectionEnd utf8 f peek path (part.Fields names negated)))
+
+-- behind a word of a section
+abbrev pub IsBehindText : Bool → Fetching → Bool → List ℕ → SectionWord → List ℕ → Command → Type 0
+IsBehindText utf8 f peek path w = Then (IsBehindWord utf8 w) (IsSectionEnd utf8 f peek path)
+
+-- a word of a section, behind numbers or not
+abbrev pub IsText : Bool → Bool → Fetching → Bool → List ℕ → List ℕ → Command → Type 0
+IsText behind_numbers utf8 f peek path = Then (IsWordOf (text_words behind_numbers)) (IsBehindText utf8 f peek path)
+
+-- behind the numbers of a section
+abbrev pub IsBehindNumbers : Bool → Fetching → Bool → List ℕ → List ℕ → Command → Type 0
+IsBehindNumbers utf8 f peek path = Or (IsSectionEnd utf8 f peek path part.Whole) (After (IsOctet 46) (IsText true utf8 f peek path))
+
+-- behind one of them, which is put last
+abbrev pub AreMoreNumbers : Bool → Fetching → Bool → List ℕ → List ℕ → Command → Type 0
+AreMoreNumbers utf8 f peek path = Then (IsMoreThan (IsOctet 46) IsNonZero IsNothing path) (IsBehindNumbers utf8 f peek)
+
+-- at one of them
+abbrev pub AreNumbers : Bool → Fetching → Bool → List ℕ → List ℕ → Command → Type 0
+AreNumbers utf8 f peek path = Then IsNonZero (λ n. AreMoreNumbers utf8 f peek (path ++ n ∷ []))
+
+-- a section
+abbrev pub IsSectionOf : Bool → Fetching → Bool → List ℕ → Command → Type 0
+IsSectionOf utf8 f peek = Then (IsSectionItem utf8 peek) (λ i. IsBehindThese utf8 f (i ∷ []))
+
+-- ---- items
+
+-- what follows the word of an item or a macro
+abbrev pub IsBehindAny : Bool → ItemWord → List ℕ → List FetchItem → Type 0
+IsBehindAny utf8 word.All = Is (macro_items word.All)
+IsBehindAny utf8 word.Fast = Is (macro_items word.Fast)
+IsBehindAny utf8 word.Full = Is (macro_items word.Full)
+IsBehindAny utf8 w = Then (IsBehindItem utf8 w) (λ i. Is (i ∷ []))
+
+abbrev pub IsRestOf : Bool → Fetching → ItemWord → List ℕ → Command → Type 0
+IsRestOf utf8 f w = Then (IsBehindAny utf8 w) (IsBehindThese utf8 f)
+
+-- an item of a list
+abbrev pub IsListed : Bool → Fetching → List ℕ → Command → Type 0
+IsListed utf8 f = Then (IsFetchAtt utf8) (λ i. IsBehindThese utf8 f (i ∷ []))
+
+-- an item alone, or a macro
+abbrev pub IsLoneItem : Bool → Fetching → List ℕ → Command → Type 0
+IsLoneItem utf8 f = Then (Or (Then (IsWordOf macro_words) (λ w. Is (macro_items w))) (Then (IsFetchAtt utf8) (λ i. Is (i ∷ [])))) (IsBehindThese utf8 f)

@@ -1,0 +1,591 @@
+//! Readers of FETCH.
+#![tactic(auto, using(crate::proofs::LineEnds::fetch_steps))]
+
+ghost use Rattle.std.specs.Prelude.{◌≡◌, ◌∷◌, ◌++◌, Bool, true, false, [], None, Err, IfOk, MatchResult};
+ghost use Rattle.mail_wire.specs.Lines.{first_line};
+ghost use Rattle.imap_words.specs.Languages.{Maybe};
+ghost use Rattle.imap_words.specs.Reading.{Reads, StopsReading, never};
+ghost use Rattle.imap_words.specs.Keywords.{IsWordOf};
+ghost use Rattle.imap_words.specs.Tokens.{is_digit as is_digit_of};
+ghost use Rattle.imap_words.specs.declared.stop.Stop.TheVariants.{More, Memory};
+ghost use Rattle.imap_grammar.specs.declared.command.SectionPart.TheVariants.{Fields as FieldsPart};
+ghost use Rattle.imap_grammar.specs.declared.words.ItemWord.TheVariants.{Body as BodyWord, All as AllWord, Full as FullWord, Fast as FastWord};
+ghost use Rattle.imap_grammar.specs.Fetching.{item_words, macro_words, text_words, behind_item_word, behind_section_word, IsPartial, macro_items};
+ghost use Rattle.imap_grammar.specs.declared.command.Command.TheVariants.{Fetch as FetchCommand};
+ghost use Rattle.imap_grammar.specs.Commands.{IsBareCommand, IsFetch};
+ghost use Rattle.imap_grammar.specs.Awaiting.{Comes, IsBehindItems, IsBehindNames};
+ghost use Rattle.imap_grammar.specs.FetchParts.{is_read, PassesNoEnd, with_items, with_name as with_name_of, with_number as with_number_of, IsBehindThese, IsBehindStep, Goes, StepComes, behind_partial, IsSectionEnd, AreNames, IsBehindText, AreNumbers, IsSectionOf, IsRestOf, IsListed, IsLoneItem};
+
+use crate::awaited::{Awaited, Fetching, FieldNames, Next};
+use crate::command::{Command, FetchItem, SectionPart, Set};
+use crate::commands::bare;
+use crate::words::{ItemWord, SectionWord};
+use imap_words::{
+    Head, Stop, better, name_head, no_word, non_zero, number, octet, set_and_space, take_word,
+};
+use mail_wire::{Items, Octets};
+use std::alloc::Global;
+
+/// What was read of an item: all of it, which is put last, or all up to a literal of this size.
+#[derive(Drop)]
+enum Step {
+    Read(Fetching),
+    Awaits(u32, FieldNames),
+}
+
+// ---- words
+
+// Reads the word of an item or a macro.
+fn item_word(text: &[u8]) -> Result<(ItemWord, &[u8]), Stop>
+    ensures { MatchResult result (λ x. Reads (IsWordOf (item_words ++ macro_words)) behind_item_word text.now x.0 x.1.now) (λ stop. StopsReading (IsWordOf (item_words ++ macro_words)) behind_item_word text.now stop) }
+{
+    let best = no_word();
+    let best = better(best, text, b"ENVELOPE", ItemWord::Envelope);
+    let best = better(best, text, b"FLAGS", ItemWord::Flags);
+    let best = better(best, text, b"INTERNALDATE", ItemWord::InternalDate);
+    let best = better(best, text, b"RFC822", ItemWord::Rfc822);
+    let best = better(best, text, b"RFC822.HEADER", ItemWord::Rfc822Header);
+    let best = better(best, text, b"RFC822.SIZE", ItemWord::Size);
+    let best = better(best, text, b"RFC822.TEXT", ItemWord::Rfc822Text);
+    let best = better(best, text, b"BODY", ItemWord::Body);
+    let best = better(best, text, b"BODYSTRUCTURE", ItemWord::BodyStructure);
+    let best = better(best, text, b"UID", ItemWord::Uid);
+    let best = better(best, text, b"BODY.PEEK", ItemWord::BodyPeek);
+    let best = better(best, text, b"ALL", ItemWord::All);
+    let best = better(best, text, b"FULL", ItemWord::Full);
+    let best = better(best, text, b"FAST", ItemWord::Fast);
+    take_word(best, text)
+}
+
+// Reads the word of an item alone.
+fn listed_word(text: &[u8]) -> Result<(ItemWord, &[u8]), Stop>
+    ensures { MatchResult result (λ x. Reads (IsWordOf item_words) behind_item_word text.now x.0 x.1.now) (λ stop. StopsReading (IsWordOf item_words) behind_item_word text.now stop) }
+{
+    let best = no_word();
+    let best = better(best, text, b"ENVELOPE", ItemWord::Envelope);
+    let best = better(best, text, b"FLAGS", ItemWord::Flags);
+    let best = better(best, text, b"INTERNALDATE", ItemWord::InternalDate);
+    let best = better(best, text, b"RFC822", ItemWord::Rfc822);
+    let best = better(best, text, b"RFC822.HEADER", ItemWord::Rfc822Header);
+    let best = better(best, text, b"RFC822.SIZE", ItemWord::Size);
+    let best = better(best, text, b"RFC822.TEXT", ItemWord::Rfc822Text);
+    let best = better(best, text, b"BODY", ItemWord::Body);
+    let best = better(best, text, b"BODYSTRUCTURE", ItemWord::BodyStructure);
+    let best = better(best, text, b"UID", ItemWord::Uid);
+    let best = better(best, text, b"BODY.PEEK", ItemWord::BodyPeek);
+    take_word(best, text)
+}
+
+// Reads a word of a section; MIME only behind numbers.
+fn section_word(behind_numbers: bool, text: &[u8]) -> Result<(SectionWord, &[u8]), Stop>
+    ensures { MatchResult result (λ x. Reads (IsWordOf (text_words behind_numbers)) behind_section_word text.now x.0 x.1.now) (λ stop. StopsReading (IsWordOf (text_words behind_numbers)) behind_section_word text.now stop) }
+{
+    let best = no_word();
+    let best = better(best, text, b"HEADER", SectionWord::Header);
+    let best = better(best, text, b"HEADER.FIELDS", SectionWord::Fields);
+    let best = better(best, text, b"HEADER.FIELDS.NOT", SectionWord::FieldsNot);
+    let best = better(best, text, b"TEXT", SectionWord::Text);
+    if !behind_numbers {
+        return take_word(best, text);
+    }
+    let best = better(best, text, b"MIME", SectionWord::Mime);
+    take_word(best, text)
+}
+
+// ---- sections
+
+// Reads from which octet on and how many.
+fn octets_part(text: &[u8]) -> Result<((u32, u32), &[u8]), Stop>
+    ensures { MatchResult result (λ x. Reads IsPartial never text.now x.0 x.1.now) (λ stop. StopsReading IsPartial never text.now stop) }
+{
+    let behind_open = octet(b'<', text)?;
+    let (from, behind_from) = number(behind_open)?;
+    let behind_dot = octet(b'.', behind_from)?;
+    let (most, behind_most) = non_zero(behind_dot)?;
+    let rest = octet(b'>', behind_most)?;
+    Ok(((from, most), rest))
+}
+
+// The same, where it comes next.
+fn partial(text: &[u8]) -> Result<(Option<(u32, u32)>, &[u8]), Stop>
+    ensures { MatchResult result (λ x. Reads (Maybe IsPartial) behind_partial text.now x.0 x.1.now) (λ stop. StopsReading (Maybe IsPartial) behind_partial text.now stop) }
+{
+    let Some((first, _)) = text.split_first() else {
+        return Err(Stop::More);
+    };
+    if *first != b'<' {
+        return Ok((None, text));
+    }
+    let (part, rest) = octets_part(text)?;
+    Ok((Some(part), rest))
+}
+
+// Puts an item last.
+fn push_item(fetching: Fetching, item: FetchItem) -> Result<Fetching, Stop>
+    ensures { MatchResult result (λ made. made ≡ with_items fetching (item ∷ [])) (λ stop. stop ≡ Memory) }
+{
+    let Fetching {
+        uid,
+        set,
+        mut items,
+        listed,
+    } = fetching;
+    let Ok(()) = items.push(item) else {
+        return Err(Stop::Memory);
+    };
+    Ok(Fetching {
+        uid,
+        set,
+        items,
+        listed,
+    })
+}
+
+/// A section up to its part.
+#[derive(Drop)]
+struct Begun {
+    fetching: Fetching,
+    peek: bool,
+    path: Items<u32>,
+}
+
+// Reads the end of a section and what follows it, and puts the item last.
+fn section_end(begun: Begun, part: SectionPart, text: &[u8]) -> Result<(Step, &[u8]), Stop>
+    ensures more { result ≡ Err More → first_line text.now ≡ None }
+    ensures passes { IfOk result (λ x. PassesNoEnd text.now x.0 x.1.now) }
+    ensures reads { (utf8 : Bool) → MatchResult result (λ x. Goes utf8 (IsSectionEnd utf8 begun.fetching begun.peek begun.path part) text.now x.0 x.1.now) (λ stop. StopsReading (IsSectionEnd utf8 begun.fetching begun.peek begun.path part) never text.now stop) }
+{
+    let behind_close = octet(b']', text)?;
+    let (partial, rest) = partial(behind_close)?;
+    let Begun {
+        fetching,
+        peek,
+        path,
+    } = begun;
+    let item = FetchItem::Section {
+        peek,
+        path,
+        part,
+        partial,
+    };
+    let made = push_item(fetching, item)?;
+    Ok((Step::Read(made), rest))
+}
+
+// Puts a name last.
+fn with_name(so_far: FieldNames, name: Octets) -> Result<FieldNames, Stop>
+    ensures { MatchResult result (λ made. made ≡ with_name_of so_far name) (λ stop. stop ≡ Memory) }
+{
+    let FieldNames {
+        fetching,
+        peek,
+        path,
+        negated,
+        mut names,
+    } = so_far;
+    let Ok(()) = names.push(name) else {
+        return Err(Stop::Memory);
+    };
+    Ok(FieldNames {
+        fetching,
+        peek,
+        path,
+        negated,
+        names,
+    })
+}
+
+// Reads what follows the names of fields.
+fn names_end(so_far: FieldNames, text: &[u8]) -> Result<(Step, &[u8]), Stop>
+    ensures more { result ≡ Err More → first_line text.now ≡ None }
+    ensures passes { IfOk result (λ x. PassesNoEnd text.now x.0 x.1.now) }
+    ensures reads { (utf8 : Bool) → MatchResult result (λ x. Goes utf8 (IsSectionEnd utf8 so_far.fetching so_far.peek so_far.path (FieldsPart so_far.names so_far.negated)) text.now x.0 x.1.now) (λ stop. StopsReading (IsSectionEnd utf8 so_far.fetching so_far.peek so_far.path (FieldsPart so_far.names so_far.negated)) never text.now stop) }
+{
+    let FieldNames {
+        fetching,
+        peek,
+        path,
+        negated,
+        names,
+    } = so_far;
+    let begun = Begun {
+        fetching,
+        peek,
+        path,
+    };
+    section_end(begun, SectionPart::Fields { names, negated }, text)
+}
+
+// Reads what follows a name of a field: more names, and the rest of the item.
+fn more_names(alloc: Global, so_far: FieldNames, text: &[u8]) -> Result<(Step, &[u8]), Stop>
+    ensures more { result ≡ Err More → first_line text.now ≡ None }
+    ensures passes { IfOk result (λ x. PassesNoEnd text.now x.0 x.1.now) }
+    ensures reads { (utf8 : Bool) → MatchResult result (λ x. Goes utf8 (IsBehindNames utf8 so_far so_far.names) text.now x.0 x.1.now) (λ stop. StopsReading (IsBehindNames utf8 so_far so_far.names) never text.now stop) }
+{
+    let mut named = so_far;
+    let mut rest = text;
+    while let Some((separator, others)) = rest.split_first() {
+        if *separator != b' ' {
+            let behind_names = octet(b')', rest)?;
+            return names_end(named, behind_names);
+        }
+        let (head, behind) = name_head(alloc, others)?;
+        match head {
+            Head::Literal(size) => return Ok((Step::Awaits(size, named), behind)),
+            Head::Whole(name) => named = with_name(named, name)?,
+        }
+        rest = behind;
+    }
+    Err(Stop::More)
+}
+
+// Reads the names of fields in parentheses.
+fn field_names(
+    alloc: Global,
+    begun: Begun,
+    negated: bool,
+    text: &[u8],
+) -> Result<(Step, &[u8]), Stop>
+    ensures more { result ≡ Err More → first_line text.now ≡ None }
+    ensures passes { IfOk result (λ x. PassesNoEnd text.now x.0 x.1.now) }
+    ensures reads { (utf8 : Bool) → MatchResult result (λ x. Goes utf8 (AreNames utf8 begun.fetching begun.peek begun.path negated) text.now x.0 x.1.now) (λ stop. StopsReading (AreNames utf8 begun.fetching begun.peek begun.path negated) never text.now stop) }
+{
+    let behind_space = octet(b' ', text)?;
+    let behind_open = octet(b'(', behind_space)?;
+    let (head, rest) = name_head(alloc, behind_open)?;
+    let Begun {
+        fetching,
+        peek,
+        path,
+    } = begun;
+    let so_far = FieldNames {
+        fetching,
+        peek,
+        path,
+        negated,
+        names: Items::new(alloc),
+    };
+    match head {
+        Head::Literal(size) => Ok((Step::Awaits(size, so_far), rest)),
+        Head::Whole(name) => {
+            let first = with_name(so_far, name)?;
+            more_names(alloc, first, rest)
+        }
+    }
+}
+
+// Reads what follows a word of a section.
+fn behind_text(
+    alloc: Global,
+    begun: Begun,
+    word: SectionWord,
+    text: &[u8],
+) -> Result<(Step, &[u8]), Stop>
+    ensures more { result ≡ Err More → first_line text.now ≡ None }
+    ensures passes { IfOk result (λ x. PassesNoEnd text.now x.0 x.1.now) }
+    ensures reads { (utf8 : Bool) → MatchResult result (λ x. Goes utf8 (IsBehindText utf8 begun.fetching begun.peek begun.path word) text.now x.0 x.1.now) (λ stop. StopsReading (IsBehindText utf8 begun.fetching begun.peek begun.path word) never text.now stop) }
+{
+    match word {
+        SectionWord::Header => section_end(begun, SectionPart::Header, text),
+        SectionWord::Text => section_end(begun, SectionPart::Text, text),
+        SectionWord::Mime => section_end(begun, SectionPart::Mime, text),
+        SectionWord::Fields => field_names(alloc, begun, false, text),
+        SectionWord::FieldsNot => field_names(alloc, begun, true, text),
+    }
+}
+
+#[tactic(auto, unfolding(imap_words::specs::Tokens::is_digit))]
+fn is_digit(octet: u8) -> bool
+    ensures { result ≡ is_digit_of octet }
+{
+    octet > 47 && octet < 58
+}
+
+// Puts a number last.
+fn with_number(begun: Begun, number: u32) -> Result<Begun, Stop>
+    ensures { MatchResult result (λ made. made ≡ with_number_of begun number) (λ stop. stop ≡ Memory) }
+{
+    let Begun {
+        fetching,
+        peek,
+        mut path,
+    } = begun;
+    let Ok(()) = path.push(number) else {
+        return Err(Stop::Memory);
+    };
+    Ok(Begun {
+        fetching,
+        peek,
+        path,
+    })
+}
+
+// Reads numbers and what follows them.
+fn numbered(alloc: Global, begun: Begun, text: &[u8]) -> Result<(Step, &[u8]), Stop>
+    ensures more { result ≡ Err More → first_line text.now ≡ None }
+    ensures passes { IfOk result (λ x. PassesNoEnd text.now x.0 x.1.now) }
+    ensures reads { (utf8 : Bool) → MatchResult result (λ x. Goes utf8 (AreNumbers utf8 begun.fetching begun.peek begun.path) text.now x.0 x.1.now) (λ stop. StopsReading (AreNumbers utf8 begun.fetching begun.peek begun.path) never text.now stop) }
+{
+    let (first, behind_first) = non_zero(text)?;
+    let mut so_far = with_number(begun, first)?;
+    let mut rest = behind_first;
+    while let Some((separator, others)) = rest.split_first() {
+        if *separator != b'.' {
+            return section_end(so_far, SectionPart::Whole, rest);
+        }
+        let Some((next, _)) = others.split_first() else {
+            return Err(Stop::More);
+        };
+        if !is_digit(*next) {
+            let (word, behind_word) = section_word(true, others)?;
+            return behind_text(alloc, so_far, word, behind_word);
+        }
+        let (number, behind) = non_zero(others)?;
+        so_far = with_number(so_far, number)?;
+        rest = behind;
+    }
+    Err(Stop::More)
+}
+
+// Reads a section and what follows it.
+fn section(
+    alloc: Global,
+    fetching: Fetching,
+    peek: bool,
+    text: &[u8],
+) -> Result<(Step, &[u8]), Stop>
+    ensures more { result ≡ Err More → first_line text.now ≡ None }
+    ensures passes { IfOk result (λ x. PassesNoEnd text.now x.0 x.1.now) }
+    ensures reads { (utf8 : Bool) → MatchResult result (λ x. Goes utf8 (IsSectionOf utf8 fetching peek) text.now x.0 x.1.now) (λ stop. StopsReading (IsSectionOf utf8 fetching peek) never text.now stop) }
+{
+    let behind_open = octet(b'[', text)?;
+    let begun = Begun {
+        fetching,
+        peek,
+        path: Items::new(alloc),
+    };
+    let Some((first, _)) = behind_open.split_first() else {
+        return Err(Stop::More);
+    };
+    if *first == b']' {
+        return section_end(begun, SectionPart::Whole, behind_open);
+    }
+    if is_digit(*first) {
+        return numbered(alloc, begun, behind_open);
+    }
+    let (word, rest) = section_word(false, behind_open)?;
+    behind_text(alloc, begun, word, rest)
+}
+
+// ---- items
+
+// The item is read, and put last.
+fn read_item(fetching: Fetching, item: FetchItem, text: &[u8]) -> Result<(Step, &[u8]), Stop>
+    ensures more { result ≡ Err More → first_line text.now ≡ None }
+    ensures passes { IfOk result (λ x. PassesNoEnd text.now x.0 x.1.now) }
+    ensures reads { (utf8 : Bool) → MatchResult result (λ x. Goes utf8 (IsBehindThese utf8 fetching (item ∷ [])) text.now x.0 x.1.now) (λ stop. StopsReading (IsBehindThese utf8 fetching (item ∷ [])) never text.now stop) }
+{
+    let made = push_item(fetching, item)?;
+    Ok((Step::Read(made), text))
+}
+
+// Puts what FAST stands for last.
+fn with_fast(fetching: Fetching) -> Result<Fetching, Stop>
+    ensures { MatchResult result (λ made. made ≡ with_items fetching (macro_items FastWord)) (λ stop. stop ≡ Memory) }
+{
+    let with_flags = push_item(fetching, FetchItem::Flags)?;
+    let with_date = push_item(with_flags, FetchItem::InternalDate)?;
+    let made = push_item(with_date, FetchItem::Size)?;
+    Ok(made)
+}
+
+// The same of ALL.
+fn with_all(fetching: Fetching) -> Result<Fetching, Stop>
+    ensures { MatchResult result (λ made. made ≡ with_items fetching (macro_items AllWord)) (λ stop. stop ≡ Memory) }
+{
+    let fast = with_fast(fetching)?;
+    let made = push_item(fast, FetchItem::Envelope)?;
+    Ok(made)
+}
+
+// The same of FULL.
+fn with_full(fetching: Fetching) -> Result<Fetching, Stop>
+    ensures { MatchResult result (λ made. made ≡ with_items fetching (macro_items FullWord)) (λ stop. stop ≡ Memory) }
+{
+    let all = with_all(fetching)?;
+    let made = push_item(all, FetchItem::Body)?;
+    Ok(made)
+}
+
+// Reads what follows BODY.
+fn behind_body(alloc: Global, fetching: Fetching, text: &[u8]) -> Result<(Step, &[u8]), Stop>
+    ensures more { result ≡ Err More → first_line text.now ≡ None }
+    ensures passes { IfOk result (λ x. PassesNoEnd text.now x.0 x.1.now) }
+    ensures reads { (utf8 : Bool) → MatchResult result (λ x. Goes utf8 (IsRestOf utf8 fetching BodyWord) text.now x.0 x.1.now) (λ stop. StopsReading (IsRestOf utf8 fetching BodyWord) never text.now stop) }
+{
+    let Some((first, _)) = text.split_first() else {
+        return Err(Stop::More);
+    };
+    if *first == b'[' {
+        return section(alloc, fetching, false, text);
+    }
+    read_item(fetching, FetchItem::Body, text)
+}
+
+// Reads what follows the word of an item or a macro.
+fn behind_word(
+    alloc: Global,
+    fetching: Fetching,
+    word: ItemWord,
+    text: &[u8],
+) -> Result<(Step, &[u8]), Stop>
+    ensures more { result ≡ Err More → first_line text.now ≡ None }
+    ensures passes { IfOk result (λ x. PassesNoEnd text.now x.0 x.1.now) }
+    ensures reads { (utf8 : Bool) → MatchResult result (λ x. Goes utf8 (IsRestOf utf8 fetching word) text.now x.0 x.1.now) (λ stop. StopsReading (IsRestOf utf8 fetching word) never text.now stop) }
+{
+    match word {
+        ItemWord::Flags => read_item(fetching, FetchItem::Flags, text),
+        ItemWord::Uid => read_item(fetching, FetchItem::Uid, text),
+        ItemWord::InternalDate => read_item(fetching, FetchItem::InternalDate, text),
+        ItemWord::Size => read_item(fetching, FetchItem::Size, text),
+        ItemWord::Rfc822 => read_item(fetching, FetchItem::Rfc822, text),
+        ItemWord::Rfc822Header => read_item(fetching, FetchItem::Rfc822Header, text),
+        ItemWord::Rfc822Text => read_item(fetching, FetchItem::Rfc822Text, text),
+        ItemWord::Envelope => read_item(fetching, FetchItem::Envelope, text),
+        ItemWord::BodyStructure => read_item(fetching, FetchItem::BodyStructure, text),
+        ItemWord::Body => behind_body(alloc, fetching, text),
+        ItemWord::BodyPeek => section(alloc, fetching, true, text),
+        ItemWord::All => {
+            let made = with_all(fetching)?;
+            Ok((Step::Read(made), text))
+        }
+        ItemWord::Fast => {
+            let made = with_fast(fetching)?;
+            Ok((Step::Read(made), text))
+        }
+        ItemWord::Full => {
+            let made = with_full(fetching)?;
+            Ok((Step::Read(made), text))
+        }
+    }
+}
+
+// Reads an item of a list.
+fn listed_item(alloc: Global, fetching: Fetching, text: &[u8]) -> Result<(Step, &[u8]), Stop>
+    ensures more { result ≡ Err More → first_line text.now ≡ None }
+    ensures passes { IfOk result (λ x. PassesNoEnd text.now x.0 x.1.now) }
+    ensures reads { (utf8 : Bool) → MatchResult result (λ x. Goes utf8 (IsListed utf8 fetching) text.now x.0 x.1.now) (λ stop. StopsReading (IsListed utf8 fetching) never text.now stop) }
+{
+    let (word, rest) = listed_word(text)?;
+    behind_word(alloc, fetching, word, rest)
+}
+
+// Reads an item alone, or a macro.
+fn lone_item(alloc: Global, fetching: Fetching, text: &[u8]) -> Result<(Step, &[u8]), Stop>
+    ensures more { result ≡ Err More → first_line text.now ≡ None }
+    ensures passes { IfOk result (λ x. PassesNoEnd text.now x.0 x.1.now) }
+    ensures reads { (utf8 : Bool) → MatchResult result (λ x. Goes utf8 (IsLoneItem utf8 fetching) text.now x.0 x.1.now) (λ stop. StopsReading (IsLoneItem utf8 fetching) never text.now stop) }
+{
+    let (word, rest) = item_word(text)?;
+    behind_word(alloc, fetching, word, rest)
+}
+
+// Reads the end of the line, with which FETCH is whole.
+fn whole(fetching: Fetching, text: &[u8]) -> Result<(Next, &[u8]), Stop>
+    ensures more { result ≡ Err More → first_line text.now ≡ None }
+    ensures reads { MatchResult result (λ x. (utf8 : Bool) → Comes utf8 (IsBareCommand (FetchCommand fetching.uid fetching.set fetching.items)) text.now x.0 x.1.now) (λ stop. StopsReading (IsBareCommand (FetchCommand fetching.uid fetching.set fetching.items)) never text.now stop) }
+{
+    let Fetching {
+        uid,
+        set,
+        items,
+        ..
+    } = fetching;
+    bare(Command::Fetch { uid, set, items }, text)
+}
+
+// Reads what follows an item.
+fn more_items(alloc: Global, fetching: Fetching, text: &[u8]) -> Result<(Next, &[u8]), Stop>
+    ensures more { result ≡ Err More → first_line text.now ≡ None }
+    ensures reads { (utf8 : Bool) → MatchResult result (λ x. Comes utf8 (IsBehindItems fetching.listed utf8 fetching.uid fetching.set.ranges fetching.items) text.now x.0 x.1.now) (λ stop. StopsReading (IsBehindItems fetching.listed utf8 fetching.uid fetching.set.ranges fetching.items) never text.now stop) }
+{
+    let mut so_far = fetching;
+    let mut rest = text;
+    while let Some((separator, others)) = rest.split_first() {
+        if !so_far.listed {
+            return whole(so_far, rest);
+        }
+        if *separator != b' ' {
+            let behind_items = octet(b')', rest)?;
+            return whole(so_far, behind_items);
+        }
+        let (step, behind) = listed_item(alloc, so_far, others)?;
+        match step {
+            Step::Awaits(size, names) => {
+                return Ok((Next::Awaits(size, Awaited::FieldName(names)), behind));
+            }
+            Step::Read(made) => so_far = made,
+        }
+        rest = behind;
+    }
+    Err(Stop::More)
+}
+
+// Reads what follows, or awaits the octets of a literal.
+fn behind_step(alloc: Global, step: Step, text: &[u8]) -> Result<(Next, &[u8]), Stop>
+    ensures more { result ≡ Err More → first_line text.now ≡ None }
+    ensures read { result ≡ Err More → is_read step ≡ true }
+    ensures reads { (utf8 : Bool) → MatchResult result (λ x. StepComes utf8 step text.now x.0 x.1.now) (λ stop. StopsReading (IsBehindStep utf8 step) never text.now stop) }
+{
+    match step {
+        Step::Awaits(size, names) => Ok((Next::Awaits(size, Awaited::FieldName(names)), text)),
+        Step::Read(fetching) => more_items(alloc, fetching, text),
+    }
+}
+
+// Reads what follows a literal that is a field's name.
+pub fn behind_field_name(
+    alloc: Global,
+    utf8: bool,
+    so_far: FieldNames,
+    name: Octets,
+    text: &[u8],
+) -> Result<(Next, &[u8]), Stop>
+    ensures more { result ≡ Err More → first_line text.now ≡ None }
+    ensures reads { MatchResult result (λ x. Comes utf8 (IsBehindNames utf8 so_far (so_far.names ++ name ∷ [])) text.now x.0 x.1.now) (λ stop. StopsReading (IsBehindNames utf8 so_far (so_far.names ++ name ∷ [])) never text.now stop) }
+{
+    let made = with_name(so_far, name)?;
+    let (step, rest) = more_names(alloc, made, text)?;
+    behind_step(alloc, step, rest)
+}
+
+// Reads what follows FETCH.
+pub fn fetch(alloc: Global, utf8: bool, uid: bool, text: &[u8]) -> Result<(Next, &[u8]), Stop>
+    ensures more { result ≡ Err More → first_line text.now ≡ None }
+    ensures reads { MatchResult result (λ x. Comes utf8 (IsFetch utf8 uid) text.now x.0 x.1.now) (λ stop. StopsReading (IsFetch utf8 uid) never text.now stop) }
+{
+    let behind_space = octet(b' ', text)?;
+    let (ranges, behind_set) = set_and_space(alloc, behind_space)?;
+    let Some((first, others)) = behind_set.split_first() else {
+        return Err(Stop::More);
+    };
+    let set = Set { ranges };
+    if *first == b'(' {
+        let begun = Fetching {
+            uid,
+            set,
+            items: Items::new(alloc),
+            listed: true,
+        };
+        let (step, rest) = listed_item(alloc, begun, others)?;
+        return behind_step(alloc, step, rest);
+    }
+    let begun = Fetching {
+        uid,
+        set,
+        items: Items::new(alloc),
+        listed: false,
+    };
+    let (step, rest) = lone_item(alloc, begun, behind_set)?;
+    behind_step(alloc, step, rest)
+}
