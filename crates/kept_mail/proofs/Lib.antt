@@ -5,3 +5,4 @@ pub mod SameMessages
 pub mod QueueLemmas
 pub mod ListingLemmas
 pub mod ParcelLemmas
+pub mod DateLemmas

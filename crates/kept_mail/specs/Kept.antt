@@ -106,6 +106,10 @@ names_among account folders = map (λ (folder : Folder). folder.name) (filter (�
 abbrev pub folder_names : Kept → ℕ → List (List ℕ)
 folder_names kept account = names_among account kept.folders
 
+-- the name of a folder
+abbrev pub kept_folder_name : Kept → (folder : ℕ) → List ℕ
+kept_folder_name kept folder = option_map_or (λ (one : Folder). one.name) (slice_get kept.folders folder) []
+
 -- one more than the number of messages that a folder ever had
 abbrev pub uid_next : Kept → ℕ → ℕ
 uid_next kept folder = count_by (λ message. message.folder == folder) kept.messages + 1

@@ -87,6 +87,7 @@ AreIndexes-same_locals kept i locals x same = record {
   locals_is = λ name. same name ∙ x.locals_is name;
   recipients_is = x.recipients_is;
   domains_are_texts = x.domains_are_texts;
+  folders_are_named = x.folders_are_named;
   messages_are_stored = x.messages_are_stored;
   few = x.few;
 }
@@ -104,6 +105,7 @@ AreIndexes-same_mailboxes kept i mailboxes x same = record {
   locals_is = x.locals_is;
   recipients_is = x.recipients_is;
   domains_are_texts = x.domains_are_texts;
+  folders_are_named = x.folders_are_named;
   messages_are_stored = x.messages_are_stored;
   few = x.few;
 }

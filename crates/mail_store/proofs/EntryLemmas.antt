@@ -1,6 +1,6 @@
 -- What is kept after a delivery.
 use Rattle.std.proofs.Common.{◌≡◌, ◌⊎◌, ℕ, suc, ◌+◌, ◌<◌, ◌≤◌, Bool, true, false, cond, ◌||◌, ◌&&◌, eqb, List, [], ◌∷◌, ◌++◌, length, map, Option, Some, None, refl, sym, ap, subst, ◌∙◌, arith, inl, inr, append-nil}
-use Rattle.std.specs.List.{flat_map, All}
+use Rattle.std.specs.List.{flat_map}
 use Rattle.std.specs.Prelude.{IfSome}
 use Rattle.std.specs.Option.{option_to_list, option_and_then}
 use Rattle.std.proofs.lemmas.List.{length-map}
@@ -21,9 +21,10 @@ use Rattle.kept_mail.specs.Deliveries.{delivered, queued, copy_for, inboxes_of, 
 use Rattle.kept_mail.specs.private.Delivering.{copied, entry_of}
 use Rattle.kept_mail.specs.Kept.{Kept, after_all, waiting}
 use Rattle.kept_mail.specs.Records.{AreRecords, IsInOrder, recipient_count}
+use Rattle.journal_records.specs.Grammar.{IsDate}
 use Rattle.journal_records.specs.Spelling.{record_text}
 use Rattle.journal_records.specs.Stored.{IsStored}
-use Rattle.mail_store.specs.StoreState.{StoreState, with_records, Indexes, AreIndexes}
+use Rattle.mail_store.specs.StoreState.{StoreState, with_records, Indexes, AreIndexes, AreStored}
 use Rattle.mail_store.proofs.ChangeLemmas.{after_all-append, with_nothing}
 use Rattle.mail_store.proofs.DeliveryLemmas.{after-copies, copies_few, queue-room}
 use Rattle.mail_store.proofs.IndexLemmas.{AreIndexes-messages, AreIndexes-entry}
@@ -140,15 +141,18 @@ indexes-entry kept i (Some entry) x room =
     rw count (AreIndexes-entry kept i entry x room.0 room.1)
 
 pub AreIndexes-delivered : (kept : Kept) (i : Indexes) (max : ℕ) (delivery : Delivery) (copies : List Message) (one : Option Record) (entry : Option Entry)
-    (messages : List Message) (entries : List Entry) (contents : List Content) (previous : List (Option ℕ)) (recipients : ℕ) → AreIndexes kept i → IsStored delivery.local_octets
+    (messages : List Message) (entries : List Entry) (contents : List Content) (previous : List (Option ℕ)) (recipients : ℕ) → AreIndexes kept i → IsStored delivery.local_octets → IsDate delivery.date
     → (has_large_octets max delivery || has_many_things kept delivery) ≡ false → copies ≡ map (copied delivery.date delivery.local_octets) (inboxes_of kept delivery.local)
     → option_to_list one ≡ queued delivery → entry ≡ option_and_then entry_of one → messages ≡ kept.messages ++ copies → entries ≡ kept.entries ++ option_to_list entry
     → AreChained messages contents previous → length contents ≡ length i.contents → recipients ≡ i.recipients + recipient_count (option_to_list entry)
     → AreIndexes (record kept { messages = messages; entries = entries }) (record i { contents = contents; previous = previous; recipients = recipients })
-AreIndexes-delivered kept i max delivery copies one entry messages entries contents previous recipients x tree small c is e m n chained count r =
-    let is_stored = λ (message : Message). IsStored message.octets in
-    let stored : All is_stored copies =
-    subst (All is_stored) (sym c) (All-map is_stored (copied delivery.date delivery.local_octets) (inboxes_of kept delivery.local) (λ k d l. tree)) in
+AreIndexes-delivered kept i max delivery copies one entry messages entries contents previous recipients x tree dated small c is e m n chained count r =
+    let copy = copied delivery.date delivery.local_octets in
+    let inboxes = inboxes_of kept delivery.local in
+    let stored : AreStored copies = subst AreStored (sym c) (record {
+      each = All-map (λ (message : Message). IsStored message.octets) copy inboxes (λ k d l. tree);
+      dated = All-map (λ (message : Message). IsDate message.date) copy inboxes (λ k d l. dated);
+    }) in
     let first = AreIndexes-messages kept i copies contents previous x stored (copies_few kept max delivery copies small c) (subst (λ l. AreChained l contents previous) m chained) count in
     rw (m, n, r)
     (indexes-entry (record kept { messages = kept.messages ++ copies }) (record i { contents = contents; previous = previous }) entry first (entry-room kept max delivery one entry small is e))

@@ -1,12 +1,20 @@
 -- Folders by their names.
-use Rattle.std.proofs.Common.{◌≡◌, ◌≢◌, ℕ, suc, ◌+◌, ◌^◌, ◌<◌, Bool, true, false, ◌&&◌, cond, eqb, List, [], ◌∷◌, ◌++◌, length, Option, Some, None, refl, sym, ap, ap₂, ◌∙◌, arith, inl, inr, eq-eqb}
-use Rattle.std.specs.Prelude.{IfSome, is_some}
-use Rattle.std.specs.Str.{bytes_eq}
-use Rattle.std.proofs.lemmas.Bool.{cases_Bool, eqb-true, true≢false}
+use Rattle.std.proofs.Common.{◌≡◌, ◌≢◌, ℕ, suc, ◌+◌, ◌^◌, ◌<◌, ◌≤◌, Bool, true, false, ◌&&◌, cond, eqb, List, [], ◌∷◌, ◌++◌, length, Option, Some, None, refl, sym, ap, ap₂, ◌∙◌, subst, arith, inl, inr, eq-eqb, ◌==◌, IsUtf8}
+use Rattle.std.specs.Prelude.{IfSome, filter, is_some}
+use Rattle.std.specs.Char.{is_control}
+use Rattle.std.specs.List.{All}
+use Rattle.std.specs.Str.{bytes_eq, chars}
+use Rattle.std.proofs.lemmas.Bool.{cases_Bool, eqb-false, eqb-true, true≢false}
+use Rattle.std.proofs.lemmas.List.Elements.{All-filter, All-from_recursion, All-map, All-weaker}
 use Rattle.std.proofs.lemmas.Option.{same_Some, none-some}
 use Rattle.std.proofs.lemmas.Slice.Eq.{bytes_eq-Decides}
+use Rattle.std.proofs.lemmas.Str.{IsUtf8-from_ascii, chars-IsAscii}
+use Rattle.std.proofs.lemmas.Str.Ascii.{IsAscii-from_all}
+use Rattle.unicode_normalization.specs.Forms.{Nfc, is_nfc, nfc}
+use Rattle.unicode_normalization.proofs.FormsLemmas.{normalize-ascii}
 use Rattle.journal_records.specs.declared.records.Record.TheVariants as records
-use Rattle.journal_records.specs.Grammar.{IsFolderName}
+use Rattle.journal_records.specs.declared.limits.TheConstants.{NAME_MAX}
+use Rattle.journal_records.specs.Grammar.{IsFolderName, IsNameChar, inbox}
 use Rattle.journal_records.specs.Spelling.{IsWritableRecord}
 use Rattle.journal_records.proofs.FrameLemmas.{number_once}
 use Rattle.mail_store.specs.declared.changing.StoreFault.TheVariants as faults
@@ -14,7 +22,7 @@ use Rattle.kept_mail.specs.declared.kept.Folder.{Folder}
 use Rattle.kept_mail.specs.declared.limits.TheConstants.{THINGS_MAX}
 use Rattle.mail_store.specs.Changing.{folder_refusal}
 use Rattle.kept_mail.specs.Records.{are_too_many, AreRecords}
-use Rattle.kept_mail.specs.Kept.{Kept, first_named, find_folder}
+use Rattle.kept_mail.specs.Kept.{Kept, first_named, find_folder, names_among}
 use Rattle.kept_mail.specs.private.Names.{folder_key, kept_first, PutsName}
 use Rattle.mail_store.proofs.ChangeLemmas.{has_room}
 use Rattle.kept_mail.proofs.NameLemmas.{none_of}
@@ -36,6 +44,33 @@ bytes_differ a b differ =
       | inl same ↦ absurd (differ ((bytes_eq-Decides a b).0 same))
       | inr other ↦ other
     ]
+
+-- ---- names
+
+plain : (c : ℕ) → is_control c ≡ false → (c == 42) ≡ false → (c == 37) ≡ false → IsNameChar c
+plain c none star percent = (none, eqb-false c 42 star, eqb-false c 37 percent)
+
+-- INBOX may be a folder's name
+pub inbox_named : IsFolderName inbox
+inbox_named =
+    let below : All (λ c. c < 128) inbox = All-from_recursion (λ c. c < 128) inbox (omega arith, (omega arith, (omega arith, (omega arith, (omega arith, tt))))) in
+    let ascii = IsAscii-from_all inbox below in
+    let characters : chars inbox ≡ inbox = chars-IsAscii inbox ascii in
+    record {
+      some = (let some : 0 < 5 = omega arith in some);
+      short = (let short : 5 ≤ NAME_MAX = omega arith in short);
+      utf8 = IsUtf8-from_ascii inbox ascii;
+      nfc = subst (λ cs. is_nfc cs ≡ true) (sym characters) ((bytes_eq-Decides (nfc inbox) inbox).1 (normalize-ascii Nfc inbox below));
+      each = subst (All IsNameChar) (sym characters) (All-from_recursion IsNameChar inbox
+          (plain 73 refl refl refl, (plain 78 refl refl refl, (plain 66 refl refl refl, (plain 79 refl refl refl, (plain 88 refl refl refl, tt))))));
+    }
+
+-- the names of an account's folders are UTF-8
+pub names_utf8 : (account : ℕ) (folders : List Folder) → All (λ folder. IsFolderName folder.name) folders → All IsUtf8 (names_among account folders)
+names_utf8 account folders named =
+    let own = λ (folder : Folder). folder.account == account in
+    let utf8 = λ (folder : Folder). IsUtf8 folder.name in
+    All-map IsUtf8 (λ (folder : Folder). folder.name) (filter own folders) (All-filter own utf8 folders (All-weaker (λ (folder : Folder). IsFolderName folder.name) utf8 (λ folder is. is.utf8) folders named))
 
 -- ---- one more folder
 

@@ -1,7 +1,6 @@
 -- The indexes after each kind of record.
 use Rattle.std.proofs.Common.{◌≡◌, ◌≢◌, ℕ, zero, suc, ◌+◌, ◌^◌, ◌<◌, ◌≤◌, Bool, true, false, cond, eqb, List, [], ◌∷◌, ◌++◌, length, get_or, Option, Some, None, refl, sym, ap, subst, ◌∙◌, arith, inl, inr, length-append, eq-eqb}
 use Rattle.std.specs.Prelude.{slice_get}
-use Rattle.std.specs.List.{All}
 use Rattle.std.specs.Option.{option_map_or}
 use Rattle.std.specs.Str.{bytes_eq}
 use Rattle.std.proofs.lemmas.List.Elements.{All-push, All-append, All-from_recursion, recursion_from_All}
@@ -20,15 +19,15 @@ use Rattle.kept_mail.specs.declared.kept.Account.{Account}
 use Rattle.kept_mail.specs.declared.kept.Entry.{Entry}
 use Rattle.journal_records.specs.Addresses.{IsTextOfAddress, IsDomainText, address_of, mailbox_key}
 use Rattle.kept_mail.specs.private.Chains.{empty_content, AreChained}
-use Rattle.journal_records.specs.Grammar.{inbox}
+use Rattle.journal_records.specs.Grammar.{IsDate, IsFolderName, inbox}
 use Rattle.kept_mail.specs.Kept.{Kept, first_folder, first_named, change_at, settled, without}
 use Rattle.kept_mail.specs.private.Names.{kept_first, PutsName, first_name, folder_key, has_key, first_mailbox}
 use Rattle.kept_mail.specs.Records.{recipient_count}
 use Rattle.journal_records.specs.Stored.{IsStored}
-use Rattle.mail_store.specs.StoreState.{Indexes, AreIndexes}
+use Rattle.mail_store.specs.StoreState.{Indexes, AreIndexes, AreStored}
 use Rattle.kept_mail.proofs.ChainLemmas.{AreChained-folder, AreChained-same}
-use Rattle.mail_store.proofs.FolderLemmas.{and_first, and_second, and_none, bytes_differ, first_named-push_found, first_named-push_none, first_named-push_other, names_push}
-use Rattle.kept_mail.proofs.SameMessages.{AreSameMessages, length-same, stored-same, length-change_at}
+use Rattle.mail_store.proofs.FolderLemmas.{and_first, and_second, and_none, bytes_differ, first_named-push_found, first_named-push_none, first_named-push_other, inbox_named, names_push}
+use Rattle.kept_mail.proofs.SameMessages.{AreSameMessages, date_of, length-same, length-change_at, octets_of, part-same}
 
 no_some : (i : ℕ) → Some i ≡ None → ⊥
 no_some i e = cc
@@ -74,14 +73,18 @@ first_folder_within account at (f ∷ fs) i e =
           omega (arith, ih)
     ]
 
+-- the folder's name is one
+abbrev named_well : Folder → Type 0
+named_well folder = IsFolderName folder.name
+
 -- an account that has a folder has INBOX
 first_inbox : (kept : Kept) (i : Indexes) (account : ℕ) → AreIndexes kept i → account < length kept.accounts → first_folder account 0 kept.folders ≡ Some (get_or i.inboxes account 0)
 first_inbox kept i account h there = sym (h.inboxes_is account) ∙ slice_get-get_or i.inboxes account 0 (omega (arith, h.account_count, there))
 
-pub AreIndexes-folder : (kept : Kept) (i : Indexes) (after : List ℕ → Option ℕ) (x : Folder) → AreIndexes kept i → x.account < length kept.accounts → length kept.folders < THINGS_MAX
-    → PutsName i.names after (folder_key x.account x.name) (length kept.folders)
+pub AreIndexes-folder : (kept : Kept) (i : Indexes) (after : List ℕ → Option ℕ) (x : Folder) → AreIndexes kept i → x.account < length kept.accounts → IsFolderName x.name
+    → length kept.folders < THINGS_MAX → PutsName i.names after (folder_key x.account x.name) (length kept.folders)
     → AreIndexes (record kept { folders = kept.folders ++ x ∷ [] }) (record i { contents = i.contents ++ empty_content ∷ []; names = after })
-AreIndexes-folder kept i after x h there room puts = record {
+AreIndexes-folder kept i after x h there named room puts = record {
   folder_count = length-append i.contents (empty_content ∷ []) ∙ ap (λ (n : ℕ). n + 1) h.folder_count ∙ sym (length-append kept.folders (x ∷ []));
   chained = AreChained-folder i.contents i.previous kept.messages h.chained;
   account_count = h.account_count;
@@ -108,6 +111,7 @@ AreIndexes-folder kept i after x h there room puts = record {
   locals_is = h.locals_is;
   recipients_is = h.recipients_is;
   domains_are_texts = h.domains_are_texts;
+  folders_are_named = All-push named_well kept.folders x h.folders_are_named named;
   messages_are_stored = h.messages_are_stored;
   few = record {
     accounts = h.few.accounts;
@@ -149,6 +153,7 @@ AreIndexes-domain kept i after name h text room puts =
       locals_is = λ (q : List ℕ). puts q ∙ ap (λ (o : Option ℕ). kept_first o name q (length kept.domains)) (h.locals_is q) ∙ ap (λ (n : ℕ). kept_first (first_name q 0 kept.domains) name q n) plain ∙ sym (first_name-push q 0 kept.domains name);
       recipients_is = h.recipients_is;
       domains_are_texts = All-push IsDomainText kept.domains name h.domains_are_texts text;
+      folders_are_named = h.folders_are_named;
       messages_are_stored = h.messages_are_stored;
       few = record {
         accounts = h.few.accounts;
@@ -245,6 +250,7 @@ AreIndexes-account kept i after a own name named h text more room puts =
       locals_is = h.locals_is;
       recipients_is = h.recipients_is;
       domains_are_texts = h.domains_are_texts;
+      folders_are_named = All-push named_well kept.folders x h.folders_are_named (subst IsFolderName (sym named) inbox_named);
       messages_are_stored = h.messages_are_stored;
       few = record {
         accounts = omega (arith, length-append kept.accounts (a ∷ []));
@@ -259,7 +265,7 @@ AreIndexes-account kept i after a own name named h text more room puts =
 -- ---- more messages
 
 pub AreIndexes-messages : (kept : Kept) (i : Indexes) (ms : List Message) (contents : List Content) (previous : List (Option ℕ)) → AreIndexes kept i
-    → All (λ message. IsStored message.octets) ms → length kept.messages + length ms ≤ THINGS_MAX → AreChained (kept.messages ++ ms) contents previous
+    → AreStored ms → length kept.messages + length ms ≤ THINGS_MAX → AreChained (kept.messages ++ ms) contents previous
     → length contents ≡ length i.contents
     → AreIndexes (record kept { messages = kept.messages ++ ms }) (record i { contents = contents; previous = previous })
 AreIndexes-messages kept i ms contents previous h stored room chained count = record {
@@ -273,7 +279,11 @@ AreIndexes-messages kept i ms contents previous h stored room chained count = re
   locals_is = h.locals_is;
   recipients_is = h.recipients_is;
   domains_are_texts = h.domains_are_texts;
-  messages_are_stored = record { each = All-append (λ (message : Message). IsStored message.octets) kept.messages ms h.messages_are_stored.each stored };
+  folders_are_named = h.folders_are_named;
+  messages_are_stored = record {
+    each = All-append (λ (message : Message). IsStored message.octets) kept.messages ms h.messages_are_stored.each stored.each;
+    dated = All-append (λ (message : Message). IsDate message.date) kept.messages ms h.messages_are_stored.dated stored.dated;
+  };
   few = record {
     accounts = h.few.accounts;
     domains = h.few.domains;
@@ -286,10 +296,19 @@ AreIndexes-messages kept i ms contents previous h stored room chained count = re
 
 -- ---- messages that were changed
 
+-- they may be kept as before
+pub AreStored-same : (old new : List Message) → AreStored old → AreSameMessages old new → AreStored new
+AreStored-same old new stored same =
+    let is_stored = λ (message : Message). IsStored message.octets in
+    let is_dated = λ (message : Message). IsDate message.date in
+    record {
+      each = All-from_recursion is_stored new (part-same IsStored octets_of old new same.octets (recursion_from_All is_stored old stored.each));
+      dated = All-from_recursion is_dated new (part-same IsDate date_of old new same.dates (recursion_from_All is_dated old stored.dated));
+    }
+
 pub AreIndexes-changed : (kept : Kept) (i : Indexes) (ms : List Message) → AreIndexes kept i → AreSameMessages kept.messages ms → AreIndexes (record kept { messages = ms }) i
 AreIndexes-changed kept i ms h same =
     let len = length-same kept.messages ms same in
-    let is_stored = λ (message : Message). IsStored message.octets in
     record {
       folder_count = h.folder_count;
       chained = AreChained-same i.contents i.previous kept.messages ms h.chained same.folders len;
@@ -301,7 +320,8 @@ AreIndexes-changed kept i ms h same =
       locals_is = h.locals_is;
       recipients_is = h.recipients_is;
       domains_are_texts = h.domains_are_texts;
-      messages_are_stored = record { each = All-from_recursion is_stored ms (stored-same kept.messages ms same.octets (recursion_from_All is_stored kept.messages h.messages_are_stored.each)) };
+      folders_are_named = h.folders_are_named;
+      messages_are_stored = AreStored-same kept.messages ms h.messages_are_stored same;
       few = record {
         accounts = h.few.accounts;
         domains = h.few.domains;
@@ -334,6 +354,7 @@ AreIndexes-entry kept i e h room short =
       locals_is = h.locals_is;
       recipients_is = ap (λ (n : ℕ). n + length e.recipients) h.recipients_is ∙ sym count;
       domains_are_texts = h.domains_are_texts;
+      folders_are_named = h.folders_are_named;
       messages_are_stored = h.messages_are_stored;
       few = record {
         accounts = h.few.accounts;
@@ -366,6 +387,7 @@ AreIndexes-settled kept i entry index h =
       locals_is = h.locals_is;
       recipients_is = h.recipients_is ∙ sym count;
       domains_are_texts = h.domains_are_texts;
+      folders_are_named = h.folders_are_named;
       messages_are_stored = h.messages_are_stored;
       few = record {
         accounts = h.few.accounts;
@@ -391,6 +413,7 @@ AreIndexes-locals kept i after h same = record {
   locals_is = λ (name : List ℕ). same name ∙ h.locals_is name;
   recipients_is = h.recipients_is;
   domains_are_texts = h.domains_are_texts;
+  folders_are_named = h.folders_are_named;
   messages_are_stored = h.messages_are_stored;
   few = h.few;
 }
@@ -407,6 +430,7 @@ AreIndexes-names kept i after h same = record {
   locals_is = h.locals_is;
   recipients_is = h.recipients_is;
   domains_are_texts = h.domains_are_texts;
+  folders_are_named = h.folders_are_named;
   messages_are_stored = h.messages_are_stored;
   few = h.few;
 }

@@ -9,7 +9,7 @@ use Rattle.kept_mail.specs.declared.kept.Listed.{Listed}
 use Rattle.journal_records.specs.declared.records.Record.{Record}
 use Rattle.journal_records.specs.declared.records.Record.TheVariants as records
 use Rattle.kept_mail.specs.Kept.{Kept, change_at, with_flags, gone, after_record, after_all, uid_next, listed_from, listed, IsListedOrNew}
-use Rattle.mail_store.proofs.ListedLemmas.{put, all_put}
+use Rattle.mail_store.proofs.ListedLemmas.{put, all_put, from_on, id_of}
 
 abbrev uid_of : Listed → ℕ
 uid_of one = one.uid
@@ -38,30 +38,41 @@ uids_on folder at uid low (m ∷ ms) few =
     all_put (λ one. low ≤ one.uid) (m.folder == folder) m.live (record { id = at; uid = uid; flags = m.flags }) _ _ (λ is. few)
     (uids_on folder (at + 1) (uid + 1) low ms (omega (arith, few))) (uids_on folder (at + 1) uid low ms few)
 
-rising : (x : ℕ) (others : List Listed) → AllByRecursion (λ one. x + 1 ≤ one.uid) others → IsStrictlyIncreasing (map uid_of others) → IsStrictlyIncreasing (x ∷ map uid_of others)
-rising x [] above rest = λ k less. absurd (omega (arith, less))
-rising x (one ∷ others) above rest = first
+rising : (number : Listed → ℕ) (x : ℕ) (others : List Listed) → AllByRecursion (λ one. x + 1 ≤ number one) others → IsStrictlyIncreasing (map number others) → IsStrictlyIncreasing (x ∷ map number others)
+rising number x [] above rest = λ k less. absurd (omega (arith, less))
+rising number x (one ∷ others) above rest = first
   where
-    first : (k : ℕ) → k + 1 < length (x ∷ map uid_of (one ∷ others)) → slice_index (x ∷ map uid_of (one ∷ others)) k < slice_index (x ∷ map uid_of (one ∷ others)) (k + 1)
+    first : (k : ℕ) → k + 1 < length (x ∷ map number (one ∷ others)) → slice_index (x ∷ map number (one ∷ others)) k < slice_index (x ∷ map number (one ∷ others)) (k + 1)
     first zero less = omega (arith, above.0)
     first (suc k) less =
         let place : suc k + 1 ≡ suc (k + 1) = omega arith in
-        subst (λ (n : ℕ). slice_index (x ∷ map uid_of (one ∷ others)) (suc k) < slice_index (x ∷ map uid_of (one ∷ others)) n) (sym place) (rest k (omega (arith, less)))
+        subst (λ (n : ℕ). slice_index (x ∷ map number (one ∷ others)) (suc k) < slice_index (x ∷ map number (one ∷ others)) n) (sym place) (rest k (omega (arith, less)))
 
-rising_put : (here live : Bool) (one : Listed) (others more : List Listed) → AllByRecursion (λ other. one.uid + 1 ≤ other.uid) others → IsStrictlyIncreasing (map uid_of others)
-    → IsStrictlyIncreasing (map uid_of more) → IsStrictlyIncreasing (map uid_of (put here live one others more))
-rising_put false live one others more above rest same = same
-rising_put true false one others more above rest same = rest
-rising_put true true one others more above rest same = rising one.uid others above rest
+rising_put : (number : Listed → ℕ) (here live : Bool) (one : Listed) (others more : List Listed) → AllByRecursion (λ other. number one + 1 ≤ number other) others
+    → IsStrictlyIncreasing (map number others) → IsStrictlyIncreasing (map number more) → IsStrictlyIncreasing (map number (put here live one others more))
+rising_put number false live one others more above rest same = same
+rising_put number true false one others more above rest same = rest
+rising_put number true true one others more above rest same = rising number (number one) others above rest
 
 rise_from : (folder at uid : ℕ) (ms : List Message) → IsStrictlyIncreasing (map uid_of (listed_from folder at uid ms))
 rise_from folder at uid [] = λ k less. absurd (omega (arith, less))
 rise_from folder at uid (m ∷ ms) =
-    rising_put (m.folder == folder) m.live (record { id = at; uid = uid; flags = m.flags }) _ _
+    rising_put uid_of (m.folder == folder) m.live (record { id = at; uid = uid; flags = m.flags }) _ _
     (uids_on folder (at + 1) (uid + 1) (uid + 1) ms (omega arith)) (rise_from folder (at + 1) (uid + 1) ms) (rise_from folder (at + 1) uid ms)
 
 pub uids_rise : (kept : Kept) (folder : ℕ) → IsStrictlyIncreasing (map (λ (one : Listed). one.uid) (listed kept folder))
 uids_rise kept folder = rise_from folder 0 1 kept.messages
+
+-- ---- numbers rise
+
+ids_from : (folder at uid : ℕ) (ms : List Message) → IsStrictlyIncreasing (map id_of (listed_from folder at uid ms))
+ids_from folder at uid [] = λ k less. absurd (omega (arith, less))
+ids_from folder at uid (m ∷ ms) =
+    rising_put id_of (m.folder == folder) m.live (record { id = at; uid = uid; flags = m.flags }) _ _
+    (from_on folder (at + 1) (uid + 1) (at + 1) ms (omega arith)) (ids_from folder (at + 1) (uid + 1) ms) (ids_from folder (at + 1) uid ms)
+
+pub ids_rise : (kept : Kept) (folder : ℕ) → IsStrictlyIncreasing (map (λ (one : Listed). one.id) (listed kept folder))
+ids_rise kept folder = ids_from folder 0 1 kept.messages
 
 -- ---- UIDs are below the next one
 

@@ -6,7 +6,7 @@ use Rattle.kept_mail.specs.declared.limits.TheConstants.{THINGS_MAX}
 use Rattle.journal_records.specs.declared.records.Record.{Record}
 use Rattle.kept_mail.specs.declared.kept.Message.{Message}
 use Rattle.journal_records.specs.Addresses.{WithPaths, IsDomainText}
-use Rattle.journal_records.specs.Grammar.{inbox}
+use Rattle.journal_records.specs.Grammar.{IsDate, IsFolderName, inbox}
 use Rattle.journal_records.specs.Spelling.{record_text}
 use Rattle.kept_mail.specs.private.Chains.{AreChained}
 use Rattle.kept_mail.specs.Kept.{Kept, after_all, inbox_of, first_named}
@@ -33,9 +33,10 @@ end_after end (one ∷ others) = end_after (end + length (record_text one)) othe
 abbrev pub with_records : StoreState → List Record → StoreState
 with_records store all = record store { kept = after_all store.kept all; end = end_after store.end all }
 
--- the octets of each message may be kept
+-- the octets of each message may be kept, and its date is one
 pub record AreStored (messages : List Message) : Type 0 where
   pub each : All (λ message. IsStored message.octets) messages
+  pub dated : All (λ message. IsDate message.date) messages
 
 -- What is kept beside for speed: how many messages each folder had, and the last of them; the message before each message in
 -- its folder; each account's INBOX; the first folder of each other name of an account; the first account of each mailbox and
@@ -58,7 +59,7 @@ pub record AreFew (kept : Kept) : Type 0 where
   pub entries : length kept.entries ≤ THINGS_MAX
   pub recipients : recipient_count kept.entries ≤ THINGS_MAX
 
--- The indexes are those of what is kept. Domains are normal forms, and messages may be kept.
+-- The indexes are those of what is kept. Domains are normal forms, folders have names, and messages may be kept.
 pub record AreIndexes (kept : Kept) (indexes : Indexes) : Type 0 where
   pub folder_count : length indexes.contents ≡ length kept.folders
   pub chained : AreChained kept.messages indexes.contents indexes.previous
@@ -71,5 +72,6 @@ pub record AreIndexes (kept : Kept) (indexes : Indexes) : Type 0 where
   pub locals_is : (name : List ℕ) → indexes.locals name ≡ first_name name 0 kept.domains
   pub recipients_is : indexes.recipients ≡ recipient_count kept.entries
   pub domains_are_texts : All IsDomainText kept.domains
+  pub folders_are_named : All (λ folder. IsFolderName folder.name) kept.folders
   pub messages_are_stored : AreStored kept.messages
   pub few : AreFew kept

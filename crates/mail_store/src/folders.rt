@@ -1,11 +1,12 @@
 //! The folders of accounts, by their names.
-ghost use Rattle.std.specs.Prelude.{◌≡◌, ◌≢◌, ◌<◌, ◌∷◌, [], length, slice_get, bytes_eq, IfOk, OnOk, IfSome, None, Err, false};
+ghost use Rattle.std.specs.Prelude.{◌≡◌, ◌≢◌, ◌<◌, ◌∷◌, [], length, slice_get, bytes_eq, IfOk, OnOk, IfSome, IsUtf8, None, Err, false};
+ghost use Rattle.std.specs.List.{All};
 ghost use Rattle.mail_wire.specs.Keeping.{HasKeeperCause};
 ghost use Rattle.journal_records.specs.declared.records.Record.TheVariants as records;
 ghost use Rattle.journal_records.specs.Grammar.{IsFolderName, inbox, kept_name};
 ghost use Rattle.journal_records.specs.Spelling.{record_text};
 ghost use Rattle.mail_store.specs.Changing.{Changes, IsRefusedAs, folder_refusal};
-ghost use Rattle.kept_mail.specs.Kept.{first_named, find_folder, folder_names};
+ghost use Rattle.kept_mail.specs.Kept.{first_named, find_folder, folder_names, kept_folder_name};
 ghost use Rattle.kept_mail.specs.Records.{HasRoom};
 ghost use Rattle.mail_store.specs.private.Folders.{IsNewFolder};
 ghost use Rattle.kept_mail.specs.private.Names.{folder_key};
@@ -67,9 +68,20 @@ impl Store {
 
     /// The names of an account's folders, in order of their numbers.
     pub fn folder_names(&self, account: u32) -> Result<Vec<Octets>, OutOfMemory>
-        ensures { IfOk result (λ names. names.items ≡ folder_names self.now.kept account) }
+        ensures names { IfOk result (λ names. names.items ≡ folder_names self.now.kept account) }
+        ensures utf8 { IfOk result (λ names. All IsUtf8 names.items) }
     {
         names_among(self.alloc, &self.folders, account)
+    }
+
+    /// The name of a folder, by its number.
+    pub fn folder_name(&self, folder: u32) -> &[u8]
+        requires { folder < length self.now.kept.folders }
+        ensures name { result.now ≡ kept_folder_name self.now.kept folder }
+        ensures utf8 { IsUtf8 result.now }
+    {
+        let folder = &self.folders[folder as usize];
+        folder.name.as_slice()
     }
 
     /// Makes a folder of an account, and answers its number. Its name is kept in NFC.

@@ -2,7 +2,7 @@
 ghost use Rattle.std.specs.Prelude.{◌≡◌, ◌↔◌, ◌+◌, ◌^◌, ◌<◌, ◌≤◌, length, IfOk, IfSome, false, slice_get, Some, IsTrue, option_map, IsUtf8};
 ghost use Rattle.std.specs.List.{All};
 ghost use Rattle.address_grammar.specs.Paths.{ComesInPath};
-ghost use Rattle.kept_mail.specs.declared.limits.TheConstants.{MESSAGE_MAX};
+ghost use Rattle.kept_mail.specs.declared.limits.TheConstants.{MESSAGE_MAX, THINGS_MAX};
 ghost use Rattle.journal_records.specs.declared.records.Record.TheVariants as records;
 ghost use Rattle.mail_store.specs.private.Adding.{AddsRecord, IsKeyed, lengthened, marked};
 ghost use Rattle.journal_records.specs.Addresses.{WithPaths};
@@ -396,6 +396,7 @@ impl Store {
         requires { folder < length self.now.kept.folders }
         ensures listing { IfOk result (λ listing. listing.items ≡ listed self.now.kept folder) }
         ensures known { IfOk result (λ listing. All (λ one. one.id < length self.now.kept.messages) listing.items) }
+        ensures few { IfOk result (λ listing. length listing.items ≤ THINGS_MAX) }
     {
         let content = self.contents[folder as usize];
         let mut listing = list_back(self.alloc, &self.messages, &self.previous, content)?;

@@ -82,7 +82,8 @@ fn knows_folders(store: &Store) -> Result<bool, Fail> {
     let others = finds(store, 0, &["cafe", "Caf\u{e9}", ""], None)?;
     let other = finds(store, 1, &["INBOX", KEPT], None)?;
     let listed = lists(store, 0, &["INBOX", KEPT])? && lists(store, 1, &[])?;
-    Ok(inbox && made && others && other && listed)
+    let named = store.folder_count() > 1 && store.folder_name(1) == KEPT.as_bytes();
+    Ok(inbox && made && others && other && listed && named)
 }
 
 // Whether a folder is made once, in the form in which its name is kept, and INBOX never again.

@@ -1,4 +1,5 @@
 use Rattle.std.proofs.Common.{◌≡◌, ℕ, List, arith, ◌<◌, length, ap, subst, ◌∙◌}
+use Rattle.journal_records.specs.Grammar.{IsFolderName}
 use Rattle.kept_mail.specs.declared.limits.TheConstants.{THINGS_MAX}
 use Rattle.kept_mail.specs.private.Names.{folder_key, number_named, PutsName}
 use Rattle.mail_store.specs.private.Store.{kept_of, indexes_of}
@@ -8,6 +9,7 @@ use Rattle.mail_store.proofs.storing.Store.add_folder_record.Goals as goal
 pub invariant_of-self-2 : goal.invariant_of-self-2
 invariant_of-self-2 c =
     let there : c.args.account < length c.self.inside.accounts.items = omega arith in
+    let named : IsFolderName c.args.name = subst IsFolderName c.as_slice.ensures (c.in_ok-is_folder_name.ensures.0 c.if-not-branch.false) in
     let has = c.has_room.ensures.0 c.if-not-has_room.false in
     let room : length c.self.inside.folders.items < THINGS_MAX = omega (arith, has) in
     let number : c.len-number.result ≡ length c.self.inside.folders.items = omega (arith, c.len-number.ensures) in
@@ -18,7 +20,7 @@ invariant_of-self-2 c =
     (subst (PutsName (number_named c.self.inside.names) after c.as_slice-3.result.now) number c.in_ok-put_first.ensures.ok) in
     record {
       indexes = rw (c.put_folder.ensures.folders, c.put_folder.ensures.contents, c.in_ok-reserve_folder.ensures.folders, c.in_ok-reserve_folder.ensures.contents)
-          (AreIndexes-folder (kept_of c.self.inside) (indexes_of c.self.inside) after (record { account = c.args.account; name = c.args.name }) c.self.invariant.indexes there room puts);
+          (AreIndexes-folder (kept_of c.self.inside) (indexes_of c.self.inside) after (record { account = c.args.account; name = c.args.name }) c.self.invariant.indexes there named room puts);
       message_bound = c.self.invariant.message_bound;
     }
 

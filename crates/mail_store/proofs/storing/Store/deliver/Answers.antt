@@ -1,4 +1,4 @@
-use Rattle.std.proofs.Common.{true, false, sym, subst, ◌∙◌}
+use Rattle.std.proofs.Common.{sym, subst, ◌∙◌}
 use Rattle.std.proofs.lemmas.Result.{err_from_is_err_and}
 use Rattle.std.proofs.lemmas.Bool.{true≢false}
 use Rattle.kept_mail.specs.declared.parcels.Parcel.{Parcel}

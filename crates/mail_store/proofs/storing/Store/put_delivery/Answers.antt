@@ -70,7 +70,7 @@ invariant_of-self-2 g c =
     record {
       indexes = AreIndexes-delivered (kept_of c.self.inside) (indexes_of c.self.inside) c.self.inside.message_max delivery parcel.copies.items entry.0 parcel.waiting.entry
           c.put_parcel.new.messages.items c.put_parcel.new.entries.items c.put_parcel.new.contents.items c.put_parcel.new.previous.items c.put_parcel.new.recipients
-          c.self.invariant.indexes c.requires.deliverable.local_tree small copies entry.1 entry.2 messages entries
+          c.self.invariant.indexes c.requires.deliverable.local_tree c.requires.deliverable.dated small copies entry.1 entry.2 messages entries
           c.put_parcel.ensures.chained c.put_parcel.ensures.count c.put_parcel.ensures.recipients;
       message_bound = c.self.invariant.message_bound;
     }

@@ -60,7 +60,7 @@ invariant_of-self-2 g c =
     (subst (PutsName (number_named c.self.inside.names) (number_named c.write_named.new.numbers) c.args.made.named.name) number puts) in
     record {
       indexes = rw (c.put_folder.ensures.folders, c.put_folder.ensures.contents, c.in_ok-reserve_folder.ensures.folders, c.in_ok-reserve_folder.ensures.contents)
-          (AreIndexes-folder (kept_of c.self.inside) (indexes_of c.self.inside) (number_named c.write_named.new.numbers) own c.self.invariant.indexes known room named);
+          (AreIndexes-folder (kept_of c.self.inside) (indexes_of c.self.inside) (number_named c.write_named.new.numbers) own c.self.invariant.indexes known c.requires.named room named);
       message_bound = c.self.invariant.message_bound;
     }
 
