@@ -1,0 +1,5 @@
+pub mod Names
+pub mod Patterns
+pub mod Sets
+pub mod Flags
+pub mod private
