@@ -1,61 +1,56 @@
--- What a store keeps of its name and of its messages' trees, whatever is put last in it.
-use Rattle.std.proofs.Common.{◌≡◌, ℕ, cond, Bool, true, false, List, [], ◌∷◌, map, Option, None, Some, Result, Ok, Err, refl, ap, ◌∙◌, append-nil}
+-- What a store keeps of its name and of its messages' trees and dates, whatever is put last in it.
+use Rattle.std.proofs.Common.{◌≡◌, ℕ, cond, Bool, true, false, List, [], ◌∷◌, map, Option, None, Some, Result, Ok, Err, refl, ap, ◌∙◌, subst, append-nil}
 use Rattle.std.specs.Prelude.{codes, slice_index_or}
-use Rattle.std.specs.List.{AllByRecursion}
-use Rattle.std.proofs.lemmas.List.Elements.{All-from_recursion, recursion_from_All}
+use Rattle.std.proofs.lemmas.List.Elements.{All-push}
 use Rattle.mail_wire.specs.KeeperTelling.{KeeperTelling}
 use Rattle.mail_wire.specs.Keeping.{HasKeeperCause}
 use Rattle.mail_wire.specs.declared.outside.Fault.{Fault}
 use Rattle.mail_wire.specs.declared.outside.Fault.TheVariants as fault
-use Rattle.mail_wire.proofs.AllLemmas.{all-append}
 use Rattle.mail_wire.proofs.Moving.{GoesOn-nil, HasWireCause-fine}
-use Rattle.mail_store.specs.Changing.{delivery_refusal, expunged}
+use Rattle.mail_store.specs.Changing.{Changes, IsRefusedAs, delivery_refusal, expunged, folder_refusal}
 use Rattle.kept_mail.specs.Deliveries.{copy_for, delivered, inboxes_of, queued}
 use Rattle.mail_store.specs.Following.{records_of}
 use Rattle.kept_mail.specs.Kept.{Kept, after_record, after_all, change_at, gone, name_of, with_flags}
 use Rattle.kept_mail.specs.Records.{AreRecords, IsRecord}
+use Rattle.journal_records.specs.Grammar.{IsDate, kept_name}
 use Rattle.journal_records.specs.Stored.{IsStored}
 use Rattle.mail_store.specs.StoreState.{StoreState, AreStored}
 use Rattle.mail_store.specs.declared.changing.StoreFault.{StoreFault}
+use Rattle.mail_store.specs.declared.changing.StoreFault.TheVariants as faults
 use Rattle.kept_mail.specs.declared.delivery.Delivery.{Delivery}
 use Rattle.kept_mail.specs.declared.kept.Message.{Message}
 use Rattle.journal_records.specs.declared.records.Record.{Record}
 use Rattle.journal_records.specs.declared.records.Record.TheVariants as records
 use Rattle.mail_store.proofs.ChangeLemmas.{after_all-append}
 use Rattle.mail_store.proofs.DeliveryLemmas.{after-copies}
-use Rattle.kept_mail.proofs.SameMessages.{AreSameMessages-flags, AreSameMessages-gone, stored-same}
+use Rattle.mail_store.proofs.IndexLemmas.{AreStored-same}
+use Rattle.kept_mail.proofs.SameMessages.{AreSameMessages-flags, AreSameMessages-gone}
 use Rattle.session_core.specs.Around.{Around}
-use Rattle.session_core.specs.Changes.{calls_of, changes_of, unless_refused}
+use Rattle.session_core.specs.Changes.{calls_of, changes_of, folder_changes, unless_refused}
 use Rattle.session_core.specs.Doing.{IsChanged}
 use Rattle.session_core.specs.Keeps.{Keeps, answer_of, fault_of}
 
 -- ---- what holds after any records
 
--- the octets of each message may be kept
-abbrev AllStored : List Message → Type 0
-AllStored messages = AllByRecursion (λ (message : Message). IsStored message.octets) messages
-
-stored_after : (kept : Kept) (one : Record) → IsRecord kept one → AllStored kept.messages → AllStored (after_record kept one).messages
+stored_after : (kept : Kept) (one : Record) → IsRecord kept one → AreStored kept.messages → AreStored (after_record kept one).messages
 stored_after kept (records.Message folder flags date octets) is stored =
-    all-append (λ (message : Message). IsStored message.octets) kept.messages (record { folder = folder; flags = flags; live = true; date = date; octets = octets } ∷ []) stored (is.in_order.3, tt)
-stored_after kept (records.Flags message flags) is stored = stored-same kept.messages (change_at (with_flags flags) kept.messages message) (AreSameMessages-flags flags kept.messages message).octets stored
-stored_after kept (records.Expunge message) is stored = stored-same kept.messages (change_at gone kept.messages message) (AreSameMessages-gone kept.messages message).octets stored
+    let message : Message = record { folder = folder; flags = flags; live = true; date = date; octets = octets } in
+    record {
+      each = All-push (λ (m : Message). IsStored m.octets) kept.messages message stored.each is.in_order.3;
+      dated = All-push (λ (m : Message). IsDate m.date) kept.messages message stored.dated is.in_order.2;
+    }
+stored_after kept (records.Flags message flags) is stored = AreStored-same kept.messages (change_at (with_flags flags) kept.messages message) stored (AreSameMessages-flags flags kept.messages message)
+stored_after kept (records.Expunge message) is stored = AreStored-same kept.messages (change_at gone kept.messages message) stored (AreSameMessages-gone kept.messages message)
 stored_after kept (records.Account address password) is stored = stored
 stored_after kept (records.Domain name) is stored = stored
 stored_after kept (records.Folder account name) is stored = stored
 stored_after kept (records.Queue path addresses octets) is stored = stored
 stored_after kept (records.Settle entry index) is stored = stored
 
-stored_all : (kept : Kept) (all : List Record) → AreRecords kept all → AllStored kept.messages → AllStored (after_all kept all).messages
-stored_all kept [] are stored = stored
-stored_all kept (one ∷ others) are stored = stored_all (after_record kept one) others are.1 (stored_after kept one are.0 stored)
-
 -- so it is after changes
 pub AreStored-after : (kept : Kept) (all : List Record) → AreRecords kept all → AreStored kept.messages → AreStored (after_all kept all).messages
-AreStored-after kept all are stored = record {
-  each = All-from_recursion (λ (message : Message). IsStored message.octets) (after_all kept all).messages
-      (stored_all kept all are (recursion_from_All (λ (message : Message). IsStored message.octets) kept.messages stored.each));
-}
+AreStored-after kept [] are stored = stored
+AreStored-after kept (one ∷ others) are stored = AreStored-after (after_record kept one) others are.1 (stored_after kept one are.0 stored)
 
 -- ---- a store's name stays
 
@@ -76,6 +71,18 @@ delivered_domains kept delivery =
 
 same_name : (old new : Kept) → new.domains ≡ old.domains → name_of new ≡ name_of old
 same_name old new same = ap (λ (l : List (List ℕ)). slice_index_or l 0 (codes "localhost")) same
+
+-- what isn't refused is one change
+unrefused : (refusal : Option StoreFault) (all : List Record) → refusal ≡ None → unless_refused refusal all ≡ all ∷ []
+unrefused refusal all none = rw none refl
+
+-- a call of the store in which the keeper failed broke off its one change
+pub broken_off : (T : Type 0) (old new : StoreState) (had has : Option (List ℕ)) (met : StoreFault) (refusal : Option StoreFault) (all : List Record) → met ≡ faults.Keeper
+    → Changes {T = T} old new had has (Err met) all → IsRefusedAs {T = T} (Err met) refusal → IsChanged old new had has (Some fault.Keeper) (unless_refused refusal all)
+broken_off T old new had has met refusal all is changes refused =
+    let changed : Changes {T = T} old new had has (Err faults.Keeper) all = subst (λ (m : StoreFault). Changes {T = T} old new had has (Err m) all) is changes in
+    let none : IsRefusedAs {T = T} (Err faults.Keeper) refusal = subst (λ (m : StoreFault). IsRefusedAs {T = T} (Err m) refusal) is refused in
+    (all, unrefused refusal all none, record { records = changed.0; store = changed.1; count = changed.2; journal = changed.3 })
 
 -- these changes leave the name as it is
 abbrev pub KeepsName : StoreState → List (List Record) → Type 0
@@ -98,6 +105,12 @@ calls_name store (one ∷ others) same = rw (append-nil (one ∷ others)) (same_
 
 expunged_name : (store : StoreState) (ids : List ℕ) → KeepsName store (calls_of (expunged ids))
 expunged_name store ids = calls_name store (expunged ids) (expunged_domains store.kept ids)
+
+flags_name : (store : StoreState) (id flags : ℕ) → KeepsName store ((records.Flags id flags ∷ []) ∷ [])
+flags_name store id flags = refl
+
+folder_name : (store : StoreState) (account : ℕ) (name : List ℕ) → KeepsName store (folder_changes store account name)
+folder_name store account name = unless_name store (records.Folder account (kept_name name) ∷ []) (folder_refusal store.kept account name) refl
 
 -- ---- what a change leaves
 
@@ -172,3 +185,13 @@ pub expunge_keeps : {T : Type 0} (a : Around) (store : StoreState) (keeper : Kee
     → IsChanged a.desk.store store a.keeper.octets keeper.octets (fault_of result) (calls_of (expunged ids)) → HasKeeperCause a.keeper keeper result fault.Keeper → ¬ (result ≡ Err fault.Wire)
     → Keeps a (with_store a store keeper) (fault_of result)
 expunge_keeps a store keeper result ids = answered a store keeper result (calls_of (expunged ids)) (expunged_name a.desk.store ids)
+
+pub flags_keeps : {T : Type 0} (a : Around) (store : StoreState) (keeper : KeeperTelling) (result : Result T Fault) (id flags : ℕ)
+    → IsChanged a.desk.store store a.keeper.octets keeper.octets (fault_of result) ((records.Flags id flags ∷ []) ∷ []) → HasKeeperCause a.keeper keeper result fault.Keeper → ¬ (result ≡ Err fault.Wire)
+    → Keeps a (with_store a store keeper) (fault_of result)
+flags_keeps a store keeper result id flags = answered a store keeper result ((records.Flags id flags ∷ []) ∷ []) (flags_name a.desk.store id flags)
+
+pub folder_keeps : {T : Type 0} (a : Around) (store : StoreState) (keeper : KeeperTelling) (result : Result T Fault) (account : ℕ) (name : List ℕ)
+    → IsChanged a.desk.store store a.keeper.octets keeper.octets (fault_of result) (folder_changes a.desk.store account name) → HasKeeperCause a.keeper keeper result fault.Keeper → ¬ (result ≡ Err fault.Wire)
+    → Keeps a (with_store a store keeper) (fault_of result)
+folder_keeps a store keeper result account name = answered a store keeper result (folder_changes a.desk.store account name) (folder_name a.desk.store account name)

@@ -1,4 +1,4 @@
--- There are functions that give surrogates, read paths and tell trees.
+-- There are functions that give surrogates, read paths, tell trees, and read commands and names.
 use Rattle.std.proofs.Common.{ℕ, List, Bool, true, false, rules, ◌⊎◌, inl, inr}
 use Rattle.std.specs.Prelude.{IsTrue, ◌↔◌}
 use Rattle.mime_tree.specs.declared.entity.Entity.{Entity}
@@ -7,6 +7,8 @@ use Rattle.mime_tree.proofs.DecidingTrees.{decide_tree}
 use Rattle.journal_records.specs.Stored.{IsStored}
 use Rattle.surrogate_cache.proofs.ServedLemmas.{surrogates_given}
 use Rattle.address_lists.proofs.PathPiecesLemmas.{paths_read}
+use Rattle.imap_grammar.proofs.DecidingDue.{commands_read}
+use Rattle.imap_mailboxes.proofs.ReadMailboxes.{mailboxes_read}
 use Rattle.session_core.specs.Meanings.{Meanings, AreMeanings}
 
 -- octets have a tree of entities, or none
@@ -26,6 +28,18 @@ told_is octets (inr none) = (λ is. absurd (search rules), λ stored. absurd (no
 
 pub meanings_given : (meanings : Meanings) × AreMeanings meanings
 meanings_given = (
-  record { surrogate = surrogates_given.0; path_of = paths_read.0; has_tree = λ octets. told octets (decide_tree octets) },
-  record { surrogates = surrogates_given.1; paths = paths_read.1; trees = λ octets. told_is octets (decide_tree octets) },
+  record {
+    surrogate = surrogates_given.0;
+    path_of = paths_read.0;
+    has_tree = λ octets. told octets (decide_tree octets);
+    event_of = commands_read.0;
+    name_of = mailboxes_read.0;
+  },
+  record {
+    surrogates = surrogates_given.1;
+    paths = paths_read.1;
+    trees = λ octets. told_is octets (decide_tree octets);
+    commands = commands_read.1;
+    names = mailboxes_read.1;
+  },
 )

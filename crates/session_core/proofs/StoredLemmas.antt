@@ -1,12 +1,13 @@
--- The octets of a store's messages, also of none, and what a legacy session is shown of them.
-use Rattle.std.proofs.Common.{◌≡◌, ℕ, zero, suc, List, [], ◌∷◌, false, Some, None, refl, sym, subst, ◌∙◌, inl, inr, arith}
+-- The octets and the dates of a store's messages, also of none, and what a legacy session is shown of them.
+use Rattle.std.proofs.Common.{◌≡◌, ℕ, zero, suc, List, [], ◌∷◌, false, true, Some, None, refl, sym, subst, ◌∙◌, inl, inr, arith}
 use Rattle.std.specs.Prelude.{slice_get}
-use Rattle.std.specs.List.{AllByRecursion}
+use Rattle.std.specs.List.{AllByRecursion, list_all}
 use Rattle.std.specs.Option.{option_map_or}
-use Rattle.std.proofs.lemmas.List.Elements.{All-from_recursion, recursion_from_All}
+use Rattle.std.proofs.lemmas.List.Elements.{recursion_from_All}
 use Rattle.std.proofs.lemmas.Option.{slice_get_past}
 use Rattle.mail_wire.specs.Lines.{lines_of}
 use Rattle.mail_wire.specs.Message.{IsFaulty, StandsAt}
+use Rattle.mail_wire.specs.Octets.{is_ascii}
 use Rattle.mime_tree.specs.Openings.{Opens}
 use Rattle.mime_tree.specs.Tree.{IsEntity}
 use Rattle.mime_tree.specs.declared.entity.Entity.{Entity}
@@ -15,13 +16,16 @@ use Rattle.mime_tree.specs.declared.openings.Opening.TheVariants.{Nothing}
 use Rattle.surrogate_rope.specs.Layout.{HasAsciiBlocks, HasSurrogate}
 use Rattle.surrogate_rope.proofs.AllSurrogates.{some_surrogate}
 use Rattle.surrogate_rope.proofs.SurrogateBlocks.{surrogate_blocks}
+use Rattle.journal_records.specs.Grammar.{IsDate}
 use Rattle.journal_records.specs.Stored.{IsStored}
 use Rattle.mail_store.specs.Changing.{expunged}
 use Rattle.kept_mail.specs.Kept.{Kept, after_all, change_at, gone}
 use Rattle.mail_store.specs.StoreState.{StoreState, AreStored}
 use Rattle.kept_mail.specs.declared.kept.Message.{Message}
-use Rattle.kept_mail.proofs.SameMessages.{AreSameMessages-gone, stored-same}
-use Rattle.session_core.specs.Desks.{stored_octets}
+use Rattle.kept_mail.proofs.SameMessages.{AreSameMessages-gone}
+use Rattle.kept_mail.proofs.DateLemmas.{date_ascii}
+use Rattle.mail_store.proofs.IndexLemmas.{AreStored-same}
+use Rattle.session_core.specs.Desks.{stored_date, stored_octets}
 use Rattle.session_core.specs.Meanings.{Meanings, AreMeanings}
 
 -- ---- no octets
@@ -82,17 +86,22 @@ stored_get (message ∷ messages) (suc id) all = stored_get messages id all.1
 pub stored_at : (store : StoreState) (id : ℕ) → AreStored store.kept.messages → IsStored (stored_octets store id)
 stored_at store id are = stored_get store.kept.messages id (recursion_from_All (λ (message : Message). IsStored message.octets) store.kept.messages are.each)
 
-stored_gone : (kept : Kept) (ids : List ℕ) → AllStored kept.messages → AllStored (after_all kept (expunged ids)).messages
-stored_gone kept [] all = all
-stored_gone kept (id ∷ ids) all =
-    stored_gone (record kept { messages = change_at gone kept.messages id }) ids (stored-same kept.messages (change_at gone kept.messages id) (AreSameMessages-gone kept.messages id).octets all)
+dated_get : (messages : List Message) (id : ℕ) → AllByRecursion (λ (message : Message). IsDate message.date) messages
+    → list_all is_ascii (option_map_or (λ (message : Message). message.date) (slice_get messages id) []) ≡ true
+dated_get [] zero all = refl
+dated_get [] (suc id) all = refl
+dated_get (message ∷ messages) zero all = date_ascii message.date all.0
+dated_get (message ∷ messages) (suc id) all = dated_get messages id all.1
+
+-- the date of what stands at any number is ASCII
+pub dated_at : (store : StoreState) (id : ℕ) → AreStored store.kept.messages → list_all is_ascii (stored_date store id) ≡ true
+dated_at store id are = dated_get store.kept.messages id (recursion_from_All (λ (message : Message). IsDate message.date) store.kept.messages are.dated)
 
 -- so it is behind messages that were taken out
 pub stored-expunged : (kept : Kept) (ids : List ℕ) → AreStored kept.messages → AreStored (after_all kept (expunged ids)).messages
-stored-expunged kept ids are = record {
-  each = All-from_recursion (λ (message : Message). IsStored message.octets) (after_all kept (expunged ids)).messages
-      (stored_gone kept ids (recursion_from_All (λ (message : Message). IsStored message.octets) kept.messages are.each));
-}
+stored-expunged kept [] are = are
+stored-expunged kept (id ∷ ids) are =
+    stored-expunged (record kept { messages = change_at gone kept.messages id }) ids (AreStored-same kept.messages (change_at gone kept.messages id) are (AreSameMessages-gone kept.messages id))
 
 -- ---- what is shown
 

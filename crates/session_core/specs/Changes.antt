@@ -1,11 +1,16 @@
 -- What the bundle's changing calls do to a store.
-use Rattle.std.specs.Prelude.{List, [], ◌∷◌, Option, None, Some}
-use Rattle.mail_store.specs.Changing.{delivery_refusal}
+use Rattle.std.specs.Prelude.{ℕ, List, [], ◌∷◌, Option, None, Some}
+use Rattle.mail_store.specs.Changing.{delivery_refusal, folder_refusal}
 use Rattle.kept_mail.specs.Deliveries.{delivered}
 use Rattle.mail_store.specs.StoreState.{StoreState}
 use Rattle.mail_store.specs.declared.changing.StoreFault.{StoreFault}
+use Rattle.mail_store.specs.declared.changing.StoreFault.TheVariants as faults
 use Rattle.kept_mail.specs.declared.delivery.Delivery.{Delivery}
+use Rattle.journal_records.specs.Grammar.{kept_name}
 use Rattle.journal_records.specs.declared.records.Record.{Record}
+use Rattle.journal_records.specs.declared.records.Record.TheVariants as records
+use Rattle.session_core.specs.declared.outside.Created.{Created}
+use Rattle.session_core.specs.declared.outside.Created.TheVariants as created
 use Rattle.session_core.specs.declared.outside.Delivered.{Delivered}
 use Rattle.session_core.specs.declared.outside.Delivered.TheVariants.{Stored, TooLarge}
 
@@ -27,3 +32,13 @@ changes_of store delivery = unless_refused (delivery_refusal store delivery) (de
 abbrev pub came_of : Option StoreFault → Delivered
 came_of None = Stored
 came_of (Some refusal) = TooLarge
+
+-- the change that makes a folder
+abbrev pub folder_changes : StoreState → (account : ℕ) → (name : List ℕ) → List (List Record)
+folder_changes store account name = unless_refused (folder_refusal store.kept account name) (records.Folder account (kept_name name) ∷ [])
+
+-- what came of a folder that was refused so, or that wasn't
+abbrev pub created_of : Option StoreFault → Created
+created_of None = created.Made
+created_of (Some faults.Exists) = created.Exists
+created_of (Some other) = created.TooLarge

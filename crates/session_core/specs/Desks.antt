@@ -53,3 +53,7 @@ HasFirst kept octets = IfSome kept (λ desk. (all : List Record) × HasReadFirst
 -- the octets of a message of the store
 abbrev pub stored_octets : StoreState → ℕ → List ℕ
 stored_octets store id = option_map_or (λ (message : Message). message.octets) (slice_get store.kept.messages id) []
+
+-- the date of a message of the store
+abbrev pub stored_date : StoreState → ℕ → List ℕ
+stored_date store id = option_map_or (λ (message : Message). message.date) (slice_get store.kept.messages id) []

@@ -1,26 +1,34 @@
--- What sessions take from other definitions: what surrogate a message has, what a text says that may be a path, and which octets have
--- a tree of entities.
+-- What sessions take from other definitions: what surrogate a message has, what a text says that may be a path, which octets have a
+-- tree of entities, what is due first in a stream of IMAP commands, and which mailbox a text names.
 use Rattle.std.specs.Prelude.{ℕ, List, Bool, Option, IsTrue, ◌↔◌}
 use Rattle.address_grammar.specs.declared.Address.{Address}
 use Rattle.address_grammar.specs.Paths.{ReadsPaths}
 use Rattle.journal_records.specs.Stored.{IsStored}
 use Rattle.surrogate_cache.specs.Served.{GivesSurrogates}
+use Rattle.imap_grammar.specs.FirstDue.{Due, ReadsCommands}
+use Rattle.imap_mailboxes.specs.Names.{ReadsMailboxes}
 
 pub record Meanings : Type 0 where
   pub surrogate : List ℕ → List ℕ
   pub path_of : List ℕ → Option (Option Address)
   pub has_tree : List ℕ → Bool
+  -- by whether the session has enabled UTF-8, what was seen of a command, and what follows
+  pub event_of : Bool → List ℕ → List ℕ → Option Due
+  -- by whether the session has enabled UTF-8
+  pub name_of : Bool → List ℕ → Option (List ℕ)
 
 -- the function tells which octets have a tree of entities
 abbrev pub TellsTrees : (List ℕ → Bool) → Type 0
 TellsTrees has_tree = (octets : List ℕ) → IsTrue (has_tree octets) ↔ IsStored octets
 
--- they give surrogates, read paths and tell trees
+-- they give surrogates, read paths, tell trees, read commands and read names
 pub record AreMeanings (meanings : Meanings) : Type 0 where
   pub surrogates : GivesSurrogates meanings.surrogate
   pub paths : ReadsPaths meanings.path_of
   pub trees : TellsTrees meanings.has_tree
+  pub commands : ReadsCommands meanings.event_of
+  pub names : ReadsMailboxes meanings.name_of
 
--- whatever functions give surrogates, read paths and tell trees
+-- whatever functions do so
 abbrev pub WithMeanings : (Meanings → Type 0) → Type 0
 WithMeanings P = (meanings : Meanings) → AreMeanings meanings → P meanings

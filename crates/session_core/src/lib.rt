@@ -12,6 +12,6 @@ mod serving;
 pub use desk::{Desk, LIMITS, Limits, next_desk, open_desk};
 pub use feeding::{Reading, Session, feed};
 pub use machine::{Came, Machine};
-pub use outside::{Delivered, Outside, Stamp};
+pub use outside::{Created, Delivered, Outside, Stamp};
 pub use rows::{Framed, Rows, Wants};
 pub use serving::{Served, serve};

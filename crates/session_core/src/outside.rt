@@ -1,15 +1,17 @@
 //! All that a session meets, as one value: its wire, its keeper, its clock, and the desk that it is served from.
-ghost use Rattle.std.specs.Prelude.{◌≡◌, ◌<◌, ◌≤◌, ◌==◌, length, IfOk, OnErr, Err, None, false, []};
+ghost use Rattle.std.specs.Prelude.{◌≡◌, ◌<◌, ◌≤◌, ◌==◌, ◌∷◌, length, IfOk, OnErr, Err, None, false, []};
 ghost use Rattle.std.specs.List.{IsDistinct};
 ghost use Rattle.mail_wire.specs.Keeping.{HasKeeperCause};
 ghost use Rattle.mail_wire.specs.Moves.{TakesNothing, TakesPiece};
-ghost use Rattle.mail_store.specs.Changing.{IsDeliverable, delivery_refusal, expunged, expunge_refusal};
+ghost use Rattle.journal_records.specs.Grammar.{IsFolderName, kept_name};
+ghost use Rattle.journal_records.specs.declared.records.Record.TheVariants as records;
+ghost use Rattle.mail_store.specs.Changing.{IsDeliverable, delivery_refusal, expunged, expunge_refusal, flags_refusal, folder_refusal};
 ghost use Rattle.surrogate_rope.specs.Served.{IsShownOf, shown_octets};
 ghost use Rattle.surrogate_cache.specs.Served.{IsServed, HasServedHeaders};
 ghost use Rattle.session_core.specs.Around.{LeavesDesk};
 ghost use Rattle.session_core.specs.Moments.{IsTold, moment_of};
-ghost use Rattle.session_core.specs.Changes.{calls_of, came_of, changes_of};
-ghost use Rattle.session_core.specs.Desks.{IsOpen, stored_octets};
+ghost use Rattle.session_core.specs.Changes.{calls_of, came_of, changes_of, created_of, folder_changes};
+ghost use Rattle.session_core.specs.Desks.{IsOpen, stored_date, stored_octets};
 ghost use Rattle.session_core.specs.Doing.{IsChanged, Makes, Replies};
 ghost use Rattle.session_core.specs.Keeps.{Keeps, fault_of};
 
@@ -62,6 +64,16 @@ pub struct Stamp {
 #[derive(Clone, Copy, Debug, PartialEq, Eq)]
 pub enum Delivered {
     Stored,
+    /// It would pass a limit of the store.
+    TooLarge,
+}
+
+/// What came of a folder that was to be made.
+#[derive(Clone, Copy, Debug, PartialEq, Eq)]
+pub enum Created {
+    Made,
+    /// The account has a folder that is meant by the name.
+    Exists,
     /// It would pass a limit of the store.
     TooLarge,
 }
@@ -124,6 +136,53 @@ fn expunge_from<J: Keeper>(store: &mut Store, keeper: &mut J, ids: &[u32]) -> Re
         Err(StoreFault::Keeper) => Err(Fault::Keeper),
         Err(StoreFault::Memory) => Err(Fault::Memory),
         Err(StoreFault::Exists | StoreFault::NoSuch | StoreFault::TooLarge) => unreachable!(),
+    }
+}
+
+// Gives a message that isn't gone other flags.
+fn set_flags_in<J: Keeper>(
+    store: &mut Store,
+    keeper: &mut J,
+    id: u32,
+    flags: u8,
+) -> Result<(), Fault>
+    requires works { store.old.failed ≡ false }
+    requires live { flags_refusal store.old.kept id ≡ None }
+    requires flags { flags < 32 }
+    ensures changes { IsChanged store.old store.new (J.tells keeper.old).octets (J.tells keeper.new).octets (fault_of result) ((records.Flags id flags ∷ []) ∷ []) }
+    ensures cause { HasKeeperCause (J.tells keeper.old) (J.tells keeper.new) result Fault.Keeper }
+    ensures wire { ¬ (result ≡ Err Fault.Wire) }
+{
+    match store.set_flags(keeper, id, flags) {
+        Ok(()) => Ok(()),
+        Err(StoreFault::Keeper) => Err(Fault::Keeper),
+        Err(StoreFault::Memory) => Err(Fault::Memory),
+        Err(StoreFault::Exists | StoreFault::NoSuch | StoreFault::TooLarge) => unreachable!(),
+    }
+}
+
+// Makes a folder, or tells why it is refused.
+fn create_folder_in<J: Keeper>(
+    store: &mut Store,
+    keeper: &mut J,
+    account: u32,
+    name: &str,
+) -> Result<Created, Fault>
+    requires works { store.old.failed ≡ false }
+    requires known { account < length store.old.kept.accounts }
+    requires name { IsFolderName (kept_name name.now) }
+    ensures came { IfOk result (λ came. came ≡ created_of (folder_refusal store.old.kept account name.now)) }
+    ensures changes { IsChanged store.old store.new (J.tells keeper.old).octets (J.tells keeper.new).octets (fault_of result) (folder_changes store.old account name.now) }
+    ensures cause { HasKeeperCause (J.tells keeper.old) (J.tells keeper.new) result Fault.Keeper }
+    ensures wire { ¬ (result ≡ Err Fault.Wire) }
+{
+    match store.create_folder(keeper, account, name) {
+        Ok(_) => Ok(Created::Made),
+        Err(StoreFault::Exists) => Ok(Created::Exists),
+        Err(StoreFault::TooLarge) => Ok(Created::TooLarge),
+        Err(StoreFault::Keeper) => Err(Fault::Keeper),
+        Err(StoreFault::Memory) => Err(Fault::Memory),
+        Err(StoreFault::NoSuch) => unreachable!(),
     }
 }
 
@@ -201,6 +260,14 @@ impl<'w, 'k, 'c, W: Wire, J: Keeper, C: Clock> Outside<'w, 'k, 'c, W, J, C> {
         self.desk.store.octets(id)
     }
 
+    /// The date of a message of the store.
+    pub fn date(&self, id: u32) -> &[u8]
+        requires { id < length self.now.desk.store.kept.messages }
+        ensures { result.now ≡ stored_date self.now.desk.store id }
+    {
+        self.desk.store.date(id)
+    }
+
     pub fn limits(&self) -> Limits
         ensures { result ≡ self.now.desk.limits }
     {
@@ -261,6 +328,29 @@ impl<'w, 'k, 'c, W: Wire, J: Keeper, C: Clock> Outside<'w, 'k, 'c, W, J, C> {
         ensures keeps { Keeps self.old self.new (fault_of result) }
     {
         expunge_from(&mut self.desk.store, self.keeper, ids)
+    }
+
+    /// Gives a message other flags in place of those that it has, also where they are the same.
+    pub fn set_flags(&mut self, id: u32, flags: u8) -> Result<(), Fault>
+        requires opens { IsOpen self.old.desk }
+        requires live { flags_refusal self.old.desk.store.kept id ≡ None }
+        requires flags { flags < 32 }
+        ensures makes { Makes self.old self.new (fault_of result) ((records.Flags id flags ∷ []) ∷ []) }
+        ensures keeps { Keeps self.old self.new (fault_of result) }
+    {
+        set_flags_in(&mut self.desk.store, self.keeper, id, flags)
+    }
+
+    /// Makes a folder of an account. Its name is kept in NFC.
+    pub fn create_folder(&mut self, account: u32, name: &str) -> Result<Created, Fault>
+        requires opens { IsOpen self.old.desk }
+        requires known { account < length self.old.desk.store.kept.accounts }
+        requires name { IsFolderName (kept_name name.now) }
+        ensures came { IfOk result (λ came. came ≡ created_of (folder_refusal self.old.desk.store.kept account name.now)) }
+        ensures makes { Makes self.old self.new (fault_of result) (folder_changes self.old.desk.store account name.now) }
+        ensures keeps { Keeps self.old self.new (fault_of result) }
+    {
+        create_folder_in(&mut self.desk.store, self.keeper, account, name)
     }
 
     /// The present moment, in UTC.

@@ -2,6 +2,8 @@
 //! the session.
 #![tactic(auto)]
 
+#[cfg(test)]
+mod changing;
 mod echo;
 #[cfg(test)]
 mod tests;
