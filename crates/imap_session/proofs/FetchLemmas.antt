@@ -1,0 +1,360 @@
+-- What is told of a message.
+use Rattle.std.proofs.Common.{◌≡◌, ℕ, ◌+◌, ◌-◌, ◌<◌, ◌≤◌, min, Bool, true, false, List, [], ◌∷◌, ◌++◌, length, get_or, map, take, drop, Option, None, Some, refl, sym, ap, subst, ◌∙◌, append-nil, append_assoc, arith}
+use Rattle.std.specs.Prelude.{codes, ◌&&◌, not, if◌then◌else◌}
+use Rattle.std.specs.Fmt.{decimal}
+use Rattle.std.specs.List.{flat_map, list_any}
+use Rattle.std.proofs.lemmas.Bool.{cond-false, cond-true}
+use Rattle.std.proofs.lemmas.List.{length-drop, length-take-le, map-append, take_all, take_at, take_more, take-append-drop}
+use Rattle.std.proofs.lemmas.List.Folds.{list_any_at}
+use Rattle.std.proofs.Math.Seq.{take-append-add}
+use Rattle.mail_wire.specs.Moves.{Gives, GivesPrefix}
+use Rattle.mail_wire.specs.Telling.{Telling}
+use Rattle.mail_wire.specs.declared.outside.Fault.{Fault}
+use Rattle.mail_wire.proofs.Moving.{Gives-prefix, Gives-trans, GivesPrefix-more}
+use Rattle.kept_mail.specs.declared.kept.Listed.{Listed}
+use Rattle.mail_store.specs.StoreState.{StoreState}
+use Rattle.surrogate_rope.specs.declared.shown.Shown.{Shown}
+use Rattle.surrogate_cache.specs.Served.{Mode, IsServed, served_by}
+use Rattle.surrogate_cache.proofs.ServedLemmas.{IsServed-by}
+use Rattle.session_core.specs.Acts.{Act, changes, gives}
+use Rattle.session_core.specs.Around.{Around}
+use Rattle.session_core.specs.Desks.{stored_octets}
+use Rattle.session_core.specs.Doing.{Replies}
+use Rattle.session_core.specs.Meanings.{Meanings, AreMeanings}
+use Rattle.imap_grammar.specs.declared.command.FetchItem.{FetchItem}
+use Rattle.imap_grammar.specs.declared.command.FetchItem.TheVariants as item
+use Rattle.imap_mailboxes.specs.Flags.{flags_text}
+use Rattle.imap_session.specs.Machine.{becomes_seen, fetch_one, fetch_reply, flags_change, is_flags, is_seen, item_parts, line, literal_parts, parts_behind, reply, seen, sets_seen, size_of, with_flags, with_uid}
+use Rattle.imap_session.specs.Replies.{ReplyPart, text, shown, part_octets}
+use Rattle.imap_session.specs.private.Fetched.{end_octets, space_octets, tells_flags_last, tells_uid_first, uid_first_octets}
+use Rattle.imap_session.specs.private.Pending.{Carries}
+use Rattle.imap_session.specs.private.Shown.{HasShown, shows}
+use Rattle.imap_session.proofs.PendingLemmas.{Carries-before, Carries-parts, Carries-replies, Carries-then}
+
+pub reply-append : (xs ys : List ReplyPart) → reply (xs ++ ys) ≡ reply xs ++ reply ys
+reply-append xs ys = map-append gives xs ys
+
+-- ---- items, with a space between any two
+
+-- whether something stands before what comes next
+abbrev pub stands_behind : {A : Type 0} → (others : Bool) → List A → Bool
+stands_behind others [] = others
+stands_behind others (x ∷ xs) = true
+
+behind_true : {A : Type 0} (xs : List A) → stands_behind true xs ≡ true
+behind_true [] = refl
+behind_true (x ∷ xs) = refl
+
+behind-map : {A B : Type 0} (f : A → B) (others : Bool) (xs : List A) → stands_behind others (map f xs) ≡ stands_behind others xs
+behind-map f others [] = refl
+behind-map f others (x ∷ xs) = refl
+
+pub behind-push : {A : Type 0} (others : Bool) (xs : List A) (x : A) → stands_behind others (xs ++ x ∷ []) ≡ true
+behind-push others [] x = refl
+behind-push others (y ∷ xs) x = refl
+
+behind_one : (one : List ReplyPart) (xs ys : List (List ReplyPart)) → parts_behind true (xs ++ ys) ≡ parts_behind true xs ++ parts_behind (stands_behind true xs) ys
+    → one ++ parts_behind true (xs ++ ys) ≡ (one ++ parts_behind true xs) ++ parts_behind true ys
+behind_one one xs ys is =
+    ap (λ (l : List ReplyPart). one ++ l) (is ∙ ap (λ (b : Bool). parts_behind true xs ++ parts_behind b ys) (behind_true xs)) ∙ sym (append_assoc one (parts_behind true xs) (parts_behind true ys))
+
+parts_behind-append : (others : Bool) (xs ys : List (List ReplyPart)) → parts_behind others (xs ++ ys) ≡ parts_behind others xs ++ parts_behind (stands_behind others xs) ys
+parts_behind-append others [] ys = refl
+parts_behind-append false (one ∷ xs) ys = behind_one one xs ys (parts_behind-append true xs ys)
+parts_behind-append true (one ∷ xs) ys = ap (λ (l : List ReplyPart). text (codes " ") ∷ l) (behind_one one xs ys (parts_behind-append true xs ys))
+
+space_parts : (apart : Bool) → List ReplyPart
+space_parts false = []
+space_parts true = text (codes " ") ∷ []
+
+behind_alone : (apart : Bool) (parts : List ReplyPart) → parts_behind apart (parts ∷ []) ≡ space_parts apart ++ parts
+unfolding space_parts
+behind_alone false parts = append-nil parts
+behind_alone true parts = ap (λ (l : List ReplyPart). text (codes " ") ∷ l) (append-nil parts)
+
+space_given : (meanings : Meanings) (apart : Bool) → space_octets apart ≡ flat_map (part_octets meanings) (space_parts apart)
+unfolding space_parts
+space_given meanings false = refl
+space_given meanings true = refl
+
+-- the parts of so many items, and of the others
+behind_cut : (others : Bool) (f : FetchItem → List ReplyPart) (xs ys : List FetchItem)
+    → parts_behind others (map f (xs ++ ys)) ≡ parts_behind others (map f xs) ++ parts_behind (stands_behind others xs) (map f ys)
+behind_cut others f xs ys =
+    ap (parts_behind others) (map-append f xs ys)
+    ∙ (parts_behind-append others (map f xs) (map f ys) ∙ ap (λ (b : Bool). parts_behind others (map f xs) ++ parts_behind b (map f ys)) (behind-map f others xs))
+
+behind_more : (others : Bool) (f : FetchItem → List ReplyPart) (xs : List FetchItem) (x : FetchItem)
+    → reply (parts_behind others (map f (xs ++ x ∷ []))) ≡ reply (parts_behind others (map f xs)) ++ (reply (space_parts (stands_behind others xs)) ++ reply (f x))
+behind_more others f xs x =
+    ap reply (behind_cut others f xs (x ∷ []) ∙ ap (λ (l : List ReplyPart). parts_behind others (map f xs) ++ l) (behind_alone (stands_behind others xs) (f x)))
+    ∙ (reply-append (parts_behind others (map f xs)) (space_parts (stands_behind others xs) ++ f x)
+    ∙ ap (λ (l : List (Act ReplyPart)). reply (parts_behind others (map f xs)) ++ l) (reply-append (space_parts (stands_behind others xs)) (f x)))
+
+-- one item more, behind a space or not
+pub Carries-item : (meanings : Meanings) (a b c : Around) (met : Option Fault) (owed had spaced owes : List ℕ) (others apart : Bool) (f : FetchItem → List ReplyPart) (items : List FetchItem) (at : ℕ) (x : FetchItem)
+    → at < length items → x ≡ get_or items at x → Carries (part_octets meanings) a b None owed had (reply (parts_behind others (map f (take at items))))
+    → apart ≡ stands_behind others (take at items) → spaced ≡ had ++ space_octets apart → Carries (part_octets meanings) b c met spaced owes (reply (f x))
+    → Carries (part_octets meanings) a c met owed owes (reply (parts_behind others (map f (take (at + 1) items))))
+Carries-item meanings a b c met owed had spaced owes others apart f items at x low here front behind spaced_is one =
+    let more : take (at + 1) items ≡ take at items ++ x ∷ [] = take_more items at x low ∙ ap (λ (y : FetchItem). take at items ++ y ∷ []) (sym here) in
+    let acts : reply (parts_behind others (map f (take (at + 1) items))) ≡ reply (parts_behind others (map f (take at items))) ++ (reply (space_parts apart) ++ reply (f x)) =
+    ap (λ (l : List FetchItem). reply (parts_behind others (map f l))) more
+    ∙ (behind_more others f (take at items) x ∙ ap (λ (b : Bool). reply (parts_behind others (map f (take at items))) ++ (reply (space_parts b) ++ reply (f x))) (sym behind)) in
+    let space = Carries-parts (part_octets meanings) b had spaced (space_parts apart) (spaced_is ∙ ap (λ (l : List ℕ). had ++ l) (space_given meanings apart)) in
+    subst (λ (l : List (Act ReplyPart)). Carries (part_octets meanings) a c met owed owes l) (sym acts)
+    (Carries-then (part_octets meanings) a b c met owed had owes (reply (parts_behind others (map f (take at items)))) (reply (space_parts apart) ++ reply (f x)) front
+    (Carries-then (part_octets meanings) b b c met had spaced owes (reply (space_parts apart)) (reply (f x)) space one))
+
+-- a fault in one of the items
+pub Carries-cut : (meanings : Meanings) (a b : Around) (met : Fault) (owed had owes : List ℕ) (others : Bool) (f : FetchItem → List ReplyPart) (items : List FetchItem) (at : ℕ)
+    → Carries (part_octets meanings) a b (Some met) owed had (reply (parts_behind others (map f (take at items)))) → Carries (part_octets meanings) a b (Some met) owed owes (reply (parts_behind others (map f items)))
+Carries-cut meanings a b met owed had owes others f items at front =
+    let rest = parts_behind (stands_behind others (take at items)) (map f (drop at items)) in
+    let acts : reply (parts_behind others (map f items)) ≡ reply (parts_behind others (map f (take at items))) ++ reply rest =
+    ap (λ (l : List FetchItem). reply (parts_behind others (map f l))) (sym (take-append-drop at items))
+    ∙ (ap reply (behind_cut others f (take at items) (drop at items)) ∙ reply-append (parts_behind others (map f (take at items))) rest) in
+    subst (λ (l : List (Act ReplyPart)). Carries (part_octets meanings) a b (Some met) owed owes l) (sym acts)
+    (Carries-before (part_octets meanings) a b met owed had owes (reply (parts_behind others (map f (take at items)))) (reply rest) front)
+
+-- ---- a literal
+
+abbrev header_of : (asked : List ℕ) (size : ℕ) → List ℕ
+header_of asked size = asked ++ (codes " {" ++ (decimal size ++ codes "}\r\n"))
+
+abbrev literal_of : (served asked : List ℕ) → Mode → (msg : List ℕ) → List ReplyPart
+literal_of served asked mode msg = text (header_of asked (length served)) ∷ shown msg mode 0 (length served) ∷ []
+
+-- nothing is cut off
+all_shown : (meanings : Meanings) (mode : Mode) (msg served : List ℕ) → served ≡ served_by meanings.surrogate mode msg
+    → served ≡ flat_map (part_octets meanings) (shown msg mode 0 (length served) ∷ [])
+all_shown meanings mode msg served is =
+    let whole : take (length served) (served_by meanings.surrogate mode msg) ≡ served = ap (take (length served)) (sym is) ∙ take_all (length served) served (omega arith) in
+    sym (append-nil (take (length served) (served_by meanings.surrogate mode msg)) ∙ whole)
+
+literal_is : (meanings : Meanings) → AreMeanings meanings → (mode : Mode) (store : StoreState) (one : Listed) (asked msg served : List ℕ) → msg ≡ stored_octets store one.id
+    → served ≡ served_by meanings.surrogate mode msg → literal_parts meanings mode store one asked ≡ literal_of served asked mode msg
+literal_is meanings are mode store one asked msg served msg_is served_is =
+    let size : size_of meanings mode store one ≡ length served = ap length (ap (served_by meanings.surrogate mode) (sym msg_is) ∙ sym served_is) in
+    ap (λ (n : ℕ). text (header_of asked n) ∷ shown (stored_octets store one.id) mode 0 n ∷ []) size
+    ∙ ap (λ (m : List ℕ). text (header_of asked (length served)) ∷ shown m mode 0 (length served) ∷ []) (sym msg_is)
+
+-- the header stays pending and is given, and then the octets are
+pub Carries-literal : (meanings : Meanings) → AreMeanings meanings → (mode : Mode) (store : StoreState) (one : Listed) (asked msg served : List ℕ) (size : ℕ) (a b c : Around) (met : Option Fault) (owed had : List ℕ)
+    → msg ≡ stored_octets store one.id → IsServed mode msg served → size ≡ length served → had ≡ owed ++ header_of asked size
+    → Carries (part_octets meanings) a b None had [] [] → Replies b c met served → Carries (part_octets meanings) a c met owed [] (reply (literal_parts meanings mode store one asked))
+Carries-literal meanings are mode store one asked msg served size a b c met owed had msg_is is size_is had_is given replies =
+    let served_is : served ≡ served_by meanings.surrogate mode msg = IsServed-by meanings.surrogate are.surrogates mode msg served is in
+    let header = text (header_of asked (length served)) ∷ [] in
+    let headed : had ≡ owed ++ flat_map (part_octets meanings) header =
+    had_is ∙ (ap (λ (n : ℕ). owed ++ header_of asked n) size_is ∙ ap (λ (l : List ℕ). owed ++ l) (sym (append-nil (header_of asked (length served))))) in
+    subst (λ (parts : List ReplyPart). Carries (part_octets meanings) a c met owed [] (reply parts)) (sym (literal_is meanings are mode store one asked msg served msg_is served_is))
+    (Carries-then (part_octets meanings) a a c met owed had [] (reply header) (reply (shown msg mode 0 (length served) ∷ [])) (Carries-parts (part_octets meanings) a owed had header headed)
+    (Carries-then (part_octets meanings) a b c met had [] [] [] (reply (shown msg mode 0 (length served) ∷ [])) given
+    (Carries-replies (part_octets meanings) b c met (shown msg mode 0 (length served) ∷ []) (subst (λ (octets : List ℕ). Replies b c met octets) (all_shown meanings mode msg served served_is) replies))))
+
+-- a fault before the octets
+pub Carries-headed : (meanings : Meanings) → AreMeanings meanings → (mode : Mode) (store : StoreState) (one : Listed) (asked msg served : List ℕ) (size : ℕ) (a b : Around) (met : Fault) (owed had mid owes : List ℕ)
+    → msg ≡ stored_octets store one.id → IsServed mode msg served → size ≡ length served → had ≡ owed ++ header_of asked size
+    → Carries (part_octets meanings) a b (Some met) had mid [] → Carries (part_octets meanings) a b (Some met) owed owes (reply (literal_parts meanings mode store one asked))
+Carries-headed meanings are mode store one asked msg served size a b met owed had mid owes msg_is is size_is had_is given =
+    let served_is : served ≡ served_by meanings.surrogate mode msg = IsServed-by meanings.surrogate are.surrogates mode msg served is in
+    let header = text (header_of asked (length served)) ∷ [] in
+    let headed : had ≡ owed ++ flat_map (part_octets meanings) header =
+    had_is ∙ (ap (λ (n : ℕ). owed ++ header_of asked n) size_is ∙ ap (λ (l : List ℕ). owed ++ l) (sym (append-nil (header_of asked (length served))))) in
+    subst (λ (parts : List ReplyPart). Carries (part_octets meanings) a b (Some met) owed owes (reply parts)) (sym (literal_is meanings are mode store one asked msg served msg_is served_is))
+    (Carries-then (part_octets meanings) a a b (Some met) owed had owes (reply header) (reply (shown msg mode 0 (length served) ∷ [])) (Carries-parts (part_octets meanings) a owed had header headed)
+    (Carries-before (part_octets meanings) a b met had mid owes [] (reply (shown msg mode 0 (length served) ∷ [])) given))
+
+-- ---- the octets of a message, a piece after another
+
+-- one number of octets more
+take_two : (octets : List ℕ) (at n : ℕ) → at ≤ length octets → take (at + n) octets ≡ take at octets ++ take n (drop at octets)
+take_two octets at n low =
+    let front = take at octets in
+    ap (λ (k : ℕ). take (k + n) octets) (sym (length-take-le at octets low)) ∙ (ap (take (length front + n)) (sym (take-append-drop at octets)) ∙ take-append-add front (drop at octets) n)
+
+-- what is read fills the front of the buffer
+read_front : (octets buffer old : List ℕ) (at n : ℕ) → n ≡ min (length old) (length octets - at) → buffer ≡ take n (drop at octets) ++ drop n old → take n buffer ≡ take n (drop at octets)
+read_front octets buffer old at n count read =
+    let rest : length (drop at octets) ≡ length octets - at = length-drop at octets in
+    let len : length (take n (drop at octets)) ≡ n = length-take-le n (drop at octets) (omega (arith, rest, count)) in
+    ap (take n) read ∙ take_at (take n (drop at octets)) (drop n old) n len
+
+pub gives_more : (a b c : Telling) (octets buffer old : List ℕ) (at n : ℕ) → n ≡ min (length old) (length octets - at) → buffer ≡ take n (drop at octets) ++ drop n old → at ≤ length octets
+    → Gives a b (take at octets) → Gives b c (take n buffer) → Gives a c (take (at + n) octets)
+gives_more a b c octets buffer old at n count read low front gave =
+    rw (take_two octets at n low) (Gives-trans a b c (take at octets) (take n (drop at octets)) front (rw (read_front octets buffer old at n count read) at gave))
+
+pub gives_first : (a b c : Telling) (octets buffer old : List ℕ) (at n : ℕ) → n ≡ min (length old) (length octets - at) → buffer ≡ take n (drop at octets) ++ drop n old → at ≤ length octets
+    → Gives a b (take at octets) → GivesPrefix b c (take n buffer) → GivesPrefix a c octets
+gives_first a b c octets buffer old at n count read low front gave =
+    let so_far = Gives-prefix a b c (take at octets) (take n (drop at octets)) front (rw (read_front octets buffer old at n count read) at gave) in
+    let whole : take (at + n) octets ++ drop (at + n) octets ≡ octets = take-append-drop (at + n) octets in
+    subst (λ (all : List ℕ). GivesPrefix a c all) whole (GivesPrefix-more a c (take (at + n) octets) (drop (at + n) octets) (rw (take_two octets at n low) so_far))
+
+-- ---- what is put last and stays pending
+
+pub Carries-text : (meanings : Meanings) (a : Around) (owed owes octets : List ℕ) → owes ≡ owed ++ octets → Carries (part_octets meanings) a a None owed owes (reply (text octets ∷ []))
+Carries-text meanings a owed owes octets is = Carries-parts (part_octets meanings) a owed owes (text octets ∷ []) (is ∙ ap (λ (l : List ℕ). owed ++ l) (sym (append-nil octets)))
+
+-- how much is served
+pub size_is : (meanings : Meanings) → AreMeanings meanings → (mode : Mode) (store : StoreState) (one : Listed) (msg served : List ℕ) (size : ℕ) → msg ≡ stored_octets store one.id → IsServed mode msg served
+    → size ≡ length served → size ≡ size_of meanings mode store one
+size_is meanings are mode store one msg served size msg_is is len_is =
+    len_is ∙ ap length (IsServed-by meanings.surrogate are.surrogates mode msg served is ∙ ap (served_by meanings.surrogate mode) msg_is)
+
+-- ---- a message's reply
+
+abbrev front_of : (number : ℕ) → List ℕ
+front_of number = codes "* " ++ (decimal number ++ codes " FETCH (")
+
+pub first_parts : (first : Bool) → Listed → List ReplyPart
+first_parts false one = []
+first_parts true one = text (codes "UID " ++ decimal one.uid) ∷ []
+
+pub last_parts : (last : Bool) → Listed → List ReplyPart
+last_parts false one = []
+last_parts true one = text (codes " ") ∷ text (flags_text one.flags) ∷ []
+
+first_given : (meanings : Meanings) (first : Bool) (one : Listed) → uid_first_octets first one ≡ flat_map (part_octets meanings) (first_parts first one)
+unfolding first_parts
+first_given meanings false one = refl
+first_given meanings true one = sym (append-nil (codes "UID " ++ decimal one.uid))
+
+end_given : (meanings : Meanings) (last : Bool) (one : Listed) → end_octets last one ≡ flat_map (part_octets meanings) (last_parts last one ++ line (codes ")") ∷ [])
+unfolding last_parts
+end_given meanings false one = refl
+end_given meanings true one = refl
+
+-- the flags behind all items, of which there is one at least
+flags_behind : (f : FetchItem → List ReplyPart) (one : Listed) (others : Bool) (items : List FetchItem) → f item.Flags ≡ text (flags_text one.flags) ∷ [] → stands_behind others items ≡ true
+    → parts_behind others (map f (items ++ item.Flags ∷ [])) ≡ parts_behind others (map f items) ++ last_parts true one
+unfolding last_parts
+flags_behind f one others items flags some =
+    behind_cut others f items (item.Flags ∷ [])
+    ∙ (ap (λ (b : Bool). parts_behind others (map f items) ++ parts_behind b (f item.Flags ∷ [])) some
+    ∙ ap (λ (l : List ReplyPart). parts_behind others (map f items) ++ (text (codes " ") ∷ (l ++ []))) flags)
+
+some_of : (others : Bool) (items : List FetchItem) → (items ≡ [] → ⊥) → stands_behind others items ≡ true
+some_of others [] some = absurd (some refl)
+some_of others (x ∷ items) some = refl
+
+with_last : (f : FetchItem → List ReplyPart) (one : Listed) (items : List FetchItem) (last : Bool) → f item.Flags ≡ text (flags_text one.flags) ∷ [] → (items ≡ [] → ⊥)
+    → parts_behind false (map f (if last then items ++ item.Flags ∷ [] else items)) ≡ parts_behind false (map f items) ++ last_parts last one
+unfolding last_parts
+with_last f one items false flags some = sym (append-nil (parts_behind false (map f items)))
+with_last f one items true flags some = flags_behind f one false items flags (some_of false items some)
+
+with_first : (f : FetchItem → List ReplyPart) (one : Listed) (items : List FetchItem) (first : Bool) → f item.Uid ≡ text (codes "UID " ++ decimal one.uid) ∷ []
+    → parts_behind false (map f (if first then item.Uid ∷ items else items)) ≡ first_parts first one ++ parts_behind first (map f items)
+unfolding first_parts
+with_first f one items false uid = refl
+with_first f one items true uid = ap (λ (l : List ReplyPart). l ++ parts_behind true (map f items)) uid
+
+some_seen : (items : List FetchItem) → list_any sets_seen items ≡ true → items ≡ [] → ⊥
+some_seen [] seen is = cc
+some_seen (x ∷ items) seen is = cc
+
+abbrev in_front : (first : Bool) → List FetchItem → List FetchItem
+in_front first items = if first then item.Uid ∷ items else items
+
+some_in_front : (first : Bool) (items : List FetchItem) → (items ≡ [] → ⊥) → in_front first items ≡ [] → ⊥
+some_in_front false items some is = some is
+some_in_front true items some is = cc
+
+flags_in_front : (first : Bool) (items : List FetchItem) → list_any is_flags (in_front first items) ≡ list_any is_flags items
+flags_in_front false items = refl
+flags_in_front true items = refl
+
+-- all that is told, where the flags are told last or not
+all_told : (f : FetchItem → List ReplyPart) (one : Listed) (items : List FetchItem) (first changed : Bool) → f item.Uid ≡ text (codes "UID " ++ decimal one.uid) ∷ [] → f item.Flags ≡ text (flags_text one.flags) ∷ []
+    → (changed ≡ true → list_any sets_seen items ≡ true)
+    → parts_behind false (map f (with_flags changed (in_front first items)))
+    ≡ (first_parts first one ++ parts_behind first (map f items)) ++ last_parts (tells_flags_last changed items) one
+unfolding last_parts
+all_told f one items first false uid flags seen = with_first f one items first uid ∙ sym (append-nil (first_parts first one ++ parts_behind first (map f items)))
+all_told f one items first true uid flags seen =
+    ap (λ (last : Bool). parts_behind false (map f (if not last then in_front first items ++ item.Flags ∷ [] else in_front first items))) (flags_in_front first items)
+    ∙ (with_last f one (in_front first items) (not (list_any is_flags items)) flags (some_in_front first items (some_seen items (seen refl)))
+    ∙ ap (λ (l : List ReplyPart). l ++ last_parts (not (list_any is_flags items)) one) (with_first f one items first uid))
+
+regrouped : {A : Type 0} (x : A) (a b c d : List A) → x ∷ (((a ++ b) ++ c) ++ d) ≡ (x ∷ []) ++ (a ++ (b ++ (c ++ d)))
+regrouped x a b c d = ap (λ l. x ∷ l) (ap (λ l. l ++ d) (append_assoc a b c) ∙ (append_assoc a (b ++ c) d ∙ ap (λ l. a ++ l) (append_assoc b c d)))
+
+-- the parts behind all items
+pub tail_parts : (changed : Bool) → List FetchItem → Listed → List ReplyPart
+tail_parts changed items one = last_parts (tells_flags_last changed items) one ++ line (codes ")") ∷ []
+
+pub tail_given : (meanings : Meanings) (changed : Bool) (items : List FetchItem) (one : Listed) → end_octets (tells_flags_last changed items) one ≡ flat_map (part_octets meanings) (tail_parts changed items one)
+unfolding tail_parts
+tail_given meanings changed items one = end_given meanings (tells_flags_last changed items) one
+
+reply_is : (meanings : Meanings) (mode : Mode) (store : StoreState) (number : ℕ) (one : Listed) (by_uid changed : Bool) (items : List FetchItem) → (changed ≡ true → list_any sets_seen items ≡ true)
+    → reply (fetch_reply meanings mode store number one (with_flags changed (with_uid by_uid items)))
+    ≡ reply (text (front_of number) ∷ []) ++ (reply (first_parts (tells_uid_first by_uid items) one)
+    ++ (reply (parts_behind (tells_uid_first by_uid items) (map (item_parts meanings mode store one) items)) ++ reply (tail_parts changed items one)))
+unfolding tail_parts
+reply_is meanings mode store number one by_uid changed items seen =
+    let f = item_parts meanings mode store one in
+    let first = tells_uid_first by_uid items in
+    let last = last_parts (tells_flags_last changed items) one in
+    let told = parts_behind first (map f items) in
+    let parts : fetch_reply meanings mode store number one (with_flags changed (with_uid by_uid items))
+    ≡ (text (front_of number) ∷ []) ++ (first_parts first one ++ (told ++ (last ++ line (codes ")") ∷ []))) =
+    ap (λ (l : List ReplyPart). text (front_of number) ∷ (l ++ line (codes ")") ∷ [])) (all_told f one items first changed refl refl seen)
+    ∙ regrouped (text (front_of number)) (first_parts first one) told last (line (codes ")") ∷ []) in
+    ap reply parts ∙ (reply-append (text (front_of number) ∷ []) (first_parts first one ++ (told ++ (last ++ line (codes ")") ∷ [])))
+    ∙ ap (λ (l : List (Act ReplyPart)). reply (text (front_of number) ∷ []) ++ l) (reply-append (first_parts first one) (told ++ (last ++ line (codes ")") ∷ []))
+    ∙ ap (λ (l : List (Act ReplyPart)). reply (first_parts first one) ++ l) (reply-append told (last ++ line (codes ")") ∷ []))))
+
+-- items behind the beginning of a reply, and what follows them
+pub Carries-fronted : (meanings : Meanings) (mode : Mode) (store : StoreState) (number : ℕ) (one : Listed) (by_uid changed first : Bool) (items : List FetchItem) (a b : Around) (met : Option Fault)
+    (owed fronted had owes : List ℕ) → (changed ≡ true → list_any sets_seen items ≡ true) → first ≡ tells_uid_first by_uid items → fronted ≡ owed ++ front_of number → had ≡ fronted ++ uid_first_octets first one
+    → Carries (part_octets meanings) a b met had owes (reply (parts_behind first (map (item_parts meanings mode store one) items)) ++ reply (tail_parts changed items one))
+    → Carries (part_octets meanings) a b met owed owes (reply (fetch_reply meanings mode store number one (with_flags changed (with_uid by_uid items))))
+Carries-fronted meanings mode store number one by_uid changed first items a b met owed fronted had owes seen first_is fronted_is had_is told =
+    let behind = reply (parts_behind first (map (item_parts meanings mode store one) items)) ++ reply (tail_parts changed items one) in
+    let acts : reply (fetch_reply meanings mode store number one (with_flags changed (with_uid by_uid items))) ≡ reply (text (front_of number) ∷ []) ++ (reply (first_parts first one) ++ behind) =
+    reply_is meanings mode store number one by_uid changed items seen
+    ∙ ap (λ (b : Bool). reply (text (front_of number) ∷ []) ++ (reply (first_parts b one) ++ (reply (parts_behind b (map (item_parts meanings mode store one) items)) ++ reply (tail_parts changed items one)))) (sym first_is) in
+    let front = Carries-text meanings a owed fronted (front_of number) fronted_is in
+    let uid = Carries-parts (part_octets meanings) a fronted had (first_parts first one) (had_is ∙ ap (λ (l : List ℕ). fronted ++ l) (first_given meanings first one)) in
+    subst (λ (l : List (Act ReplyPart)). Carries (part_octets meanings) a b met owed owes l) (sym acts)
+    (Carries-then (part_octets meanings) a a b met owed fronted owes (reply (text (front_of number) ∷ [])) (reply (first_parts first one) ++ behind) front
+    (Carries-then (part_octets meanings) a a b met fronted had owes (reply (first_parts first one)) behind uid told))
+
+-- ---- one message
+
+pub seen_asked : (read_only : Bool) (items : List FetchItem) (one : Listed) → becomes_seen read_only items one ≡ true → list_any sets_seen items ≡ true
+seen_asked read_only items one is = asked read_only (list_any sets_seen items) (not (is_seen one)) is
+  where
+    asked : (r a b : Bool) → (not r && (a && b)) ≡ true → a ≡ true
+    asked true a b is = cc
+    asked false false b is = cc
+    asked false true b is = refl
+
+-- the message is seen from here on
+pub fetched_seen : (meanings : Meanings) (mode : Mode) (store : StoreState) (by_uid read_only : Bool) (items : List FetchItem) (number : ℕ) (one : Listed) → becomes_seen read_only items one ≡ true
+    → fetch_one meanings mode store by_uid read_only items (record { number = number; listed = one })
+    ≡ changes (flags_change one (seen one).flags) ∷ reply (fetch_reply meanings mode store number (seen one) (with_flags true (with_uid by_uid items)))
+fetched_seen meanings mode store by_uid read_only items number one is = cond-true (becomes_seen read_only items one) _ _ is
+
+pub fetched : (meanings : Meanings) (mode : Mode) (store : StoreState) (by_uid read_only : Bool) (items : List FetchItem) (number : ℕ) (one : Listed) → becomes_seen read_only items one ≡ false
+    → fetch_one meanings mode store by_uid read_only items (record { number = number; listed = one }) ≡ reply (fetch_reply meanings mode store number one (with_flags false (with_uid by_uid items)))
+fetched meanings mode store by_uid read_only items number one is = cond-false (becomes_seen read_only items one) _ _ is
+
+-- ---- the items, one after the other
+
+pub stands_next : (others : Bool) (items : List FetchItem) (at : ℕ) (x : FetchItem) → at < length items → true ≡ stands_behind others (take (at + 1) items)
+stands_next others items at x low = sym (ap (stands_behind others) (take_more items at x low) ∙ behind-push others (take at items) (get_or items at x))
+
+-- what is shown is there for each item that needs it
+pub HasShown-at : (mode : Mode) (msg : List ℕ) (items : List FetchItem) (at : ℕ) (x : FetchItem) (found : Option Shown) → at < length items → x ≡ get_or items at x → HasShown mode msg (list_any shows items) found
+    → HasShown mode msg (shows x) found
+HasShown-at mode msg items at x (Some found) low here has = has
+HasShown-at mode msg items at x None low here has = unneeded (shows x) refl
+  where
+    unneeded : (b : Bool) → shows x ≡ b → b ≡ false
+    unneeded false is = refl
+    unneeded true is = let some : list_any shows items ≡ true = list_any_at shows items at x low (ap shows (sym here) ∙ is) in cc

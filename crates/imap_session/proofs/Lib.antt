@@ -1,0 +1,9 @@
+pub mod EachLemmas
+pub mod FetchLemmas
+pub mod PendingLemmas
+pub mod LineLemmas
+pub mod FolderLemmas
+pub mod StepLemmas
+pub mod SessionLemmas
+pub mod SelectedLemmas
+pub mod CommandLemmas

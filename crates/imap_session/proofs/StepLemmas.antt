@@ -1,0 +1,77 @@
+-- Steps of commands, as they are carried out.
+use Rattle.std.proofs.Common.{◌≡◌, ℕ, List, [], ◌∷◌, ◌++◌, Option, Some, None, refl, sym, ap, ◌∙◌, subst}
+use Rattle.std.specs.Prelude.{Result, Ok, Err, IfOk}
+use Rattle.std.specs.List.{flat_map}
+use Rattle.std.proofs.lemmas.List.{map-append}
+use Rattle.std.proofs.lemmas.List.Concat.{flat_map-append}
+use Rattle.mail_wire.specs.declared.outside.Fault.{Fault}
+use Rattle.mail_wire.specs.declared.outside.Fault.TheVariants as fault
+use Rattle.session_core.specs.Acts.{gives}
+use Rattle.session_core.specs.Around.{Around}
+use Rattle.session_core.specs.Doing.{Does, Replies}
+use Rattle.session_core.specs.Keeps.{fault_of}
+use Rattle.session_core.specs.Meanings.{Meanings, WithMeanings}
+use Rattle.session_core.specs.declared.desk.Desk.{Desk}
+use Rattle.session_core.proofs.DoingLemmas.{Does-replies, DoesFirst-none}
+use Rattle.imap_session.specs.Machine.{State, Step, answers, says, tagged}
+use Rattle.imap_session.specs.Replies.{ReplyPart, part_octets, reply_octets}
+use Rattle.imap_session.specs.Session.{KnowsNext, KnowsState, TakesStep, state_of, state_or_ended}
+use Rattle.imap_session.specs.declared.states.ImapState.{ImapState}
+use Rattle.imap_session.specs.private.Lines.{tagged_octets}
+use Rattle.imap_session.proofs.LineLemmas.{tagged_reply}
+
+-- ---- what is given
+
+-- parts, and then the line that ends the replies
+pub answers_given : (meanings : Meanings) (a b : Around) (met : Option Fault) (tag words : List ℕ) (parts : List ReplyPart) (state : State) (lines : List ℕ) → lines ≡ reply_octets meanings parts
+    → Replies a b met (lines ++ tagged_octets tag words) → Does (part_octets meanings) a b met (answers tag words parts state).acts
+answers_given meanings a b met tag words parts state lines are replies =
+    let spelled = part_octets meanings in
+    let last = tagged tag words ∷ [] in
+    let whole : lines ++ tagged_octets tag words ≡ flat_map spelled (parts ++ last) =
+    ap (λ z. z ++ tagged_octets tag words) are ∙ (ap (λ z. reply_octets meanings parts ++ z) (sym (tagged_reply meanings tag words)) ∙ sym (flat_map-append spelled parts last)) in
+    subst (λ acts. Does spelled a b met acts) (map-append gives parts last) (Does-replies spelled a b met (parts ++ last) (subst (λ octets. Replies a b met octets) whole replies))
+
+-- that line alone
+pub says_given : (meanings : Meanings) (a b : Around) (met : Option Fault) (tag words : List ℕ) (state : State) → Replies a b met (tagged_octets tag words)
+    → Does (part_octets meanings) a b met (says tag words state).acts
+says_given meanings a b met tag words state replies = answers_given meanings a b met tag words [] state [] refl replies
+
+-- nothing yet, for want of memory
+pub nothing_given : (meanings : Meanings) (a : Around) (step : Step) → Does (part_octets meanings) a a (Some fault.Memory) step.acts
+nothing_given meanings a step = DoesFirst-none (part_octets meanings) a fault.Memory step.acts (λ bad. cc)
+
+-- ---- steps
+
+-- the step was carried out
+pub Takes-next : (a b : Around) (next : Option ImapState) (taken : Meanings → Step) → WithMeanings (λ meanings. Does (part_octets meanings) a b None (taken meanings).acts)
+    → WithMeanings (λ meanings. state_or_ended next ≡ (taken meanings).state) → KnowsNext b.desk.store next → TakesStep a b (Ok next) taken
+Takes-next a b next taken does next_is known = record { does = does; next = next_is; known = known }
+
+-- a fault broke it off
+pub Takes-fault : (a b : Around) (met : Fault) (taken : Meanings → Step) → WithMeanings (λ meanings. Does (part_octets meanings) a b (Some met) (taken meanings).acts) → TakesStep a b (Err met) taken
+Takes-fault a b met taken does = record { does = does; next = λ meanings are. tt; known = tt }
+
+-- want of memory came before all
+pub Takes-none : (a : Around) (taken : Meanings → Step) → TakesStep a a (Err fault.Memory) taken
+Takes-none a taken = Takes-fault a a fault.Memory taken (λ meanings are. nothing_given meanings a (taken meanings))
+
+-- the same step, said otherwise
+pub Takes-same : (a b : Around) (result : Result (Option ImapState) Fault) (taken other : Meanings → Step) → WithMeanings (λ meanings. taken meanings ≡ other meanings) → TakesStep a b result taken
+    → TakesStep a b result other
+Takes-same a b result taken other same takes = record {
+  does = λ meanings are. subst (λ (step : Step). Does (part_octets meanings) a b (fault_of result) step.acts) (same meanings are) (takes.does meanings are);
+  next = λ meanings are. subst (λ (step : Step). IfOk result (λ next. state_or_ended next ≡ step.state)) (same meanings are) (takes.next meanings are);
+  known = takes.known;
+}
+
+-- the line that ends the replies was given, and this session is left
+pub Takes-said : (a b : Around) (tag words : List ℕ) (state : State) (session : ImapState) → Replies a b None (tagged_octets tag words) → state_of session ≡ state → KnowsState a.desk.store session
+    → TakesStep a b (Ok (Some session)) (λ meanings. says tag words state)
+Takes-said a b tag words state session replies is known =
+    Takes-next a b (Some session) (λ meanings. says tag words state) (λ meanings are. says_given meanings a b None tag words state replies) (λ meanings are. is)
+    (subst (λ (desk : Desk). KnowsState desk.store session) (sym replies.leaves.desk) known)
+
+-- or a fault broke that off
+pub Takes-unsaid : (a b : Around) (met : Fault) (tag words : List ℕ) (state : State) → Replies a b (Some met) (tagged_octets tag words) → TakesStep a b (Err met) (λ meanings. says tag words state)
+Takes-unsaid a b met tag words state replies = Takes-fault a b met (λ meanings. says tag words state) (λ meanings are. says_given meanings a b (Some met) tag words state replies)

@@ -1,0 +1,14 @@
+use Rattle.std.proofs.Common.{◌∙◌}
+use Rattle.imap_session.specs.Machine.{mailbox_step}
+use Rattle.imap_session.specs.Session.{state_of}
+use Rattle.imap_session.proofs.CommandLemmas.{mailbox-left}
+use Rattle.imap_session.proofs.StepLemmas.{Takes-next}
+use Rattle.imap_session.proofs.commands.answer_on_folders.Goals as goal
+
+pub returns-clause-takes : goal.returns-clause-takes
+returns-clause-takes g c =
+    let state = state_of c.args.session in
+    Takes-next c.args.outside.now c.give_on_folders.new.outside c.left_by.result (λ meanings. mailbox_step meanings c.args.tag.now state g.V.View.mode c.args.account c.args.outside.now.desk.store c.args.command.now)
+    (λ meanings are. c.in_ok-give_on_folders.ensures.does meanings are state)
+    (λ meanings are. c.left_by.ensures.state ∙ mailbox-left meanings c.args.tag.now state g.V.View.mode c.args.account c.args.outside.now.desk.store c.args.command.now c.requires.other)
+    (c.left_by.ensures.known c.give_on_folders.new.outside.desk.store (c.in_ok-give_on_folders.ensures.known c.args.session c.requires.known))

@@ -1,0 +1,88 @@
+use Rattle.std.proofs.Common.{◌≡◌, ◌+◌, ◌<◌, List, [], length, map, take, None, Some, refl, sym, ap, subst, ◌∙◌, arith}
+use Rattle.std.specs.Option.{option_copied}
+use Rattle.std.proofs.lemmas.List.{take_all}
+use Rattle.std.proofs.lemmas.List.Sums.{AllPass-from_list_all}
+use Rattle.std.proofs.lemmas.Result.{err_from_is_err_and}
+use Rattle.mail_wire.specs.declared.outside.Fault.TheVariants as fault
+use Rattle.imap_grammar.specs.declared.command.FetchItem.{FetchItem}
+use Rattle.session_core.proofs.KeepsLemmas.{Keeps-nil, Keeps-then}
+use Rattle.session_core.specs.Desks.{stored_octets}
+use Rattle.session_core.specs.declared.desk.Desk.{Desk}
+use Rattle.imap_session.specs.Machine.{is_built, item_parts, parts_behind, reply}
+use Rattle.imap_session.specs.Replies.{part_octets}
+use Rattle.imap_session.specs.private.Messages.{ShowsAlike}
+use Rattle.imap_session.specs.private.Pending.{Carries}
+use Rattle.imap_session.proofs.FetchLemmas.{Carries-cut, Carries-item, HasShown-at, stands_next}
+use Rattle.imap_session.proofs.PendingLemmas.{Carries-nil, Carries-on, Carries-stop}
+use Rattle.imap_session.proofs.fetching.put_items.Goals as goal
+
+pub returns-in_err-shown-clause-carries : goal.returns-in_err-shown-clause-carries
+returns-in_err-shown-clause-carries g c = λ meanings are store alike.
+    let failed = err_from_is_err_and c.from_residual.result c.from_residual.ensures.1 in
+    rw (failed.1, failed.2, c.shown_for.ensures.same) (Carries-stop (part_octets meanings) c.args.outside.now fault.Memory c.args.pending.now c.args.pending.now
+    (reply (parts_behind c.args.behind_others (map (item_parts meanings g.V.View.mode store c.args.one.now) c.args.items.now))) (λ bad. cc))
+
+pub loop-item-init : goal.loop-item-init
+loop-item-init g c = record {
+  shown = c.in_ok-shown.ensures.shown;
+  apart = refl;
+  carries = λ meanings are store alike. rw c.shown_for.ensures.same (Carries-nil (part_octets meanings) c.args.outside.now c.args.pending.now);
+  desk = ap (λ around. around.desk) c.shown_for.ensures.same;
+  keeps = rw c.shown_for.ensures.same (Keeps-nil c.args.outside.now);
+}
+
+pub put_item-requires : goal.put_item-requires
+put_item-requires g c =
+    let low : c.loop-item.item-index < length c.args.items.now = omega arith in
+    record {
+      id = rw c.loop-item.invariant.desk c.requires.id;
+      built = rw c.item-item.is (AllPass-from_list_all is_built c.args.items.now c.requires.built c.loop-item.item-index c.item-item.result low);
+      shown = rw c.loop-item.invariant.desk (HasShown-at g.V.View.mode (stored_octets c.args.outside.now.desk.store c.args.one.now.id) c.args.items.now c.loop-item.item-index c.item-item.result (option_copied c.as_ref.result) low
+          c.item-item.is (rw (← c.as_ref.ensures.value) at c.loop-item.invariant.shown));
+    }
+
+pub returns-in_err-push_space-clause-carries : goal.returns-in_err-push_space-clause-carries
+returns-in_err-push_space-clause-carries g c = λ meanings are store alike.
+    let failed = err_from_is_err_and c.from_residual-in_err-push_space.result c.from_residual-in_err-push_space.ensures.1 in
+    let f = item_parts meanings g.V.View.mode store c.args.one.now in
+    let spelled = part_octets meanings in
+    let acts = reply (parts_behind c.args.behind_others (map f (take c.loop-item.item-index c.args.items.now))) in
+    rw (failed.1, failed.2) (Carries-cut meanings c.args.outside.now c.loop-item.outside fault.Memory c.args.pending.now c.push_space.new.pending c.push_space.new.pending c.args.behind_others f c.args.items.now c.loop-item.item-index
+    (Carries-on spelled c.args.outside.now c.loop-item.outside c.loop-item.outside (Some fault.Memory) c.args.pending.now c.loop-item.pending c.push_space.new.pending acts (c.loop-item.invariant.carries meanings are store alike)
+    (Carries-stop spelled c.loop-item.outside fault.Memory c.loop-item.pending c.push_space.new.pending [] (λ bad. cc))))
+
+pub returns-in_err-put_item-clause-carries : goal.returns-in_err-put_item-clause-carries
+returns-in_err-put_item-clause-carries g c = λ meanings are store alike.
+    let failed = err_from_is_err_and c.from_residual-in_err-put_item.result c.from_residual-in_err-put_item.ensures.1 in
+    let low : c.loop-item.item-index < length c.args.items.now = omega arith in
+    let f = item_parts meanings g.V.View.mode store c.args.one.now in
+    let alike_now = subst (λ (desk : Desk). ShowsAlike store desk.store) (sym c.loop-item.invariant.desk) alike in
+    rw (failed.1, failed.2) (Carries-cut meanings c.args.outside.now c.put_item.new.outside c.in_err-put_item.field-0.0 c.args.pending.now c.put_item.new.pending c.put_item.new.pending
+    c.args.behind_others f c.args.items.now (c.loop-item.item-index + 1)
+    (Carries-item meanings c.args.outside.now c.loop-item.outside c.put_item.new.outside (Some c.in_err-put_item.field-0.0) c.args.pending.now c.loop-item.pending c.push_space.new.pending c.put_item.new.pending
+    c.args.behind_others c.loop-item.apart
+    f c.args.items.now c.loop-item.item-index c.item-item.result low c.item-item.is (c.loop-item.invariant.carries meanings are store alike) c.loop-item.invariant.apart c.in_ok-push_space.ensures
+    (c.in_err-put_item.ensures.carries meanings are store alike_now)))
+
+pub loop-item-preserved : goal.loop-item-preserved
+loop-item-preserved g c =
+    let low : c.loop-item.item-index < length c.args.items.now = omega arith in
+    record {
+      shown = c.loop-item.invariant.shown;
+      apart = stands_next c.args.behind_others c.args.items.now c.loop-item.item-index c.item-item.result low;
+      carries = λ meanings are store alike.
+          let f = item_parts meanings g.V.View.mode store c.args.one.now in
+          let alike_now = subst (λ (desk : Desk). ShowsAlike store desk.store) (sym c.loop-item.invariant.desk) alike in
+          Carries-item meanings c.args.outside.now c.loop-item.outside c.put_item.new.outside None c.args.pending.now c.loop-item.pending c.push_space.new.pending c.put_item.new.pending c.args.behind_others c.loop-item.apart
+          f c.args.items.now c.loop-item.item-index c.item-item.result low c.item-item.is (c.loop-item.invariant.carries meanings are store alike) c.loop-item.invariant.apart c.in_ok-push_space.ensures
+          (c.in_ok-put_item.ensures.carries meanings are store alike_now);
+      desk = c.in_ok-put_item.ensures.desk ∙ c.loop-item.invariant.desk;
+      keeps = Keeps-then c.args.outside.now c.loop-item.outside c.put_item.new.outside None c.loop-item.invariant.keeps c.in_ok-put_item.ensures.keeps;
+    }
+
+pub returns-clause-carries : goal.returns-clause-carries
+returns-clause-carries g c = λ meanings are store alike.
+    let f = item_parts meanings g.V.View.mode store c.args.one.now in
+    let whole : take c.loop-item.item-index c.args.items.now ≡ c.args.items.now = take_all c.loop-item.item-index c.args.items.now (omega arith) in
+    subst (λ (l : List FetchItem). Carries (part_octets meanings) c.args.outside.now c.loop-item.outside None c.args.pending.now c.loop-item.pending (reply (parts_behind c.args.behind_others (map f l)))) whole
+    (c.loop-item.invariant.carries meanings are store alike)

@@ -1,0 +1,417 @@
+-- The IMAP machine (RFC 3501, 3, 6 and 7; RFC 5161, 3.1; RFC 6855, 3).
+use Rattle.std.specs.Prelude.{ℕ, Bool, true, false, ◌+◌, ◌==◌, ◌++◌, ◌&&◌, not, nat_le, nat_lt, List, [], ◌∷◌, Option, None, Some, length, codes, map, filter, slice_get, count_by, option_and_then, if◌then◌else◌}
+use Rattle.std.specs.Fmt.{decimal}
+use Rattle.std.specs.List.{flat_map, list_any, list_all}
+use Rattle.std.specs.Option.{option_map_or}
+use Rattle.std.specs.Str.{chars, is_utf8}
+use Rattle.mail_wire.specs.Lines.{crlf}
+use Rattle.mail_wire.specs.Octets.{same_name}
+use Rattle.unicode_normalization.specs.Forms.{is_nfc}
+use Rattle.std.specs.Char.{is_control}
+use Rattle.journal_records.specs.Grammar.{kept_name}
+use Rattle.journal_records.specs.declared.limits.TheConstants.{NAME_MAX}
+use Rattle.journal_records.specs.declared.records.Record.{Record}
+use Rattle.journal_records.specs.declared.records.Record.TheVariants as records
+use Rattle.kept_mail.specs.declared.kept.Listed.{Listed}
+use Rattle.mail_store.specs.declared.changing.StoreFault.{StoreFault}
+use Rattle.mail_store.specs.declared.changing.StoreFault.TheVariants as refusal
+use Rattle.mail_store.specs.Changing.{expunged, folder_refusal}
+use Rattle.kept_mail.specs.Kept.{find_folder, folder_names, kept_folder_name, listed, logged_in, uid_next}
+use Rattle.mail_store.specs.StoreState.{StoreState}
+use Rattle.surrogate_cache.specs.Served.{Mode, legacy, enabled, is_enabled, served_by}
+use Rattle.session_core.specs.Acts.{Act, gives, changes}
+use Rattle.session_core.specs.Desks.{stored_date, stored_octets}
+use Rattle.session_core.specs.Meanings.{Meanings}
+use Rattle.imap_grammar.specs.declared.command.Set.{Set}
+use Rattle.imap_grammar.specs.declared.command.StatusItem.{StatusItem}
+use Rattle.imap_grammar.specs.declared.command.StatusItem.TheVariants as status
+use Rattle.imap_grammar.specs.declared.command.StoreOp.{StoreOp}
+use Rattle.imap_grammar.specs.declared.command.StoreOp.TheVariants.{Add}
+use Rattle.imap_grammar.specs.declared.command.FetchItem.{FetchItem}
+use Rattle.imap_grammar.specs.declared.command.FetchItem.TheVariants as item
+use Rattle.imap_grammar.specs.declared.command.SectionPart.TheVariants.{Whole}
+use Rattle.imap_grammar.specs.declared.command.Command.{Command}
+use Rattle.imap_grammar.specs.declared.command.Command.TheVariants as command
+use Rattle.imap_mailboxes.specs.Flags.{flags_text, has_flag, stored_flags}
+use Rattle.imap_mailboxes.specs.Names.{shown_name}
+use Rattle.imap_mailboxes.specs.Patterns.{is_match}
+use Rattle.imap_mailboxes.specs.Sets.{chosen_places, is_refused}
+use Rattle.imap_session.specs.Replies.{ReplyPart, text, name, shown}
+
+-- ---- states and steps
+
+-- A session that isn't authenticated is legacy.
+pub data State : Type 0 where
+  not_authenticated : State
+  authenticated : (mode : Mode) (account : ℕ) → State
+  selected : (mode : Mode) (account folder : ℕ) (read_only : Bool) → State
+  ended : State
+
+-- what a command does, in order, and the state behind it
+pub record Step : Type 0 where
+  pub acts : List (Act ReplyPart)
+  pub state : State
+
+-- ---- replies
+
+abbrev pub line : List ℕ → ReplyPart
+line octets = text (octets ++ crlf)
+
+abbrev pub untagged : List ℕ → ReplyPart
+untagged octets = line (codes "* " ++ octets)
+
+-- the line that ends the replies of a command
+abbrev pub tagged : (tag words : List ℕ) → ReplyPart
+tagged tag words = line (tag ++ (codes " " ++ words))
+
+abbrev pub reply : List ReplyPart → List (Act ReplyPart)
+reply parts = map gives parts
+
+-- these acts, and then the line that ends the command's replies
+abbrev pub ends_with : (tag words : List ℕ) → List (Act ReplyPart) → State → Step
+ends_with tag words acts state = record { acts = acts ++ reply (tagged tag words ∷ []); state = state }
+
+-- nothing changes: these parts, and the line that ends the replies
+abbrev pub answers : (tag words : List ℕ) → List ReplyPart → State → Step
+answers tag words parts state = ends_with tag words (reply parts) state
+
+abbrev pub says : (tag words : List ℕ) → State → Step
+says tag words state = answers tag words [] state
+
+abbrev pub done : List ℕ
+done = codes "OK done"
+
+abbrev pub out_of_order : (tag : List ℕ) → State → Step
+out_of_order tag state = says tag (codes "BAD out of order") state
+
+abbrev pub no_such_folder : (tag : List ℕ) → State → Step
+no_such_folder tag state = says tag (codes "NO no such folder") state
+
+abbrev pub no_such_message : (tag : List ℕ) → State → Step
+no_such_message tag state = says tag (codes "BAD no such message") state
+
+abbrev pub not_built : (tag : List ℕ) → State → Step
+not_built tag state = says tag (codes "NO not built") state
+
+abbrev pub refused_as_read_only : (tag : List ℕ) → State → Step
+refused_as_read_only tag state = says tag (codes "NO read only") state
+
+-- ---- LOGIN and ENABLE
+
+abbrev pub login_by : (tag : List ℕ) → Option ℕ → Step
+login_by tag None = says tag (codes "NO no") not_authenticated
+login_by tag (Some account) = says tag done (authenticated legacy account)
+
+abbrev pub asks_utf8 : List (List ℕ) → Bool
+asks_utf8 words = list_any (same_name (codes "UTF8=ACCEPT")) words
+
+-- what ENABLE turned on is told, and nothing twice
+abbrev pub enable_step : (tag : List ℕ) → Mode → (account : ℕ) → (asked : Bool) → Step
+enable_step tag legacy account true = answers tag done (untagged (codes "ENABLED UTF8=ACCEPT") ∷ []) (authenticated enabled account)
+enable_step tag mode account asked = answers tag done (untagged (codes "ENABLED") ∷ []) (authenticated mode account)
+
+-- ---- folders
+
+-- the folder that the text names
+abbrev pub folder_named : Meanings → Mode → StoreState → (account : ℕ) → List ℕ → Option ℕ
+folder_named meanings mode store account written = option_and_then (find_folder store.kept account) (meanings.name_of (is_enabled mode) written)
+
+abbrev pub all_flags : List ℕ
+all_flags = codes "(\\Answered \\Flagged \\Deleted \\Seen \\Draft)"
+
+abbrev pub permanent_flags : (read_only : Bool) → List ℕ
+permanent_flags read_only = if read_only then codes "()" else all_flags
+
+abbrev pub folder_lines : StoreState → (folder : ℕ) → (read_only : Bool) → List ReplyPart
+folder_lines store folder read_only =
+    untagged (decimal (length (listed store.kept folder)) ++ codes " EXISTS") ∷ untagged (codes "0 RECENT") ∷ untagged (codes "FLAGS " ++ all_flags)
+    ∷ untagged (codes "OK [UIDVALIDITY 1] ok") ∷ untagged (codes "OK [UIDNEXT " ++ (decimal (uid_next store.kept folder) ++ codes "] ok"))
+    ∷ untagged (codes "OK [PERMANENTFLAGS " ++ (permanent_flags read_only ++ codes "] ok")) ∷ []
+
+abbrev pub opened_words : (read_only : Bool) → List ℕ
+opened_words read_only = if read_only then codes "OK [READ-ONLY] done" else codes "OK [READ-WRITE] done"
+
+-- where no folder is named none is selected any more
+abbrev pub select_by : (tag : List ℕ) → Mode → (account : ℕ) → (read_only : Bool) → StoreState → Option ℕ → Step
+select_by tag mode account read_only store None = no_such_folder tag (authenticated mode account)
+select_by tag mode account read_only store (Some folder) =
+    answers tag (opened_words read_only) (folder_lines store folder read_only) (selected mode account folder read_only)
+
+-- a character that a folder's name may have: no control, no `*` and no `%`
+abbrev pub may_stand_in_name : ℕ → Bool
+may_stand_in_name c = not (is_control c) && (not (c == 42) && not (c == 37))
+
+-- the octets may be a folder's name
+abbrev pub names_folder : List ℕ → Bool
+names_folder folder_name =
+    is_utf8 folder_name && (nat_lt 0 (length folder_name) && (nat_le (length folder_name) NAME_MAX && (is_nfc (chars folder_name) && list_all may_stand_in_name (chars folder_name))))
+
+abbrev pub create_unless : (tag : List ℕ) → State → (account : ℕ) → (kept : List ℕ) → Option StoreFault → Step
+create_unless tag state account kept None = ends_with tag done (changes (records.Folder account kept ∷ []) ∷ []) state
+create_unless tag state account kept (Some refusal.Exists) = says tag (codes "NO exists") state
+create_unless tag state account kept (Some other) = says tag (codes "NO too large") state
+
+abbrev pub create_by : (tag : List ℕ) → State → (account : ℕ) → StoreState → Option (List ℕ) → Step
+create_by tag state account store None = says tag (codes "NO bad name") state
+create_by tag state account store (Some given) =
+    if names_folder (kept_name given) then create_unless tag state account (kept_name given) (folder_refusal store.kept account given)
+    else says tag (codes "NO bad name") state
+
+-- the line of a folder, where its name as it is shown matches
+abbrev pub list_line : Mode → (pattern folder_name : List ℕ) → List ReplyPart
+list_line mode pattern folder_name =
+    if is_match pattern (shown_name (is_enabled mode) folder_name)
+    then text (codes "* LIST () NIL ") ∷ name mode folder_name ∷ text crlf ∷ []
+    else []
+
+-- an empty pattern asks for the delimiter alone (RFC 3501, 6.3.8)
+abbrev pub list_lines : Mode → StoreState → (account : ℕ) → (reference pattern : List ℕ) → List ReplyPart
+list_lines mode store account reference [] = untagged (codes "LIST (\\Noselect) NIL \"\"") ∷ []
+list_lines mode store account reference (x ∷ pattern) = flat_map (list_line mode (reference ++ x ∷ pattern)) (folder_names store.kept account)
+
+abbrev pub is_seen : Listed → Bool
+is_seen one = has_flag one.flags 1
+
+abbrev pub unseen_among : List Listed → ℕ
+unseen_among messages = count_by (λ one. not (is_seen one)) messages
+
+-- what is told of an item, of a folder with these messages
+abbrev pub status_among : StatusItem → List Listed → (next : ℕ) → List ℕ
+status_among status.Messages messages next = codes "MESSAGES " ++ decimal (length messages)
+status_among status.Recent messages next = codes "RECENT 0"
+status_among status.UidNext messages next = codes "UIDNEXT " ++ decimal next
+status_among status.UidValidity messages next = codes "UIDVALIDITY 1"
+status_among status.Unseen messages next = codes "UNSEEN " ++ decimal (unseen_among messages)
+
+abbrev pub status_text : StoreState → (folder : ℕ) → StatusItem → List ℕ
+status_text store folder asked = status_among asked (listed store.kept folder) (uid_next store.kept folder)
+
+-- texts with a space between any two
+abbrev pub spaced : List (List ℕ) → List ℕ
+spaced [] = []
+spaced (one ∷ []) = one
+spaced (one ∷ next ∷ others) = one ++ (codes " " ++ spaced (next ∷ others))
+
+abbrev pub status_line : Mode → StoreState → (folder : ℕ) → List StatusItem → List ReplyPart
+status_line mode store folder items =
+    text (codes "* STATUS ") ∷ name mode (kept_folder_name store.kept folder) ∷ line (codes " (" ++ (spaced (map (status_text store folder) items) ++ codes ")")) ∷ []
+
+abbrev pub status_by : (tag : List ℕ) → State → Mode → StoreState → List StatusItem → Option ℕ → Step
+status_by tag state mode store items None = no_such_folder tag state
+status_by tag state mode store items (Some folder) = answers tag done (status_line mode store folder items) state
+
+-- ---- messages
+
+-- a message with its number in the folder, from 1 on
+pub record Numbered : Type 0 where
+  pub number : ℕ
+  pub listed : Listed
+
+abbrev pub numbered_at : List Listed → (place : ℕ) → List Numbered
+numbered_at messages place = option_map_or (λ one. record { number = place + 1; listed = one } ∷ []) (slice_get messages place) []
+
+-- the messages of a set, in the order of the folder
+abbrev pub chosen : (by_uid : Bool) → Set → List Listed → List Numbered
+chosen by_uid set messages = flat_map (numbered_at messages) (chosen_places by_uid set messages)
+
+-- acts for each message of a set, unless it names one that isn't there
+abbrev pub for_each : (tag : List ℕ) → State → (by_uid : Bool) → Set → List Listed → (Numbered → List (Act ReplyPart)) → Step
+for_each tag state by_uid set messages act =
+    if is_refused by_uid set messages then no_such_message tag state else ends_with tag done (flat_map act (chosen by_uid set messages)) state
+
+abbrev pub flags_change : Listed → ℕ → List Record
+flags_change one flags = records.Flags one.id flags ∷ []
+
+-- ---- FETCH
+
+-- A message is wholly shown by RFC822, BODY[] and BODY.PEEK[]; the other items that show of it aren't built.
+abbrev pub is_built : FetchItem → Bool
+is_built item.Flags = true
+is_built item.Uid = true
+is_built item.InternalDate = true
+is_built item.Size = true
+is_built item.Rfc822 = true
+is_built (item.Section peek [] Whole None) = true
+is_built other = false
+
+-- what is shown without `PEEK` is seen
+abbrev pub sets_seen : FetchItem → Bool
+sets_seen item.Rfc822 = true
+sets_seen (item.Section peek path part partial) = not peek
+sets_seen other = false
+
+-- how many octets a session is served of a message
+abbrev pub size_of : Meanings → Mode → StoreState → Listed → ℕ
+size_of meanings mode store one = length (served_by meanings.surrogate mode (stored_octets store one.id))
+
+-- the octets of a message as a literal, behind the name of what was asked
+abbrev pub literal_parts : Meanings → Mode → StoreState → Listed → (asked : List ℕ) → List ReplyPart
+literal_parts meanings mode store one asked =
+    text (asked ++ (codes " {" ++ (decimal (size_of meanings mode store one) ++ codes "}\r\n")))
+    ∷ shown (stored_octets store one.id) mode 0 (size_of meanings mode store one) ∷ []
+
+abbrev pub item_parts : Meanings → Mode → StoreState → Listed → FetchItem → List ReplyPart
+item_parts meanings mode store one item.Flags = text (flags_text one.flags) ∷ []
+item_parts meanings mode store one item.Uid = text (codes "UID " ++ decimal one.uid) ∷ []
+item_parts meanings mode store one item.InternalDate = text (codes "INTERNALDATE \"" ++ (stored_date store one.id ++ codes "\"")) ∷ []
+item_parts meanings mode store one item.Size = text (codes "RFC822.SIZE " ++ decimal (size_of meanings mode store one)) ∷ []
+item_parts meanings mode store one item.Rfc822 = literal_parts meanings mode store one (codes "RFC822")
+item_parts meanings mode store one (item.Section peek path part partial) = literal_parts meanings mode store one (codes "BODY[]")
+item_parts meanings mode store one other = []
+
+-- a space before each, but the first where nothing stands before it
+abbrev pub parts_behind : (others : Bool) → List (List ReplyPart) → List ReplyPart
+parts_behind others [] = []
+parts_behind false (parts ∷ more) = parts ++ parts_behind true more
+parts_behind true (parts ∷ more) = text (codes " ") ∷ (parts ++ parts_behind true more)
+
+abbrev pub is_uid : FetchItem → Bool
+is_uid item.Uid = true
+is_uid other = false
+
+abbrev pub is_flags : FetchItem → Bool
+is_flags item.Flags = true
+is_flags other = false
+
+-- UID FETCH tells the UID first where it isn't asked
+abbrev pub with_uid : (by_uid : Bool) → List FetchItem → List FetchItem
+with_uid by_uid items = if by_uid && not (list_any is_uid items) then item.Uid ∷ items else items
+
+-- flags that change are told last where they aren't asked
+abbrev pub with_flags : (changed : Bool) → List FetchItem → List FetchItem
+with_flags changed items = if changed && not (list_any is_flags items) then items ++ item.Flags ∷ [] else items
+
+-- the message becomes seen: an item shows it so, the folder may be changed, and it isn't yet
+abbrev pub becomes_seen : (read_only : Bool) → List FetchItem → Listed → Bool
+becomes_seen read_only items one = not read_only && (list_any sets_seen items && not (is_seen one))
+
+-- as STORE's `+FLAGS (\Seen)` would set it
+abbrev pub seen : Listed → Listed
+seen one = record one { flags = stored_flags Add one.flags 1 }
+
+abbrev pub fetch_reply : Meanings → Mode → StoreState → (number : ℕ) → Listed → List FetchItem → List ReplyPart
+fetch_reply meanings mode store number one items =
+    text (codes "* " ++ (decimal number ++ codes " FETCH (")) ∷ parts_behind false (map (item_parts meanings mode store one) items) ++ line (codes ")") ∷ []
+
+-- one message: Seen is set beforehand, and then it is told
+abbrev pub fetch_one : Meanings → Mode → StoreState → (by_uid read_only : Bool) → List FetchItem → Numbered → List (Act ReplyPart)
+fetch_one meanings mode store by_uid read_only items one =
+    if becomes_seen read_only items one.listed
+    then changes (flags_change one.listed (seen one.listed).flags)
+    ∷ reply (fetch_reply meanings mode store one.number (seen one.listed) (with_flags true (with_uid by_uid items)))
+    else reply (fetch_reply meanings mode store one.number one.listed (with_uid by_uid items))
+
+abbrev pub fetch_step : Meanings → (tag : List ℕ) → State → Mode → (folder : ℕ) → (read_only : Bool) → StoreState → (by_uid : Bool) → Set → List FetchItem → Step
+fetch_step meanings tag state mode folder read_only store by_uid set items =
+    if list_all is_built items
+    then for_each tag state by_uid set (listed store.kept folder) (fetch_one meanings mode store by_uid read_only items)
+    else not_built tag state
+
+-- ---- STORE
+
+abbrev pub uid_text : (by_uid : Bool) → Listed → List ℕ
+uid_text by_uid one = if by_uid then codes "UID " ++ (decimal one.uid ++ codes " ") else []
+
+-- the flags that a message has now, unless they aren't wanted
+abbrev pub flags_reply : (by_uid silent : Bool) → Numbered → (flags : ℕ) → List ReplyPart
+flags_reply by_uid silent one flags =
+    if silent then []
+    else untagged (decimal one.number ++ (codes " FETCH (" ++ (uid_text by_uid one.listed ++ (flags_text flags ++ codes ")")))) ∷ []
+
+abbrev pub store_one : (by_uid silent : Bool) → StoreOp → (named : ℕ) → Numbered → List (Act ReplyPart)
+store_one by_uid silent op named one =
+    let flags = stored_flags op one.listed.flags named in
+    changes (flags_change one.listed flags) ∷ reply (flags_reply by_uid silent one flags)
+
+abbrev pub store_step : (tag : List ℕ) → State → (folder : ℕ) → (read_only : Bool) → StoreState → (by_uid : Bool) → Set → StoreOp → (silent : Bool) → (named : ℕ) → Step
+store_step tag state folder read_only store by_uid set op silent named =
+    if read_only then refused_as_read_only tag state
+    else for_each tag state by_uid set (listed store.kept folder) (store_one by_uid silent op named)
+
+-- ---- EXPUNGE and CLOSE
+
+abbrev pub is_deleted : Listed → Bool
+is_deleted one = has_flag one.flags 8
+
+-- The numbers that are told: each is the message's number once those before it are gone. This is the number of the first message.
+abbrev pub closing_up : (number : ℕ) → List Listed → List ReplyPart
+closing_up number [] = []
+closing_up number (one ∷ others) =
+    if is_deleted one then untagged (decimal number ++ codes " EXPUNGE") ∷ closing_up number others else closing_up (number + 1) others
+
+-- the change that takes them out of the store, by one call, and none where there are none
+abbrev pub taken_out : List ℕ → List (Act ReplyPart)
+taken_out [] = []
+taken_out (id ∷ ids) = changes (expunged (id ∷ ids)) ∷ []
+
+abbrev pub deleted_ids : List Listed → List ℕ
+deleted_ids messages = map (λ (one : Listed). one.id) (filter is_deleted messages)
+
+abbrev pub expunge_step : (tag : List ℕ) → State → (read_only : Bool) → List Listed → Step
+expunge_step tag state read_only messages =
+    if read_only then refused_as_read_only tag state
+    else ends_with tag done (taken_out (deleted_ids messages) ++ reply (closing_up 1 messages)) state
+
+abbrev pub close_step : (tag : List ℕ) → State → (read_only : Bool) → List Listed → Step
+close_step tag state read_only messages = ends_with tag done (if read_only then [] else taken_out (deleted_ids messages)) state
+
+-- ---- commands by state
+
+-- those of every state
+abbrev pub capability : (tag : List ℕ) → State → Step
+capability tag state = answers tag done (untagged (codes "CAPABILITY IMAP4rev1 ENABLE UTF8=ACCEPT") ∷ []) state
+
+abbrev pub logout : (tag : List ℕ) → Step
+logout tag = answers tag done (untagged (codes "BYE bye") ∷ []) ended
+
+-- and what is left of them
+abbrev pub common_step : (tag : List ℕ) → State → Command → Step
+common_step tag state command.Capability = capability tag state
+common_step tag state command.Noop = says tag done state
+common_step tag state command.Logout = logout tag
+common_step tag state command.NotHere = says tag (codes "NO not here") state
+common_step tag state other = out_of_order tag state
+
+abbrev pub not_authenticated_step : Meanings → (tag : List ℕ) → StoreState → Command → Step
+not_authenticated_step meanings tag store (command.Login user password) = login_by tag (logged_in meanings.path_of store.kept user password)
+not_authenticated_step meanings tag store other = common_step tag not_authenticated other
+
+-- the commands of every session that is authenticated, whether a folder is selected or not
+abbrev pub mailbox_step : Meanings → (tag : List ℕ) → State → Mode → (account : ℕ) → StoreState → Command → Step
+mailbox_step meanings tag state mode account store (command.Select written) = select_by tag mode account false store (folder_named meanings mode store account written)
+mailbox_step meanings tag state mode account store (command.Examine written) = select_by tag mode account true store (folder_named meanings mode store account written)
+mailbox_step meanings tag state mode account store (command.Create written) = create_by tag state account store (meanings.name_of (is_enabled mode) written)
+mailbox_step meanings tag state mode account store (command.List reference pattern) = answers tag done (list_lines mode store account reference pattern) state
+mailbox_step meanings tag state mode account store (command.Status written items) = status_by tag state mode store items (folder_named meanings mode store account written)
+mailbox_step meanings tag state mode account store (command.Append written flags date utf8 octets) = not_built tag state
+mailbox_step meanings tag state mode account store other = common_step tag state other
+
+abbrev pub authenticated_step : Meanings → (tag : List ℕ) → Mode → (account : ℕ) → StoreState → Command → Step
+authenticated_step meanings tag mode account store (command.Enable words) = enable_step tag mode account (asks_utf8 words)
+authenticated_step meanings tag mode account store other = mailbox_step meanings tag (authenticated mode account) mode account store other
+
+abbrev pub selected_step : Meanings → (tag : List ℕ) → Mode → (account folder : ℕ) → (read_only : Bool) → StoreState → Command → Step
+selected_step meanings tag mode account folder read_only store command.Check = says tag done (selected mode account folder read_only)
+selected_step meanings tag mode account folder read_only store (command.Fetch by_uid set items) =
+    fetch_step meanings tag (selected mode account folder read_only) mode folder read_only store by_uid set items
+selected_step meanings tag mode account folder read_only store (command.Store by_uid set op silent flags) =
+    store_step tag (selected mode account folder read_only) folder read_only store by_uid set op silent flags
+selected_step meanings tag mode account folder read_only store command.Expunge =
+    expunge_step tag (selected mode account folder read_only) read_only (listed store.kept folder)
+selected_step meanings tag mode account folder read_only store command.Close = close_step tag (authenticated mode account) read_only (listed store.kept folder)
+selected_step meanings tag mode account folder read_only store other =
+    mailbox_step meanings tag (selected mode account folder read_only) mode account store other
+
+-- a command in a state; after the end none is read
+unfoldable pub step : Meanings → State → StoreState → (tag : List ℕ) → Command → Step
+step meanings not_authenticated store tag said = not_authenticated_step meanings tag store said
+step meanings (authenticated mode account) store tag said = authenticated_step meanings tag mode account store said
+step meanings (selected mode account folder read_only) store tag said = selected_step meanings tag mode account folder read_only store said
+step meanings ended store tag said = record { acts = []; state = ended }
+
+-- the mode in which commands are read
+abbrev pub mode_of : State → Mode
+mode_of not_authenticated = legacy
+mode_of (authenticated mode account) = mode
+mode_of (selected mode account folder read_only) = mode
+mode_of ended = legacy

@@ -1,0 +1,144 @@
+-- A session (RFC 3501, 3): the machine over a stream, and what its values stand for.
+use Rattle.std.specs.Prelude.{◌≡◌, ℕ, ◌+◌, ◌^◌, ◌<◌, ◌++◌, List, [], ◌∷◌, codes, drop, length, Option, None, Some, Result, IfOk}
+use Rattle.std.specs.Option.{option_map}
+use Rattle.mail_wire.specs.declared.outside.Fault.{Fault}
+use Rattle.mail_store.specs.Following.{records_of}
+use Rattle.kept_mail.specs.Kept.{listed}
+use Rattle.mail_store.specs.StoreState.{StoreState, AreStored, with_records}
+use Rattle.kept_mail.specs.declared.kept.Listed.{Listed}
+use Rattle.surrogate_cache.specs.Served.{legacy, enabled, is_enabled}
+use Rattle.imap_grammar.specs.Events.{NothingBefore, seen_after}
+use Rattle.imap_grammar.specs.FirstDue.{Due}
+use Rattle.imap_grammar.specs.Standing.{HasSeen}
+use Rattle.imap_grammar.specs.declared.reader.Reader.{Reader}
+use Rattle.imap_grammar.specs.declared.event.Event.{Event}
+use Rattle.imap_grammar.specs.declared.event.Event.TheVariants.{More, Go, Command, Bad, TooLarge, TooLong}
+use Rattle.session_core.specs.Acts.{Act, changes_in}
+use Rattle.session_core.specs.Around.{Around}
+use Rattle.session_core.specs.Doing.{Does}
+use Rattle.session_core.specs.Keeps.{fault_of}
+use Rattle.session_core.specs.Meanings.{Meanings, WithMeanings}
+use Rattle.session_core.specs.Moments.{Moment}
+use Rattle.session_core.specs.Protocol.{Protocol}
+use Rattle.session_core.specs.Turns.{Turn}
+use Rattle.session_core.specs.declared.desk.Desk.{Desk}
+use Rattle.imap_session.specs.Machine.{State, not_authenticated, authenticated, selected, ended, Step, line, mode_of, reply, says, step, untagged}
+use Rattle.imap_session.specs.Replies.{ReplyPart, IsFit, part_octets}
+use Rattle.imap_session.specs.declared.session.ImapMachine.{ImapMachine}
+use Rattle.imap_session.specs.declared.states.ImapState.{ImapState}
+use Rattle.imap_session.specs.declared.states.ImapState.TheVariants as imap
+
+-- the machine, its store, and the octets of a command in which literals were asked for
+pub record Machine : Type 0 where
+  pub state : State
+  pub store : StoreState
+  pub seen : List ℕ
+
+-- what is due: a literal may come, or a command is answered, or refused
+abbrev pub due_step : Meanings → State → StoreState → Event → Step
+due_step meanings state store More = record { acts = []; state = state }
+due_step meanings state store Go = record { acts = reply (line (codes "+ go") ∷ []); state = state }
+due_step meanings state store (Command tag said) = step meanings state store tag said
+due_step meanings state store (Bad (Some tag) at) = says tag (codes "BAD syntax") state
+due_step meanings state store (Bad None at) = record { acts = reply (untagged (codes "BAD syntax") ∷ []); state = state }
+due_step meanings state store (TooLarge tag) = says tag (codes "NO too large") state
+due_step meanings state store TooLong = record { acts = reply (untagged (codes "BYE line too long") ∷ []); state = ended }
+
+abbrev pub due_turn : Meanings → Machine → List ℕ → Due → Turn Machine (Act ReplyPart)
+due_turn meanings machine octets due =
+    let taken = due_step meanings machine.state machine.store due.event in
+    record {
+      parts = taken.acts;
+      after = record { state = taken.state; store = with_records machine.store (records_of (changes_in taken.acts)); seen = seen_after machine.seen octets due.used due.event };
+      rest = drop due.used octets;
+    }
+
+abbrev pub turn_by_reading : Meanings → Machine → List ℕ → Option (Turn Machine (Act ReplyPart))
+turn_by_reading meanings machine octets = option_map (due_turn meanings machine octets) (meanings.event_of (is_enabled (mode_of machine.state)) machine.seen octets)
+
+-- after the end no command is read
+abbrev pub turn_from : Meanings → State → Machine → List ℕ → Option (Turn Machine (Act ReplyPart))
+turn_from meanings ended machine octets = None
+turn_from meanings state machine octets = turn_by_reading meanings machine octets
+
+unfoldable pub next_turn : Meanings → Machine → List ℕ → Option (Turn Machine (Act ReplyPart))
+next_turn meanings machine octets = turn_from meanings machine.state machine octets
+
+abbrev pub greeting : List ReplyPart
+greeting = untagged (codes "OK IMAP4rev1 ready") ∷ []
+
+abbrev pub start_of : StoreState → Machine
+start_of store = record { state = not_authenticated; store = store; seen = [] }
+
+abbrev pub imap_protocol : Protocol
+imap_protocol = record {
+  S = Machine;
+  P = ReplyPart;
+  opening = λ store. reply greeting;
+  start = λ moments store. start_of store;
+  next = next_turn;
+  spelled = part_octets;
+  Fits = IsFit;
+  HasEnded = λ machine. machine.state ≡ ended;
+  IsSound = λ machine. AreStored machine.store.kept.messages;
+}
+
+-- ---- what values stand for
+
+-- the machine's state
+abbrev pub state_of : ImapState → State
+state_of (imap.NotAuthenticated session) = not_authenticated
+state_of (imap.Authenticated session) = authenticated legacy session.state.account
+state_of (imap.EnabledAuthenticated session) = authenticated enabled session.state.account
+state_of (imap.Selected session) = selected legacy session.state.account session.state.folder session.state.read_only
+state_of (imap.EnabledSelected session) = selected enabled session.state.account session.state.folder session.state.read_only
+
+-- the machine's state, also where no session is left
+abbrev pub state_or_ended : Option ImapState → State
+state_or_ended None = ended
+state_or_ended (Some session) = state_of session
+
+-- the store has the account; and the folder, whose messages these are, and no more than a number of 32 bits tells
+pub record KnowsFolder (store : StoreState) (account folder : ℕ) (messages : List Listed) : Type 0 where
+  pub account_is : account < length store.kept.accounts
+  pub folder_is : folder < length store.kept.folders
+  pub messages_are : messages ≡ listed store.kept folder
+  pub few : length messages < 2 ^ 32
+
+-- the store has what the session names
+abbrev pub KnowsState : StoreState → ImapState → Type 0
+KnowsState store (imap.NotAuthenticated session) = Unit {0}
+KnowsState store (imap.Authenticated session) = session.state.account < length store.kept.accounts
+KnowsState store (imap.EnabledAuthenticated session) = session.state.account < length store.kept.accounts
+KnowsState store (imap.Selected session) = KnowsFolder store session.state.account session.state.folder session.state.messages.items
+KnowsState store (imap.EnabledSelected session) = KnowsFolder store session.state.account session.state.folder session.state.messages.items
+
+abbrev pub KnowsNext : StoreState → Option ImapState → Type 0
+KnowsNext store None = Unit {0}
+KnowsNext store (Some session) = KnowsState store session
+
+-- The states and the rests that a session stands for. Its reader has seen the octets of a command that came, and nothing is due at those
+-- behind the last literal that was asked for.
+pub record ImapStands (moments : List Moment) (session : ImapMachine) (kept : List ℕ) (desk : Desk) (machine : Machine) (rest : List ℕ) : Type 0 where
+  pub state_is : machine.state ≡ state_of session.state
+  pub store_is : machine.store ≡ desk.store
+  pub reads : HasSeen (is_enabled (mode_of machine.state)) session.reader (machine.seen ++ rest)
+  pub quiet : NothingBefore (is_enabled (mode_of machine.state)) machine.seen rest (length rest + 1)
+
+-- what a session needs: the reader keeps all that is kept of a command
+pub record ImapReady (session : ImapMachine) (kept : List ℕ) (desk : Desk) : Type 0 where
+  pub nothing_kept : kept ≡ []
+  pub known : KnowsState desk.store session.state
+  pub seen : List ℕ
+  pub reads : HasSeen (is_enabled (mode_of (state_of session.state))) session.reader seen
+
+-- the session behind an answer, with its reader
+abbrev pub machine_next : Reader → Option ImapState → Option ImapMachine
+machine_next reader None = None
+machine_next reader (Some state) = Some (record { reader = reader; state = state })
+
+-- The step was carried out, or after a fault the first of it; the session is in its state, and the store has what it names.
+pub record TakesStep (before now : Around) (result : Result (Option ImapState) Fault) (taken : Meanings → Step) : Type 0 where
+  pub does : WithMeanings (λ meanings. Does (part_octets meanings) before now (fault_of result) (taken meanings).acts)
+  pub next : WithMeanings (λ meanings. IfOk result (λ next. state_or_ended next ≡ (taken meanings).state))
+  pub known : IfOk result (KnowsNext now.desk.store)

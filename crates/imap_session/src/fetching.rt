@@ -1,0 +1,366 @@
+//! FETCH (RFC 3501, 6.4.5 and 7.4.2).
+ghost use Rattle.std.specs.Prelude.{◌≡◌, ◌<◌, ◌++◌, true, length, map, codes, decimal, IfOk, OnOk};
+ghost use Rattle.std.specs.List.{list_all, list_any};
+ghost use Rattle.std.specs.Option.{option_copied};
+ghost use Rattle.surrogate_rope.specs.Served.{IsShownOf, shown_octets};
+ghost use Rattle.surrogate_cache.specs.Served.{IsServed};
+ghost use Rattle.mail_store.specs.StoreState.{StoreState};
+ghost use Rattle.session_core.specs.Desks.{stored_octets};
+ghost use Rattle.session_core.specs.Doing.{Replies};
+ghost use Rattle.session_core.specs.Keeps.{Keeps, fault_of};
+ghost use Rattle.session_core.specs.Meanings.{WithMeanings};
+ghost use Rattle.imap_session.specs.Machine.{becomes_seen, fetch_one, fetch_reply, is_built as is_built_of, is_flags as is_flags_of, is_uid as is_uid_of, item_parts, literal_parts, parts_behind, reply, sets_seen as sets_seen_of, with_flags, with_uid};
+ghost use Rattle.imap_session.specs.Replies.{part_octets};
+ghost use Rattle.imap_session.specs.private.Fetched.{end_octets, space_octets, tells_flags_last, tells_uid_first, uid_first_octets};
+ghost use Rattle.imap_session.specs.private.Pending.{Carries};
+ghost use Rattle.imap_session.specs.private.Messages.{ShowsAlike};
+ghost use Rattle.imap_session.specs.private.Shown.{HasShown, shows};
+
+use crate::messages::{EachMessage, change_flags, give_pending};
+use crate::states::Kind;
+use imap_grammar::{FetchItem, SectionPart, StoreOp};
+use imap_mailboxes::{has_flag, push_flags};
+use kept_mail::Listed;
+use mail_wire::{Clock, Fault, Keeper, Memory, Octets, PIECE, Wire};
+use session_core::Outside;
+use std::alloc::Global;
+use std::marker::PhantomData;
+use surrogate_rope::Shown;
+
+const SEEN: u8 = 1;
+
+/// Whether this stage tells the item.
+pub fn is_built(item: &FetchItem) -> bool
+    ensures { result ≡ is_built_of item.now }
+{
+    match item {
+        FetchItem::Flags
+        | FetchItem::Uid
+        | FetchItem::InternalDate
+        | FetchItem::Size
+        | FetchItem::Rfc822 => true,
+        FetchItem::Section {
+            path,
+            part: SectionPart::Whole,
+            partial: None,
+            ..
+        } => path.is_empty(),
+        _ => false,
+    }
+}
+
+fn is_uid(item: &FetchItem) -> bool
+    ensures { result ≡ is_uid_of item.now }
+{
+    matches!(item, FetchItem::Uid)
+}
+
+fn is_flags(item: &FetchItem) -> bool
+    ensures { result ≡ is_flags_of item.now }
+{
+    matches!(item, FetchItem::Flags)
+}
+
+fn sets_seen(item: &FetchItem) -> bool
+    ensures { result ≡ sets_seen_of item.now }
+{
+    match item {
+        FetchItem::Rfc822 => true,
+        FetchItem::Section { peek, .. } => !*peek,
+        _ => false,
+    }
+}
+
+// Whether the octets that are served tell the item.
+fn needs_shown(item: &FetchItem) -> bool
+    ensures { result ≡ shows item.now }
+{
+    matches!(
+        item,
+        FetchItem::Size | FetchItem::Rfc822 | FetchItem::Section { .. }
+    )
+}
+
+// Whether the octets that are served tell some item.
+fn asks_shown(items: &[FetchItem]) -> bool
+    ensures { result ≡ list_any shows items.now }
+{
+    items.iter().any(needs_shown)
+}
+
+fn asks_uid(items: &[FetchItem]) -> bool
+    ensures { result ≡ list_any is_uid_of items.now }
+{
+    items.iter().any(is_uid)
+}
+
+fn asks_flags(items: &[FetchItem]) -> bool
+    ensures { result ≡ list_any is_flags_of items.now }
+{
+    items.iter().any(is_flags)
+}
+
+// Whether some item is shown without `PEEK`.
+fn asks_seen(items: &[FetchItem]) -> bool
+    ensures { result ≡ list_any sets_seen_of items.now }
+{
+    items.iter().any(sets_seen)
+}
+
+/// FETCH, as it is done with each message, for a session of a kind.
+#[derive(Drop)]
+pub struct Fetching<'a, V> {
+    pub items: &'a [FetchItem],
+    pub by_uid: bool,
+    pub read_only: bool,
+    pub view: PhantomData<V>,
+}
+
+// What a session of this kind is shown of a message, where an item tells of it.
+fn shown_for<V: Kind, W: Wire, J: Keeper, C: Clock>(
+    items: &[FetchItem],
+    id: u32,
+    outside: &mut Outside<W, J, C>,
+) -> Result<Option<Shown>, Memory>
+    requires { id < length outside.old.desk.store.kept.messages }
+    ensures shown { IfOk result (λ shown. HasShown V.mode (stored_octets outside.old.desk.store id) (list_any shows items.now) shown) }
+    ensures same { outside.new ≡ outside.old }
+{
+    if !asks_shown(items) {
+        return Ok(None);
+    }
+    Ok(Some(outside.show::<V>(id)?))
+}
+
+// Gives all that is shown of a message of the store.
+fn give_shown<W: Wire, J: Keeper, C: Clock>(
+    id: u32,
+    shown: &Shown,
+    outside: &mut Outside<W, J, C>,
+) -> Result<(), Fault>
+    requires id { id < length outside.old.desk.store.kept.messages }
+    requires shown { IsShownOf (stored_octets outside.old.desk.store id) shown.now }
+    ensures replies { Replies outside.old outside.new (fault_of result) (shown_octets (stored_octets outside.old.desk.store id) shown.now) }
+    ensures keeps { Keeps outside.old outside.new (fault_of result) }
+{
+    let len = shown.size(outside.octets(id));
+    let mut piece = [0; PIECE];
+    let mut at = 0;
+    while at < len {
+        let count = shown.read_at(outside.octets(id), at, &mut piece);
+        outside.give(&piece[..count])?;
+        at += count;
+    }
+    Ok(())
+}
+
+// Puts the header of a literal last, behind the name of what was asked.
+fn push_header(alloc: Global, pending: &mut Octets, asked: &str, size: usize) -> Result<(), Memory>
+    ensures { OnOk result (pending.new ≡ pending.old ++ (asked.now ++ (codes " {" ++ (decimal size ++ codes "}\r\n")))) }
+{
+    let header = format!(in alloc; "{asked} {{{size}}}\r\n")?;
+    pending.push_slice(header.as_bytes())
+}
+
+// Gives the octets of a message as a literal, behind what is pending and the name of what was asked.
+fn give_literal<V: Kind, W: Wire, J: Keeper, C: Clock>(
+    asked: &str,
+    one: &Listed,
+    shown: &Shown,
+    pending: &mut Octets,
+    outside: &mut Outside<W, J, C>,
+) -> Result<(), Fault>
+    requires id { one.now.id < length outside.old.desk.store.kept.messages }
+    requires shown { IsShownOf (stored_octets outside.old.desk.store one.now.id) shown.now }
+    requires served { IsServed V.mode (stored_octets outside.old.desk.store one.now.id) (shown_octets (stored_octets outside.old.desk.store one.now.id) shown.now) }
+    ensures carries { WithMeanings (λ meanings. (store : StoreState) → ShowsAlike store outside.old.desk.store → Carries (part_octets meanings) outside.old outside.new (fault_of result)
+        pending.old pending.new (reply (literal_parts meanings V.mode store one.now asked.now))) }
+    ensures desk { OnOk result (outside.new.desk ≡ outside.old.desk) }
+    ensures keeps { Keeps outside.old outside.new (fault_of result) }
+{
+    let size = shown.size(outside.octets(one.id));
+    push_header(outside.alloc(), pending, asked, size)?;
+    give_pending(pending, outside)?;
+    give_shown(one.id, shown, outside)
+}
+
+// Puts a date last.
+fn push_date(pending: &mut Octets, date: &[u8]) -> Result<(), Memory>
+    ensures { OnOk result (pending.new ≡ pending.old ++ (codes "INTERNALDATE \"" ++ (date.now ++ codes "\""))) }
+{
+    pending.push_slice(b"INTERNALDATE \"")?;
+    pending.push_slice(date)?;
+    pending.push(b'"')
+}
+
+// Puts a number last, behind a word.
+fn push_number(alloc: Global, pending: &mut Octets, word: &str, number: usize) -> Result<(), Memory>
+    ensures { OnOk result (pending.new ≡ pending.old ++ (word.now ++ decimal number)) }
+{
+    let text = format!(in alloc; "{word}{number}")?;
+    pending.push_slice(text.as_bytes())
+}
+
+// Puts the beginning of a message's reply last.
+fn push_front(alloc: Global, pending: &mut Octets, number: u32) -> Result<(), Memory>
+    ensures { OnOk result (pending.new ≡ pending.old ++ (codes "* " ++ (decimal number ++ codes " FETCH ("))) }
+{
+    let front = format!(in alloc; "* {number} FETCH (")?;
+    pending.push_slice(front.as_bytes())
+}
+
+// Tells an item of a message. What is to be given may stay pending.
+fn put_item<V: Kind, W: Wire, J: Keeper, C: Clock>(
+    item: &FetchItem,
+    one: &Listed,
+    shown: Option<&Shown>,
+    pending: &mut Octets,
+    outside: &mut Outside<W, J, C>,
+) -> Result<(), Fault>
+    requires id { one.now.id < length outside.old.desk.store.kept.messages }
+    requires built { is_built_of item.now ≡ true }
+    requires shown { HasShown V.mode (stored_octets outside.old.desk.store one.now.id) (shows item.now) (option_copied shown) }
+    ensures carries { WithMeanings (λ meanings. (store : StoreState) → ShowsAlike store outside.old.desk.store → Carries (part_octets meanings) outside.old outside.new (fault_of result)
+        pending.old pending.new (reply (item_parts meanings V.mode store one.now item.now))) }
+    ensures desk { OnOk result (outside.new.desk ≡ outside.old.desk) }
+    ensures keeps { Keeps outside.old outside.new (fault_of result) }
+{
+    let alloc = outside.alloc();
+    match (item, shown) {
+        (FetchItem::Flags, _) => Ok(push_flags(pending, one.flags)?),
+        (FetchItem::Uid, _) => Ok(push_number(alloc, pending, "UID ", one.uid as usize)?),
+        (FetchItem::InternalDate, _) => Ok(push_date(pending, outside.date(one.id))?),
+        (FetchItem::Size, Some(shown)) => {
+            let size = shown.size(outside.octets(one.id));
+            Ok(push_number(alloc, pending, "RFC822.SIZE ", size)?)
+        }
+        (FetchItem::Rfc822, Some(shown)) => {
+            give_literal::<V, W, J, C>("RFC822", one, shown, pending, outside)
+        }
+        (FetchItem::Section { .. }, Some(shown)) => {
+            give_literal::<V, W, J, C>("BODY[]", one, shown, pending, outside)
+        }
+        _ => unreachable!(),
+    }
+}
+
+// Puts a space last where something stands before what comes next.
+fn push_space(pending: &mut Octets, apart: bool) -> Result<(), Memory>
+    ensures { OnOk result (pending.new ≡ pending.old ++ space_octets apart) }
+{
+    if apart {
+        pending.push(b' ')?;
+    }
+    Ok(())
+}
+
+// Tells items of a message, with a space between any two, and before the first where others stand before them.
+fn put_items<V: Kind, W: Wire, J: Keeper, C: Clock>(
+    items: &[FetchItem],
+    one: &Listed,
+    behind_others: bool,
+    pending: &mut Octets,
+    outside: &mut Outside<W, J, C>,
+) -> Result<(), Fault>
+    requires id { one.now.id < length outside.old.desk.store.kept.messages }
+    requires built { list_all is_built_of items.now ≡ true }
+    ensures carries { WithMeanings (λ meanings. (store : StoreState) → ShowsAlike store outside.old.desk.store → Carries (part_octets meanings) outside.old outside.new (fault_of result)
+        pending.old pending.new (reply (parts_behind behind_others (map (item_parts meanings V.mode store one.now) items.now)))) }
+    ensures desk { OnOk result (outside.new.desk ≡ outside.old.desk) }
+    ensures keeps { Keeps outside.old outside.new (fault_of result) }
+{
+    let shown = shown_for::<V, W, J, C>(items, one.id, outside)?;
+    let mut apart = behind_others;
+    for item in items {
+        push_space(pending, apart)?;
+        put_item::<V, W, J, C>(item, one, shown.as_ref(), pending, outside)?;
+        apart = true;
+    }
+    Ok(())
+}
+
+impl<'a, V: Kind> Fetching<'a, V> {
+    fn becomes_seen(&self, one: &Listed) -> bool
+        ensures { result ≡ becomes_seen self.now.read_only self.now.items.now one.now }
+    {
+        !self.read_only && asks_seen(self.items) && !has_flag(one.flags, SEEN)
+    }
+
+    // Puts the UID of a message last, where it is told before all that was asked, and answers whether it is.
+    fn push_uid_first(
+        &self,
+        alloc: Global,
+        one: &Listed,
+        pending: &mut Octets,
+    ) -> Result<bool, Memory>
+        ensures first { IfOk result (λ first. first ≡ tells_uid_first self.now.by_uid self.now.items.now) }
+        ensures told { IfOk result (λ first. pending.new ≡ pending.old ++ uid_first_octets first one.now) }
+    {
+        if !self.by_uid || asks_uid(self.items) {
+            return Ok(false);
+        }
+        push_number(alloc, pending, "UID ", one.uid as usize)?;
+        Ok(true)
+    }
+
+    // Puts the end of a message's reply last, behind its flags where they changed and weren't asked.
+    fn push_end(
+        &self,
+        one: &Listed,
+        flags_changed: bool,
+        pending: &mut Octets,
+    ) -> Result<(), Memory>
+        ensures { OnOk result (pending.new ≡ pending.old ++ end_octets (tells_flags_last flags_changed self.now.items.now) one.now) }
+    {
+        if flags_changed && !asks_flags(self.items) {
+            pending.push(b' ')?;
+            push_flags(pending, one.flags)?;
+        }
+        pending.push_slice(b")\r\n")
+    }
+
+    // Tells all that was asked of a message.
+    fn tell<W: Wire, J: Keeper, C: Clock>(
+        &self,
+        number: u32,
+        one: &Listed,
+        flags_changed: bool,
+        pending: &mut Octets,
+        outside: &mut Outside<W, J, C>,
+    ) -> Result<(), Fault>
+        requires id { one.now.id < length outside.old.desk.store.kept.messages }
+        requires built { list_all is_built_of self.now.items.now ≡ true }
+        requires seen { flags_changed ≡ true → list_any sets_seen_of self.now.items.now ≡ true }
+        ensures carries { WithMeanings (λ meanings. (store : StoreState) → ShowsAlike store outside.old.desk.store → Carries (part_octets meanings) outside.old outside.new (fault_of result)
+            pending.old pending.new (reply (fetch_reply meanings V.mode store number one.now (with_flags flags_changed (with_uid self.now.by_uid self.now.items.now))))) }
+        ensures desk { OnOk result (outside.new.desk ≡ outside.old.desk) }
+        ensures keeps { Keeps outside.old outside.new (fault_of result) }
+    {
+        let alloc = outside.alloc();
+        push_front(alloc, pending, number)?;
+        let uid_first = self.push_uid_first(alloc, one, pending)?;
+        put_items::<V, W, J, C>(self.items, one, uid_first, pending, outside)?;
+        self.push_end(one, flags_changed, pending)?;
+        Ok(())
+    }
+}
+
+impl<'a, V: Kind> EachMessage for Fetching<'a, V> {
+    ghost acts = { λ fetching meanings store one. fetch_one meanings V.mode store fetching.by_uid fetching.read_only fetching.items.now one };
+
+    ghost may_take = { λ fetching. list_all is_built_of fetching.items.now ≡ true };
+
+    fn take<W: Wire, J: Keeper, C: Clock>(
+        &self,
+        number: u32,
+        one: &mut Listed,
+        pending: &mut Octets,
+        outside: &mut Outside<W, J, C>,
+    ) -> Result<(), Fault> {
+        if !self.becomes_seen(one) {
+            return self.tell(number, one, false, pending, outside);
+        }
+        change_flags(StoreOp::Add, SEEN, one, pending, outside)?;
+        self.tell(number, one, true, pending, outside)
+    }
+}
