@@ -26,10 +26,33 @@ def instructions_on(words, stdin, cwd=None):
     out = os.path.join(DATA, "callgrind.out")
     tool = ["valgrind", "--tool=callgrind", f"--callgrind-out-file={out}", *words]
     said = subprocess.run(tool, stdin=stdin, cwd=cwd, stdout=subprocess.DEVNULL, stderr=subprocess.PIPE)
-    found = re.search(rb"Collected : (\d+)", said.stderr)
-    if said.returncode or not found:
-        sys.exit(f"callgrind ended with status {said.returncode}: {said.stderr.decode(errors='replace')[-600:]}")
+    count = collected(said.returncode, said.stderr)
     os.remove(out)
+    return count
+
+
+def instructions_while(words, work, cwd=None):
+    """How many a program takes that serves while this work is done, and then ends."""
+    out, log = os.path.join(DATA, "callgrind.out"), os.path.join(DATA, "callgrind.log")
+    tool = ["valgrind", "--tool=callgrind", f"--callgrind-out-file={out}", f"--log-file={log}", *words]
+    with subprocess.Popen(tool, stdin=subprocess.DEVNULL, cwd=cwd, stdout=subprocess.DEVNULL, stderr=subprocess.PIPE) as run:
+        # it tells where it listens
+        run.stderr.readline()
+        work()
+        said = run.stderr.read()
+    with open(log, "rb") as file:
+        said += file.read()
+    count = collected(run.returncode, said)
+    os.remove(log)
+    os.remove(out)
+    return count
+
+
+def collected(status, said):
+    """The count that callgrind tells."""
+    found = re.search(rb"Collected : (\d+)", said)
+    if status or not found:
+        sys.exit(f"callgrind ended with status {status}: {said.decode(errors='replace')[-600:]}")
     return int(found[1])
 
 

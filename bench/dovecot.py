@@ -1,4 +1,4 @@
-"""The rival of `dervlask pop`: Dovecot's POP3 server over a maildir, without privileges, in a folder of its own."""
+"""The rival of `dervlask pop` and `dervlask imap`: Dovecot's servers over a maildir, without privileges, in a folder of its own."""
 
 import getpass
 import grp
@@ -12,7 +12,7 @@ import time
 PATH = os.pathsep.join([os.environ.get("PATH", os.defpath), "/usr/sbin"])
 
 SETTINGS = """
-protocols = pop3
+protocols = {protocol}
 listen = 127.0.0.1
 base_dir = {folder}/run
 state_dir = {folder}/state
@@ -35,9 +35,9 @@ userdb {{
 service anvil {{
   chroot =
 }}
-service pop3-login {{
+service {protocol}-login {{
   chroot =
-  inet_listener pop3 {{
+  inet_listener {protocol} {{
     port = {port}
   }}
 }}
@@ -48,8 +48,14 @@ class NotStarted(Exception):
     """What the server said."""
 
 
-def is_installed():
-    return shutil.which("dovecot", path=PATH) is not None
+# Dovecot's names of the protocols, and the programs of its packages that serve them
+PROTOCOLS = {"pop": "pop3", "imap": "imap"}
+PROGRAMS = "/usr/lib/dovecot"
+
+
+def is_installed(word):
+    """Whether it is there with the server of the protocol of this word."""
+    return shutil.which("dovecot", path=PATH) is not None and os.path.exists(os.path.join(PROGRAMS, PROTOCOLS[word]))
 
 
 def version():
@@ -76,7 +82,7 @@ def free_port():
 class Dovecot:
     """Serves the messages on `port` while its block runs. As root it runs as `nobody`."""
 
-    def __init__(self, folder, messages, password):
+    def __init__(self, folder, messages, password, word):
         self.folder, self.port = folder, free_port()
         is_root = os.geteuid() == 0
         self.user = pwd.getpwnam("nobody" if is_root else getpass.getuser())
@@ -85,7 +91,7 @@ class Dovecot:
         os.mkdir(os.path.join(folder, "run"))
         self.settings = os.path.join(folder, "dovecot.conf")
         with open(self.settings, "w", encoding="utf-8") as file:
-            file.write(SETTINGS.format(folder=folder, user=self.user.pw_name, group=group, password=password, port=self.port))
+            file.write(SETTINGS.format(folder=folder, user=self.user.pw_name, group=group, password=password, port=self.port, protocol=PROTOCOLS[word]))
         self.how = {"user": self.user.pw_uid, "group": self.user.pw_gid, "extra_groups": []} if is_root else {}
         if is_root:
             subprocess.run(["chown", "-R", f"{self.user.pw_uid}:{self.user.pw_gid}", folder], check=True)

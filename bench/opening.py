@@ -7,7 +7,7 @@ import paths
 from counting import heading, line, mebibytes, peak, seconds
 from journal import mailbox
 from journal import message as record
-from pop import ADDRESS, PASSWORD, message, tell
+from mailboxes import ADDRESS, PASSWORD, message, tell
 
 SIZE = 1_000_000_000
 MESSAGE_SIZES = [1_000, 10_000, 100_000]

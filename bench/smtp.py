@@ -12,7 +12,7 @@ from bridge import Bridge
 from counting import heading, instructions, line, mebibytes, peak
 from dovecot import NotStarted
 from journal import mailbox
-from pop import ADDRESS, PASSWORD, RATIO_MOST, message, tell
+from mailboxes import ADDRESS, PASSWORD, RATIO_MOST, message, tell
 
 COUNT, SIZE = 20_000, 1_000
 

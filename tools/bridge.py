@@ -1,4 +1,4 @@
-"""Serves `dervlask pop` or `dervlask smtp` over TCP on 127.0.0.1, for tests, measurements and trying things by hand.
+"""Serves `dervlask pop`, `imap` or `smtp` over TCP on 127.0.0.1, for tests, measurements and trying things by hand.
 
 Each connection gets a program of its own at once, which runs in the folder where the journal lies, with the socket as its standard
 input and output. A program has its journal's lock until it ends, so these sessions work one after the other: a client that comes
@@ -11,7 +11,7 @@ import subprocess
 import sys
 import threading
 
-WORDS = ("pop", "smtp")
+WORDS = ("pop", "imap", "smtp")
 PATIENCE = 60
 
 
@@ -74,7 +74,7 @@ def read_words(arguments):
     parser.add_argument("program", metavar="PROGRAM", help="the program, as bin/dervlask")
     parser.add_argument("folder", metavar="FOLDER", help="where mail.journal lies, or is made")
     parser.add_argument("port", metavar="PORT", nargs="?", type=int, default=0, help="any that is free, where none is given")
-    parser.add_argument("word", metavar="WORD", nargs="?", choices=WORDS, default="pop", help="pop, which it is where none is given, or smtp")
+    parser.add_argument("word", metavar="WORD", nargs="?", choices=WORDS, default="pop", help="pop, which it is where none is given, imap or smtp")
     return parser.parse_args(arguments)
 
 

@@ -1,9 +1,8 @@
 -- A list of one word.
 use Rattle.std.proofs.Common.{◌≡◌, ℕ, List, [], ◌∷◌, length, ◌<◌, ◌≤◌, arith, Some, refl, ap}
-use Rattle.std.specs.Prelude.{sum_by}
 use Rattle.std.specs.List.{slice_get}
 use Rattle.mail_command.specs.declared.roles.Role.{Role}
-use Rattle.mail_command.specs.declared.roles.Role.TheVariants.{Pop, Smtp}
+use Rattle.mail_command.specs.declared.roles.Role.TheVariants.{Pop, Smtp, Imap}
 use Rattle.mail_command.specs.Words.{IsDowngrade, IsSession}
 
 -- the list is its first word
@@ -16,17 +15,32 @@ one_word (w ∷ v ∷ words) word first one = absurd (omega arith)
 apart : (n low high : ℕ) → n ≡ low → n ≡ high → low < high → ⊥
 apart n low high one other differ = omega arith
 
--- how many octets words have
-size_is : (words spelled : List (List ℕ)) → words ≡ spelled → sum_by length words ≡ sum_by length spelled
-size_is words spelled is = ap (sum_by length) is
+-- the octet with which the first word begins
+abbrev initial : List (List ℕ) → ℕ
+initial [] = 0
+initial ([] ∷ words) = 0
+initial ((octet ∷ word) ∷ words) = octet
+
+initial_is : (words spelled : List (List ℕ)) → words ≡ spelled → initial words ≡ initial spelled
+initial_is words spelled is = ap initial is
+
+-- words don't begin with two octets
+differ_first : (words one other : List (List ℕ)) → words ≡ one → words ≡ other → initial one < initial other → ⊥
+differ_first words one other is also differ = apart (initial words) (initial one) (initial other) (initial_is words one is) (initial_is words other also) differ
 
 -- no words are those of two commands
 pub not_downgrade : (words : List (List ℕ)) (role : Role) → IsDowngrade words → IsSession words role → ⊥
-not_downgrade words Pop one other = apart (sum_by length words) 3 9 (size_is words _ other) (size_is words _ one) (omega arith)
-not_downgrade words Smtp one other = apart (sum_by length words) 4 9 (size_is words _ other) (size_is words _ one) (omega arith)
+not_downgrade words Pop one other = differ_first words _ _ one other (omega arith)
+not_downgrade words Smtp one other = differ_first words _ _ one other (omega arith)
+not_downgrade words Imap one other = differ_first words _ _ one other (omega arith)
 
 pub session_once : (words : List (List ℕ)) (one other : Role) → IsSession words one → IsSession words other → one ≡ other
 session_once words Pop Pop is also = refl
-session_once words Pop Smtp is also = absurd (apart (sum_by length words) 3 4 (size_is words _ is) (size_is words _ also) (omega arith))
-session_once words Smtp Pop is also = absurd (apart (sum_by length words) 3 4 (size_is words _ also) (size_is words _ is) (omega arith))
+session_once words Pop Smtp is also = absurd (differ_first words _ _ is also (omega arith))
+session_once words Pop Imap is also = absurd (differ_first words _ _ also is (omega arith))
+session_once words Smtp Pop is also = absurd (differ_first words _ _ also is (omega arith))
 session_once words Smtp Smtp is also = refl
+session_once words Smtp Imap is also = absurd (differ_first words _ _ also is (omega arith))
+session_once words Imap Pop is also = absurd (differ_first words _ _ is also (omega arith))
+session_once words Imap Smtp is also = absurd (differ_first words _ _ is also (omega arith))
+session_once words Imap Imap is also = refl

@@ -15,6 +15,7 @@ IsDowngrade words = words ≡ codes "downgrade" ∷ []
 abbrev pub role_word : Role → List ℕ
 role_word role.Pop = codes "pop"
 role_word role.Smtp = codes "smtp"
+role_word role.Imap = codes "imap"
 
 -- the one word of the command that serves a session
 abbrev pub IsSession : List (List ℕ) → Role → Type 0

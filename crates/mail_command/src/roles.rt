@@ -8,6 +8,7 @@ ghost use Rattle.mail_command.specs.Protocols.{patience_of, protocol_for};
 ghost use Rattle.mail_command.specs.Words.{role_word};
 ghost use Rattle.mail_command.specs.declared.roles.Role.{Role as RoleValue};
 
+use imap_session::serve_imap;
 use mail_wire::{Clock, Keeper, Wire};
 use pop_session::serve_pop;
 use session_core::{Outside, Served};
@@ -18,6 +19,7 @@ use smtp_session::serve_smtp;
 pub enum Role {
     Pop,
     Smtp,
+    Imap,
 }
 
 impl Role {
@@ -28,6 +30,7 @@ impl Role {
         match self {
             Role::Pop => "pop",
             Role::Smtp => "smtp",
+            Role::Imap => "imap",
         }
     }
 
@@ -38,6 +41,7 @@ impl Role {
         match self {
             Role::Pop => 600,
             Role::Smtp => 300,
+            Role::Imap => 1800,
         }
     }
 }
@@ -50,6 +54,7 @@ pub fn role_named(word: &str) -> Option<Role>
     match word {
         "pop" => Some(Role::Pop),
         "smtp" => Some(Role::Smtp),
+        "imap" => Some(Role::Imap),
         _ => None,
     }
 }
@@ -68,5 +73,6 @@ pub fn serve_one<W: Wire, J: Keeper, C: Clock>(role: Role, outside: &mut Outside
     match role {
         Role::Pop => serve_pop(outside),
         Role::Smtp => serve_smtp(outside),
+        Role::Imap => serve_imap(outside),
     }
 }

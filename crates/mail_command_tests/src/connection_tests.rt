@@ -33,6 +33,7 @@ fn the_words_of_serve_are_read_exactly(rt: HostRuntime) -> Result<(), Fail> {
         ("serve pop 110 1", Some((Role::Pop, 110, 1))),
         ("serve smtp 1 1000000", Some((Role::Smtp, 1, 1_000_000))),
         ("serve pop 65535 20", Some((Role::Pop, 65535, 20))),
+        ("serve imap 1143 1000", Some((Role::Imap, 1143, 1000))),
         ("serve pop 0 1", None),
         ("serve pop 65536 1", None),
         ("serve pop 4294967406 1", None),
@@ -45,6 +46,7 @@ fn the_words_of_serve_are_read_exactly(rt: HostRuntime) -> Result<(), Fail> {
         ("serve pop 110 ", None),
         ("serve pop 110", None),
         ("serve POP 110 1", None),
+        ("serve imap4 143 1", None),
         ("Serve pop 110 1", None),
         ("serve help 110 1", None),
         ("pop 110 1 1", None),
@@ -118,6 +120,42 @@ fn a_connection_sees_what_another_program_wrote(rt: HostRuntime) -> Result<(), F
             .as_slice()
             .ends_with(b"+OK\r\n1 2\r\n2 3\r\n.\r\n+OK\r\n+OK bye\r\n")
     );
+    Ok(())
+}
+
+const MARKS_SEEN: &[u8] =
+    b"a LOGIN ann@example.org pw\r\nb SELECT INBOX\r\nc UID STORE * FLAGS.SILENT \\Seen\r\nd LOGOUT\r\n";
+
+const COUNTS_UNSEEN: &[u8] =
+    b"a LOGIN ann@example.org pw\r\nb STATUS INBOX (MESSAGES UNSEEN)\r\nc LOGOUT\r\n";
+
+#[test]
+fn a_connection_of_imap_sees_mail_and_pop_sees_it_go(rt: HostRuntime) -> Result<(), Fail> {
+    let alloc = rt.alloc();
+    let mut keeper = keeper_of(alloc, JOURNAL, &[])?;
+    let (_, _, imap) = connect(alloc, Role::Imap, None, MARKS_SEEN, &mut keeper)?;
+    let (_, _, _smtp) = connect(alloc, Role::Smtp, None, SENDS, &mut keeper)?;
+    let (_, two, imap) = connect(alloc, Role::Imap, imap, COUNTS_UNSEEN, &mut keeper)?;
+    let (_, _, _pop) = connect(alloc, Role::Pop, None, TAKES_AWAY, &mut keeper)?;
+    let (served, one, _imap) = connect(alloc, Role::Imap, imap, COUNTS_UNSEEN, &mut keeper)?;
+    assert_eq!(rt; served, Served::Ended);
+    for (given, status) in [
+        (
+            two,
+            b"* STATUS \"INBOX\" (MESSAGES 2 UNSEEN 1)\r\nb OK done\r\n".as_slice(),
+        ),
+        (
+            one,
+            b"* STATUS \"INBOX\" (MESSAGES 1 UNSEEN 1)\r\nb OK done\r\n",
+        ),
+    ] {
+        assert!(rt;
+            given
+                .as_slice()
+                .strip_suffix(b"* BYE bye\r\nc OK done\r\n")
+                .is_some_and(|front| front.ends_with(status))
+        );
+    }
     Ok(())
 }
 

@@ -6,6 +6,8 @@ mod connection_tests;
 #[cfg(test)]
 mod downgrade_tests;
 #[cfg(test)]
+mod imap_tests;
+#[cfg(test)]
 mod in_memory;
 #[cfg(test)]
 mod session_tests;

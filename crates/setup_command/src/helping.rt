@@ -14,16 +14,17 @@ use std::alloc::Global;
 pub const VERSION: &str = "0.9.0";
 
 // The commands, and what each does.
-const COMMANDS: [(&str, &str); 7] = [
+const COMMANDS: [(&str, &str); 8] = [
     (
         "downgrade",
         "Take one message, give its surrogate in ASCII headers",
     ),
     ("pop", "Serve one POP3 session"),
     ("smtp", "Serve one SMTP session"),
+    ("imap", "Serve one IMAP session"),
     (
         "serve",
-        "Serve connections: ROLE (pop or smtp), PORT of 127.0.0.1, how many",
+        "Serve ROLE (pop, smtp or imap) on PORT of 127.0.0.1, N connections",
     ),
     (
         "account",

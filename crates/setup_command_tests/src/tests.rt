@@ -198,7 +198,8 @@ fn the_text_of_help(rt: HostRuntime) -> Result<(), Fail> {
         \x20 downgrade  Take one message, give its surrogate in ASCII headers\n\
         \x20 pop        Serve one POP3 session\n\
         \x20 smtp       Serve one SMTP session\n\
-        \x20 serve      Serve connections: ROLE (pop or smtp), PORT of 127.0.0.1, how many\n\
+        \x20 imap       Serve one IMAP session\n\
+        \x20 serve      Serve ROLE (pop, smtp or imap) on PORT of 127.0.0.1, N connections\n\
         \x20 account    Add the account of the words ADDRESS and PASSWORD\n\
         \x20 domain     Make the domain of the word DOMAIN local\n\
         \x20 help       Give this text\n";

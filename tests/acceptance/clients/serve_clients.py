@@ -1,12 +1,14 @@
-"""Real clients of `serve`: what poplib, smtplib, curl and swaks come to is the same as behind tools/bridge.py, and two programs on one journal
-see each other's mail from one connection to the next."""
+"""Real clients of `serve`: what poplib, smtplib, curl and swaks come to is the same as behind tools/bridge.py, and programs on one journal see
+each other's mail from one connection to the next."""
 
+import imaplib
 import poplib
 import smtplib
 import tempfile
 import time
 
 from clients.bridge_checks import BROKEN, subject_of
+from clients.imap_clients import logged_in, octets_in, told
 from clients.mailbox import messages
 from clients.pop_clients import ADDRESS, COUNT, PASSWORD, SECONDS, check_curl, fetched, legacy_faults, size_faults, tops, top_faults, uids_left
 from clients.smtp_clients import STORE, by_curl, by_smtplib, by_swaks, check_account
@@ -54,7 +56,7 @@ def send(port, subject):
         return client.sendmail(SENDER, [ADDRESS], f"Subject: {subject}\r\n\r\nx\r\n")
 
 
-def fetch_all(port):
+def by_poplib(port):
     """Fetches all messages, and deletes them. Their subjects."""
     client = poplib.POP3("127.0.0.1", port, timeout=SECONDS)
     client.user(ADDRESS)
@@ -67,31 +69,44 @@ def fetch_all(port):
     return found
 
 
-def turn_faults(number, pop, smtp):
+def by_imaplib(port):
+    """The same."""
+    client = logged_in(port)
+    count = int(told(client.select("INBOX"))[0])
+    found = octets_in(told(client.fetch("1:*", "(BODY.PEEK[])"))) if count else []
+    if count:
+        told(client.store("1:*", "+FLAGS.SILENT", "\\Deleted"))
+    gone = told(client.expunge())
+    client.logout()
+    return [subject_of(octets.split(b"\r\n")) for octets in found] + differs("EXPUNGE", [it for it in gone if it], [b"1"] * count)
+
+
+def turn_faults(number, fetch_all, port, smtp):
     """What is wrong with a round: a message is sent and fetched, and then there is none. In every other round the mailbox is looked at first."""
-    first = [] if number % 2 else fetch_all(pop)
+    first = [] if number % 2 else fetch_all(port)
     refused = send(smtp, f"round {number}")
-    found, left = fetch_all(pop), fetch_all(pop)
+    found, left = fetch_all(port), fetch_all(port)
     return differs("before", first, []) + differs("refused", refused, {}) + differs("subjects", found, [f"round {number}"]) + differs("left", left, [])
 
 
-def of_two(program, tally):
+def of_two(program, tally, word, fetch_all):
     """Two programs on one journal, each of which sees in its next connection what the other one did."""
     faults = []
     with tempfile.TemporaryDirectory(dir=program.folder.name) as folder:
         place_journal(folder, journal(domain(b"example.org"), account(ADDRESS.encode(), PASSWORD.encode())))
-        with Service(program.path, folder) as pop, Service(program.path, folder, "smtp") as smtp:
+        with Service(program.path, folder, word) as reading, Service(program.path, folder, "smtp") as smtp:
             for number in range(ROUNDS):
                 try:
-                    faults += [f"round {number}: {fault}" for fault in turn_faults(number, pop.port, smtp.port)]
-                except BROKEN as error:
+                    faults += [f"round {number}: {fault}" for fault in turn_faults(number, fetch_all, reading.port, smtp.port)]
+                except (*BROKEN, imaplib.IMAP4.error) as error:
                     faults.append(f"round {number}: {error!r}")
                 if faults:
                     break
-    tally.note(f"serve pop and serve smtp on one journal, {ROUNDS} rounds", faults + pop.faults() + smtp.faults())
+    tally.note(f"serve {word} and serve smtp on one journal, {ROUNDS} rounds", faults + reading.faults() + smtp.faults())
 
 
 def check(program, tally):
     of_pop(program, tally)
     of_smtp(program, tally)
-    of_two(program, tally)
+    of_two(program, tally, "pop", by_poplib)
+    of_two(program, tally, "imap", by_imaplib)

@@ -14,7 +14,7 @@ BAD = bytes.fromhex("4D41494C4A4E4C310000000109")
 EXISTS, NO_DOMAIN = (9, b"exists\r\n"), (9, b"no such domain\r\n")
 DONE = (0, b"")
 TEXT_MAX = 65_536
-COMMANDS = [b"downgrade", b"pop", b"smtp", b"serve", b"account", b"domain", b"help"]
+COMMANDS = [b"downgrade", b"pop", b"smtp", b"imap", b"serve", b"account", b"domain", b"help"]
 
 
 def words_of(*words):
@@ -65,8 +65,10 @@ def refused_words():
         "a" * (TEXT_MAX - 5) + "@x.org"]
     others = [["domain"], ["domain", "x.org", "y.org"], ["DOMAIN", "x.org"], ["account"], ["account", "a@x.org"], ["account", "a@x.org", ""],
         ["account", "a@x.org", "-p"], ["account", "a@x.org", "p", "q"], ["account", "a@x.org", "x" * (TEXT_MAX + 1)], ["Account", "a@x.org", "p"],
-        [], ["post"], ["post", "0"], ["pop", "1"], ["smtp", "-1"], ["help", "x"], ["help", ""], ["--help"], ["-h"], ["HELP"], ["downgrade", "pop", "1", "1"]]
+        [], ["post"], ["post", "0"], ["pop", "1"], ["smtp", "-1"], ["imap", "1"], ["IMAP"], ["help", "x"], ["help", ""], ["--help"], ["-h"], ["HELP"],
+        ["downgrade", "pop", "1", "1"]]
     served = ["serve", "serve pop", "serve pop 110", "serve pop 110 1 1", "serve POP 110 1", "Serve pop 110 1", "serve help 110 1", "serve pop pop 1",
+        "serve imap 143", "serve imap4 143 1",
         *(f"serve pop {port} 1" for port in ("0", "65536", "0110", "+110", "-1", "110.", "0x6e", "4294967406", "9" * 100)),
         *(f"serve smtp 25 {count}" for count in ("0", "1000001", "01", "007", "+1", "-1", "1e3", "18446744073709551617"))]
     return [
@@ -125,15 +127,17 @@ def check_help(program, tally):
 
 
 def check_use(program, tally):
-    """A domain and an account that these words made: mail is sent and fetched, by other spellings too."""
+    """A domain and an account that these words made: mail is sent and fetched, by other spellings too, and taken out."""
     with tempfile.TemporaryDirectory(dir=program.folder.name) as folder:
         for words in (["domain", "bücher.example"], ["account", "josé@bücher.example", "pass word"]):
             tally.note(f"use: {words[0]}", differs("answer", program.run(words_of(*words), b"", cwd=folder), DONE))
         sends = "EHLO x\r\nMAIL FROM:<> SMTPUTF8\r\nRCPT TO:<JOSÉ@xn--bcher-kva.example>\r\nDATA\r\nSubject: é\r\n.\r\nQUIT\r\n"
+        deletes = 'a LOGIN {21}\r\njosé@bücher.example "pass word"\r\na SELECT INBOX\r\na STORE 1 FLAGS \\Deleted\r\na EXPUNGE\r\na LOGOUT\r\n'
         fetches = "USER josé@bücher.example\r\nPASS pass word\r\nTOP 1 0\r\nQUIT\r\n"
         for word, octets, last in (
             ("smtp", sends, [b"354 go ahead", b"250 2.0.0 stored", b"221 2.0.0 bye", b""]),
             ("pop", fetches, [b"Subject:", b" =?UTF-8?B?w6k=?=", b".", b"+OK bye", b""]),
+            ("imap", deletes, [b"* 1 EXPUNGE", b"a OK done", b"* BYE bye", b"a OK done", b""]),
         ):
             lines = program.run(words_of(word), octets.encode(), cwd=folder)[1].split(b"\r\n")
             tally.note(f"use: {word}", differs("last lines", lines[-len(last) :], last))

@@ -9,7 +9,7 @@ import threading
 from support.harness import SECONDS, differs, show
 
 JOURNAL = "mail.journal"
-POP, SMTP = b"pop", b"smtp"
+POP, SMTP, IMAP = b"pop", b"smtp", b"imap"
 
 # octets of one packet, which the program takes at once
 PACKET = 512
