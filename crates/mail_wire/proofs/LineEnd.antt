@@ -35,3 +35,14 @@ pub line_none : (kept piece : List ℕ) (b : Bool) → first_line kept ≡ None 
     → first_line (kept ++ piece) ≡ None
 line_none kept piece b none means is found =
     first_line-apart kept piece none (not_across kept piece b means is) ∙ ap (option_map (put kept)) (first_line-not_found piece found)
+
+first_line-short : (piece : List ℕ) → length piece < 2 → first_line piece ≡ None
+unfolding first_line
+first_line-short [] short = refl
+first_line-short (x ∷ []) short = refl
+first_line-short (x ∷ y ∷ piece) short = absurd (omega (arith, short))
+
+pub line_short : (kept piece : List ℕ) (b : Bool) → first_line kept ≡ None → (IsTrue b ↔ AreAcross kept piece) → b ≡ false → length piece < 2
+    → first_line (kept ++ piece) ≡ None
+line_short kept piece b none means is short =
+    first_line-apart kept piece none (not_across kept piece b means is) ∙ ap (option_map (put kept)) (first_line-short piece short)

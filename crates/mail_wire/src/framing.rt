@@ -25,6 +25,10 @@ pub fn line_end(kept: &[u8], piece: &[u8]) -> Option<usize>
     if joins(kept, piece) {
         return Some(1);
     }
+    // a search is dear for a single octet, which has no CRLF
+    if piece.len() < 2 {
+        return None;
+    }
     match memmem::find(piece, b"\r\n") {
         Some(at) => Some(at + 2),
         None => None,
