@@ -190,8 +190,8 @@ fn push_unquoted(made: &mut Octets, octets: &[u8]) -> Result<(), Memory>
     Ok(())
 }
 
-// Puts what a token says last.
-fn push_content(made: &mut Octets, lexeme: Lexeme<'_>) -> Result<(), Memory>
+/// Puts what a token says last.
+pub fn push_content(made: &mut Octets, lexeme: Lexeme<'_>) -> Result<(), Memory>
     ensures { OnOk result (made.new ≡ made.old ++ content_of (value_of lexeme.entry)) }
 {
     match lexeme.kind {

@@ -89,7 +89,8 @@ fn push_quoted_octet(made: &mut Octets, octet: u8) -> Result<(), Memory>
     made.push(octet)
 }
 
-fn push_quoted_string(made: &mut Octets, content: &[u8]) -> Result<(), Memory>
+/// Puts a quoted string with this content last (RFC 5322, 3.2.4).
+pub fn push_quoted_string(made: &mut Octets, content: &[u8]) -> Result<(), Memory>
     ensures { OnOk result (made.new ≡ made.old ++ quoted_string content.now) }
 {
     made.push(b'"')?;

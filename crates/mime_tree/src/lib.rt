@@ -12,6 +12,6 @@ mod sections;
 
 pub use completing::complete;
 pub use entity::{Entities, Entity, Shape, Tree, TreeFault};
-pub use openings::first_value;
+pub use openings::{first_value, only_word};
 pub use reading::{read_sound_tree, read_tree};
 pub use sections::Part;

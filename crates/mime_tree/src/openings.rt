@@ -195,8 +195,8 @@ fn is_identity_name(name: &[u8]) -> bool
     is_same_name(name, b"7bit") || is_same_name(name, b"8bit") || is_same_name(name, b"binary")
 }
 
-// The one token that is no gap and no comment, if there is one and no other.
-fn only_word(tokens: &[Token]) -> Option<Token>
+/// The one token that is no gap and no comment, if there is one and no other.
+pub fn only_word(tokens: &[Token]) -> Option<Token>
     ensures some { IfSome result (λ token. filter (λ (t : Token). not (is_blank t.kind)) tokens.now ≡ token ∷ []) }
     ensures none { IfNone result ((token : Token) → filter (λ (t : Token). not (is_blank t.kind)) tokens.now ≢ token ∷ []) }
 {

@@ -22,8 +22,8 @@ use field_tokens::{Comment, Style, Token, comment_tree, is_comment, read_tokens}
 use mail_wire::{Memory, Octets};
 use std::alloc::Global;
 
-// What stands between the first and the last octet.
-fn inner(octets: &[u8]) -> &[u8]
+/// What stands between the first and the last octet.
+pub fn inner(octets: &[u8]) -> &[u8]
     ensures { result.now ≡ inner_of octets.now }
 {
     if octets.len() < 2 {
@@ -56,8 +56,8 @@ fn first_unquoted(octets: &[u8]) -> (u8, &[u8])
     split_octet(after)
 }
 
-// The octets with each quoted pair by its second octet.
-fn unquoted(alloc: Global, octets: &[u8]) -> Result<Octets, Memory>
+/// The octets with each quoted pair by its second octet.
+pub fn unquoted(alloc: Global, octets: &[u8]) -> Result<Octets, Memory>
     ensures { IfOk result (λ made. made ≡ unquoted_of octets.now) }
 {
     let mut made = Octets::new(alloc);

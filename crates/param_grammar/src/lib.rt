@@ -12,7 +12,7 @@ mod reading;
 mod role;
 mod tokens;
 
-pub use bodies::{read_body, read_parts};
+pub use bodies::{inner, read_body, read_parts, unquoted};
 use encoded_words::Unit;
 pub use escapes::{escaped_len, push_escaped, read_escaped};
 pub use extended::{split_extended, unit_of};

@@ -7,4 +7,4 @@ mod rope;
 mod shown;
 
 pub use rope::Rope;
-pub use shown::Shown;
+pub use shown::{Outline, Shown};

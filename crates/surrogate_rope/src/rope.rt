@@ -1,12 +1,14 @@
 //! Ropes: the surrogate of a message, and the places of its entities.
-ghost use Rattle.std.specs.Prelude.{◌≡◌, ◌↔◌, ◌-◌, ◌++◌, ◌∷◌, [], length, take, drop, min, IfOk, IsTrue};
+ghost use Rattle.std.specs.Prelude.{◌≡◌, ◌↔◌, ◌-◌, ◌++◌, ◌∷◌, [], length, map, take, drop, min, IfOk, IsTrue};
 ghost use Rattle.mime_tree.specs.declared.entity.TreeFault.{TreeFault};
 ghost use Rattle.mime_tree.specs.Outlines.{outlines_of};
 ghost use Rattle.mime_tree.specs.Sections.{section};
 ghost use Rattle.mime_tree.specs.Tree.{HasTree};
 ghost use Rattle.surrogate_rope.specs.Ropes.{RopeValue, RopePiece, IsRopeOf, octets_of, size_of};
+ghost use Rattle.surrogate_rope.specs.Served.{seen_outline};
 
 use crate::building::make_surrogate;
+use crate::shown::{Outline, outlines_of};
 use mail_wire::{Memory, Octets, Span};
 use mime_tree::{Part, Tree, TreeFault, read_sound_tree};
 use std::alloc::Global;
@@ -87,6 +89,13 @@ impl Rope {
         ensures { result ≡ section self.now.entities path.now part }
     {
         self.tree.section(path, part)
+    }
+
+    /// What is known of the surrogate's entities, in the order of their places.
+    pub fn outlines(&self, alloc: Global) -> Result<Vec<Outline>, Memory>
+        ensures { IfOk result (λ made. map seen_outline made.items ≡ self.now.entities) }
+    {
+        outlines_of(alloc, self.tree.entities.as_slice())
     }
 }
 

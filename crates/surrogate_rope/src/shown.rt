@@ -1,11 +1,53 @@
 //! What is shown of a message: the message itself, or its surrogate.
-ghost use Rattle.std.specs.Prelude.{◌≡◌, ◌-◌, ◌++◌, length, take, drop, min};
+ghost use Rattle.std.specs.Prelude.{◌≡◌, ◌-◌, ◌++◌, length, map, take, drop, min, IfOk};
 ghost use Rattle.mime_tree.specs.Sections.{section};
-ghost use Rattle.surrogate_rope.specs.Served.{IsShownOf, shown_octets, shown_outlines};
+ghost use Rattle.mime_tree.specs.Outlines.{outlines_of, outline_of};
+ghost use Rattle.surrogate_rope.specs.Served.{IsShownOf, shown_octets, shown_outlines, seen_outline};
 
 use crate::rope::{Rope, copy_from};
-use mail_wire::Span;
-use mime_tree::{Part, Tree};
+use mail_wire::{Memory, Span};
+use mime_tree::{Entity, Part, Shape, Tree};
+use std::alloc::Global;
+
+/// What is known of an entity of what is shown, without its header block.
+#[derive(Clone, Copy)]
+pub struct Outline {
+    /// The number of the entity that this one is in.
+    pub parent: Option<usize>,
+    /// 1 for the whole message.
+    pub depth: u32,
+    /// Where it begins.
+    pub at: usize,
+    /// Where its content begins.
+    pub body: usize,
+    /// Where it ends.
+    pub end: usize,
+    pub shape: Shape,
+}
+
+fn outline_of(entity: &Entity) -> Outline
+    ensures { seen_outline result ≡ outline_of entity.now }
+{
+    Outline {
+        parent: entity.parent,
+        depth: entity.depth,
+        at: entity.at,
+        body: entity.body,
+        end: entity.end,
+        shape: entity.shape,
+    }
+}
+
+/// The outlines of entities, in their order.
+pub(crate) fn outlines_of(alloc: Global, entities: &[Entity]) -> Result<Vec<Outline>, Memory>
+    ensures { IfOk result (λ made. map seen_outline made.items ≡ outlines_of entities.now) }
+{
+    let mut made = Vec::new(alloc);
+    for entity in entities {
+        made.push(outline_of(entity))?;
+    }
+    Ok(made)
+}
 
 /// The message itself, with its tree, or its surrogate.
 #[derive(Drop)]
@@ -45,6 +87,16 @@ impl Shown {
         match self {
             Shown::Whole(tree) => tree.section(path, part),
             Shown::Rope(rope) => rope.section(path, part),
+        }
+    }
+
+    /// What is known of the entities of what is shown, in the order of their places.
+    pub fn outlines(&self, alloc: Global) -> Result<Vec<Outline>, Memory>
+        ensures { IfOk result (λ made. map seen_outline made.items ≡ shown_outlines self.now) }
+    {
+        match self {
+            Shown::Whole(tree) => outlines_of(alloc, tree.entities.as_slice()),
+            Shown::Rope(rope) => rope.outlines(alloc),
         }
     }
 }
