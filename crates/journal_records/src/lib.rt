@@ -22,6 +22,6 @@ pub use reading::{ReadFault, read_record};
 pub use records::{Record, Texts};
 pub use stored::is_stored;
 pub use writing::{
-    account_text, copy_front, domain_text, expunge_text, flags_text, folder_text, push_record,
+    account_text, domain_text, expunge_text, flags_text, folder_text, message_front, push_record,
     queue_front, record_text,
 };

@@ -267,14 +267,20 @@ pub fn push_record(journal: &mut Octets, one: &Record) -> Result<(), Memory>
     push_fields(journal, one)
 }
 
-/// What stands before the octets in the text of a record of a message without flags.
-pub fn copy_front(alloc: Global, folder: u32, date: &[u8], octets: &[u8]) -> Result<Octets, Memory>
+/// What stands before the octets in the text of a record of a message.
+pub fn message_front(
+    alloc: Global,
+    folder: u32,
+    flags: u8,
+    date: &[u8],
+    octets: &[u8],
+) -> Result<Octets, Memory>
     requires { length date.now + length octets.now + 14 ≤ RECORD_MAX }
-    ensures { IfOk result (λ front. front ++ octets.now ≡ record_text (records.Message folder 0 date.now octets.now)) }
+    ensures { IfOk result (λ front. front ++ octets.now ≡ record_text (records.Message folder flags date.now octets.now)) }
 {
     let mut front = Octets::new(alloc);
     push_number(&mut front, message_len(date, octets))?;
-    push_message_front(&mut front, folder, 0, date, octets.len())?;
+    push_message_front(&mut front, folder, flags, date, octets.len())?;
     Ok(front)
 }
 

@@ -4,7 +4,7 @@ ghost use Rattle.std.specs.Prelude.{IfOk};
 
 use address_grammar::{Address, write_address};
 use journal_records::{
-    Record, TEXT_MAX, Texts, account_text, copy_front, domain_text, expunge_text, queue_front,
+    Record, TEXT_MAX, Texts, account_text, domain_text, expunge_text, message_front, queue_front,
     read_text, record_text,
 };
 use mail_wire::Octets;
@@ -78,9 +78,9 @@ fn a_domain_is_written(rt: HostRuntime) -> Result<(), Fail> {
 }
 
 #[test]
-fn a_copy_is_written_but_for_its_octets(rt: HostRuntime) -> Result<(), Fail> {
-    let front = copy_front(rt.alloc(), 1, b"01-Jan-1970 00:00:00 +0000", b"x")?;
-    let wanted = b"\0\0\0)\x04\0\0\0\x01\0\0\0\0\x1a01-Jan-1970 00:00:00 +0000\0\0\0\x01";
+fn a_message_is_written_but_for_its_octets(rt: HostRuntime) -> Result<(), Fail> {
+    let front = message_front(rt.alloc(), 1, 9, b"01-Jan-1970 00:00:00 +0000", b"x")?;
+    let wanted = b"\0\0\0)\x04\0\0\0\x01\x09\0\0\0\x1a01-Jan-1970 00:00:00 +0000\0\0\0\x01";
     assert!(rt; front.as_slice() == wanted.as_slice());
     Ok(())
 }

@@ -18,7 +18,7 @@ use Rattle.journal_records.specs.Addresses.{IsSendable, path_text, IsKeptAddress
 use Rattle.journal_records.specs.Spelling.{IsWritableRecord, record_text, octet_list, HasLength, number}
 use Rattle.mail_store.specs.Changing.{IsDeliverable, delivery_refusal}
 use Rattle.kept_mail.specs.Deliveries.{delivered, queued, copy_for, inboxes_of, has_large_octets, has_many_things}
-use Rattle.kept_mail.specs.Records.{are_too_many, AreRecords, recipient_count}
+use Rattle.kept_mail.specs.Records.{are_too_many, AreRecords, IsRecord, recipient_count}
 use Rattle.mail_store.specs.declared.changing.StoreFault.TheVariants as faults
 use Rattle.kept_mail.specs.private.Delivering.{copied, HasShortCopies, fronts_text, delivery_text}
 use Rattle.kept_mail.specs.Kept.{Kept, after_record, after_all, inbox_of}
@@ -72,20 +72,26 @@ after-copies kept date octets (folder ∷ folders) =
     after-copies (after_record kept (copy_for date octets folder)) date octets folders
     ∙ ap (λ ms. let new : Kept = record kept { messages = ms } in new) (append_assoc kept.messages (copied date octets folder ∷ []) (map (copied date octets) folders))
 
+-- a message that is small enough is a record
+pub message-record : (kept : Kept) (folder flags : ℕ) (date octets : List ℕ) → IsDate date → IsStored octets → length octets + 40 ≤ RECORD_MAX
+    → folder < length kept.folders → length kept.folders ≤ THINGS_MAX → flags < 32 → length kept.messages < THINGS_MAX
+    → IsRecord kept (records.Message folder flags date octets)
+message-record kept folder flags date octets dated stored short there few small room =
+    let len = length-append date (octet_list octets) in
+    record {
+      fits = (omega (arith, there, few), omega (arith, dated.len), omega (arith, short));
+      short = omega (arith, len, short, dated.len);
+      in_order = (there, small, dated, stored, room);
+    }
+
 pub AreRecords-copies : (kept : Kept) (date octets folders : List ℕ) → IsDate date → IsStored octets → length octets + 40 ≤ RECORD_MAX
     → All (λ folder. folder < length kept.folders) folders → length kept.folders ≤ THINGS_MAX → length kept.messages + length folders ≤ THINGS_MAX
     → AreRecords kept (map (copy_for date octets) folders)
 AreRecords-copies kept date octets [] dated stored small known few room = tt
 AreRecords-copies kept date octets (folder ∷ folders) dated stored small known few room =
     let there : folder < length kept.folders = All-head (λ x. x < length kept.folders) folder folders known in
-    let one = copied date octets folder in
-    let len = length-append date (octet_list octets) in
-    let count = length-append kept.messages (one ∷ []) in (
-      record {
-        fits = (omega (arith, there, few), omega (arith, dated.len), omega (arith, small));
-        short = omega (arith, len, small, dated.len);
-        in_order = (there, omega arith, dated, stored, omega (arith, room));
-      },
+    let count = length-append kept.messages (copied date octets folder ∷ []) in (
+      message-record kept folder 0 date octets dated stored small there few (omega arith) (omega (arith, room)),
       AreRecords-copies (after_record kept (copy_for date octets folder)) date octets folders dated stored small (All-tail (λ x. x < length kept.folders) folder folders known) few
           (omega (arith, room, count)),
     )
@@ -257,7 +263,7 @@ delivered-text kept delivery local remote copied waiting =
 
 -- ---- what isn't refused
 
-free_large : (large : Bool) → cond large (Some faults.TooLarge) None ≡ None → large ≡ false
+pub free_large : (large : Bool) → cond large (Some faults.TooLarge) None ≡ None → large ≡ false
 free_large true e = absurd cc
 free_large false e = refl
 

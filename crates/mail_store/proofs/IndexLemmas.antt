@@ -3,7 +3,7 @@ use Rattle.std.proofs.Common.{◌≡◌, ◌≢◌, ℕ, zero, suc, ◌+◌, ◌
 use Rattle.std.specs.Prelude.{slice_get}
 use Rattle.std.specs.Option.{option_map_or}
 use Rattle.std.specs.Str.{bytes_eq}
-use Rattle.std.proofs.lemmas.List.Elements.{All-push, All-append, All-from_recursion, recursion_from_All}
+use Rattle.std.proofs.lemmas.List.Elements.{All-push, All-nil, All-append, All-from_recursion, recursion_from_All}
 use Rattle.std.proofs.lemmas.List.Sums.{sum_by-cons, sum_by_push}
 use Rattle.std.proofs.lemmas.Bool.{cases_Bool, cases_eq, ne_eqb}
 use Rattle.std.proofs.lemmas.Slice.Eq.{bytes_eq-Decides}
@@ -263,6 +263,15 @@ AreIndexes-account kept i after a own name named h text more room puts =
     }
 
 -- ---- more messages
+
+pub AreStored-one : (message : Message) → IsStored message.octets → IsDate message.date → AreStored (message ∷ [])
+AreStored-one message stored dated =
+    let is_stored = λ (one : Message). IsStored one.octets in
+    let is_dated = λ (one : Message). IsDate one.date in
+    record {
+      each = All-push is_stored [] message (All-nil is_stored) stored;
+      dated = All-push is_dated [] message (All-nil is_dated) dated;
+    }
 
 pub AreIndexes-messages : (kept : Kept) (i : Indexes) (ms : List Message) (contents : List Content) (previous : List (Option ℕ)) → AreIndexes kept i
     → AreStored ms → length kept.messages + length ms ≤ THINGS_MAX → AreChained (kept.messages ++ ms) contents previous

@@ -17,3 +17,4 @@ pub mod DomainLemmas
 pub mod AccountLemmas
 pub mod DeliveryLemmas
 pub mod EntryLemmas
+pub mod AppendLemmas

@@ -1,5 +1,5 @@
 -- What a call that changes a store does, by its answer.
-use Rattle.std.specs.Prelude.{◌≡◌, ◌≢◌, ℕ, ◌<◌, ◌≤◌, List, ◌++◌, length, take, map, Bool, true, false, ◌||◌, not, Option, Some, None, is_some, Result, Ok, Err, slice_get, IfSome, if◌then◌else◌}
+use Rattle.std.specs.Prelude.{◌≡◌, ◌≢◌, ℕ, ◌<◌, ◌≤◌, List, ◌++◌, length, take, map, Bool, true, false, ◌||◌, not, Option, Some, None, is_some, Result, Ok, Err, nat_lt, slice_get, IfSome, if◌then◌else◌}
 use Rattle.std.specs.List.{All, flat_map, list_all}
 use Rattle.std.specs.Option.{option_map_or}
 use Rattle.mail_wire.specs.Keeping.{with_last}
@@ -103,6 +103,20 @@ pub record IsDeliverable (store : StoreState) (delivery : Delivery) : Type 0 whe
 abbrev pub delivery_refusal : StoreState → Delivery → Option StoreFault
 delivery_refusal store delivery =
     if has_large_octets store.message_max delivery || has_many_things store.kept delivery then Some faults.TooLarge else None
+
+-- ---- append
+
+-- the folder is there, the flags and the date are such, and the octets have a tree
+pub record IsAppendable (store : StoreState) (folder flags : ℕ) (date octets : List ℕ) : Type 0 where
+  pub known : folder < length store.kept.folders
+  pub small : flags < 32
+  pub dated : IsDate date
+  pub tree : IsStored octets
+
+-- the octets are more than the limit, or there would be too many messages
+abbrev pub append_refusal : StoreState → List ℕ → Option StoreFault
+append_refusal store octets =
+    if nat_lt store.message_max (length octets) || are_too_many (length store.kept.messages) 1 then Some faults.TooLarge else None
 
 -- ---- flags and expunge
 

@@ -5,3 +5,4 @@ pub mod Replaying
 pub mod Accounts
 pub mod Writing
 pub mod Folders
+pub mod Appending

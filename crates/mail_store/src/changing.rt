@@ -22,7 +22,7 @@ use crate::storing::Store;
 use crate::writing::{Named, Progress, write, write_named, write_parts};
 use address_grammar::{Address, write_address};
 use journal_records::{
-    account_text, copy_front, domain_key, domain_text, expunge_text, flags_text, mailbox_key,
+    account_text, domain_key, domain_text, expunge_text, flags_text, mailbox_key, message_front,
 };
 use kept_mail::{
     Account, Delivery, Entry, Message, Parcel, are_live, are_too_many, has_large_octets,
@@ -333,9 +333,10 @@ impl Store {
         let mut fronts = Vec::new(self.alloc);
         for account in delivery.local.as_slice() {
             let folder = self.inbox(*account);
-            fronts.push(copy_front(
+            fronts.push(message_front(
                 self.alloc,
                 folder,
+                0,
                 delivery.date.as_slice(),
                 delivery.local_octets.as_slice(),
             )?)?;

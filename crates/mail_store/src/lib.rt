@@ -1,6 +1,7 @@
 //! The store of a mail system over a keeper: accounts, domains, folders, messages and a queue, as the fold of a journal's records.
 #![tactic(auto)]
 
+mod appending;
 mod catching;
 mod changing;
 mod folders;

@@ -2,6 +2,8 @@
 #![tactic(auto)]
 
 #[cfg(test)]
+mod appending;
+#[cfg(test)]
 mod catching;
 #[cfg(test)]
 mod changes;

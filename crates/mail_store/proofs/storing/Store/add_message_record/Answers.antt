@@ -1,13 +1,12 @@
-use Rattle.std.proofs.Common.{◌≡◌, ◌+◌, ◌≤◌, List, [], ◌∷◌, ◌++◌, length, true, refl, subst, sym, ap, ◌∙◌, arith}
-use Rattle.std.proofs.lemmas.List.Elements.{All-push, All-nil}
+use Rattle.std.proofs.Common.{◌≡◌, ◌+◌, ◌≤◌, List, [], ◌∷◌, ◌++◌, length, refl, subst, sym, ap, ◌∙◌, arith}
 use Rattle.kept_mail.specs.declared.kept.Message.{Message}
 use Rattle.kept_mail.specs.declared.limits.TheConstants.{THINGS_MAX}
 use Rattle.kept_mail.specs.private.Chains.{AreChained}
-use Rattle.mail_store.specs.StoreState.{AreStored}
+use Rattle.mail_store.specs.private.Appending.{live_message}
 use Rattle.mail_store.specs.private.Store.{kept_of, indexes_of}
 use Rattle.journal_records.specs.Grammar.{IsDate}
 use Rattle.journal_records.specs.Stored.{IsStored}
-use Rattle.mail_store.proofs.IndexLemmas.{AreIndexes-messages}
+use Rattle.mail_store.proofs.IndexLemmas.{AreIndexes-messages, AreStored-one}
 use Rattle.kept_mail.proofs.QueueLemmas.{refutes}
 use Rattle.mail_store.proofs.storing.Store.add_message_record.Goals as goal
 
@@ -16,15 +15,10 @@ returns-then-not-branch c = (λ h. refutes c.if-not-branch.true (c.in_ok-is_stor
 
 pub invariant_of-self-2 : goal.invariant_of-self-2
 invariant_of-self-2 c =
-    let made : Message = record { folder = c.args.folder; flags = c.args.flags; live = true; date = c.args.date; octets = c.args.octets } in
+    let made = live_message c.args.folder c.args.flags c.args.date c.args.octets in
     let fits = c.message_fits.ensures.0 c.if-not-message_fits.false in
     let room : length c.self.inside.messages.items + 1 ≤ THINGS_MAX = omega (arith, c.len-count.ensures, fits.3) in
-    let is_stored = λ (message : Message). IsStored message.octets in
-    let is_dated = λ (message : Message). IsDate message.date in
-    let stored : AreStored (made ∷ []) = record {
-      each = All-push is_stored [] made (All-nil is_stored) (subst IsStored c.as_slice.ensures (c.in_ok-is_stored.ensures.0 c.if-not-branch.false));
-      dated = All-push is_dated [] made (All-nil is_dated) (subst IsDate c.as_slice-2.ensures fits.2);
-    } in
+    let stored = AreStored-one made (subst IsStored c.as_slice.ensures (c.in_ok-is_stored.ensures.0 c.if-not-branch.false)) (subst IsDate c.as_slice-2.ensures fits.2) in
     let messages : c.put_message.new.messages.items ≡ c.self.inside.messages.items ++ made ∷ [] = c.put_message.ensures.messages ∙ ap (λ (l : List Message). l ++ made ∷ []) c.in_ok-reserve.ensures.items in
     let chained = subst (λ (l : List Message). AreChained l c.put_message.new.contents.items c.put_message.new.previous.items) messages c.put_message.ensures.chained in
     record {

@@ -1,0 +1,151 @@
+//! A message put last in a folder.
+ghost use Rattle.std.specs.Prelude.{◌≡◌, ◌≢◌, ◌≤◌, ◌<◌, ◌+◌, ◌∷◌, ◌++◌, ◌||◌, [], length, nat_lt, vec_len, vec_capacity, IfOk, OnOk, None, Err, false};
+ghost use Rattle.mail_wire.specs.Keeping.{HasKeeperCause};
+ghost use Rattle.journal_records.specs.declared.limits.TheConstants.{RECORD_MAX};
+ghost use Rattle.journal_records.specs.declared.records.Record.TheVariants as records;
+ghost use Rattle.journal_records.specs.Spelling.{record_text};
+ghost use Rattle.kept_mail.specs.Kept.{uid_next};
+ghost use Rattle.kept_mail.specs.Records.{are_too_many};
+ghost use Rattle.mail_store.specs.Changing.{Changes, IsRefusedAs, IsAppendable, append_refusal};
+ghost use Rattle.mail_store.specs.private.Appending.{live_message, IsNewMessage};
+ghost use Rattle.mail_store.specs.private.Writing.{Writes};
+ghost use Rattle.mail_store.specs.declared.changing.StoreFault.TheVariants as faults;
+
+use crate::changing::StoreFault;
+use crate::storing::Store;
+use crate::writing::{Progress, write_parts};
+use journal_records::message_front;
+use kept_mail::{Message, are_too_many, put_message};
+use mail_wire::{Keeper, Memory as OutOfMemory, Octets};
+use std::alloc::Global;
+
+// What is put last for a message: what is written of it before its octets, and itself.
+#[derive(Drop)]
+struct NewMessage {
+    front: Octets,
+    own: Message,
+}
+
+fn message_made(
+    alloc: Global,
+    folder: u32,
+    flags: u8,
+    date: &[u8],
+    octets: &[u8],
+) -> Result<NewMessage, OutOfMemory>
+    requires { length date.now + length octets.now + 14 ≤ RECORD_MAX }
+    ensures front { IfOk result (λ made. made.front ++ octets.now ≡ record_text (records.Message folder flags date.now octets.now)) }
+    ensures own { IfOk result (λ made. made.own ≡ live_message folder flags date.now octets.now) }
+{
+    Ok(NewMessage {
+        front: message_front(alloc, folder, flags, date, octets)?,
+        own: Message {
+            folder,
+            flags,
+            live: true,
+            date: Octets::from_slice(alloc, date)?,
+            octets: Octets::from_slice(alloc, octets)?,
+        },
+    })
+}
+
+// Makes room for a message, and writes its record.
+fn write_message<J: Keeper>(
+    keeper: &mut J,
+    messages: &mut Vec<Message>,
+    previous: &mut Vec<Option<u32>>,
+    progress: &mut Progress,
+    made: &NewMessage,
+) -> Result<(), StoreFault>
+    ensures writes { Writes progress.old progress.new (J.tells keeper.old).octets (J.tells keeper.new).octets result (made.now.front ++ made.now.own.octets) }
+    ensures messages { messages.new.items ≡ messages.old.items }
+    ensures previous { previous.new.items ≡ previous.old.items }
+    ensures message_room { OnOk result (vec_len messages.new < vec_capacity messages.new) }
+    ensures previous_room { OnOk result (vec_len previous.new < vec_capacity previous.new) }
+    ensures cause { HasKeeperCause (J.tells keeper.old) (J.tells keeper.new) result StoreFault.Keeper }
+{
+    messages.reserve(1)?;
+    previous.reserve(1)?;
+    let parts = [made.front.as_slice(), made.own.octets.as_slice()];
+    write_parts(keeper, &parts, progress)
+}
+
+impl Store {
+    /// Puts a message with these flags and this date last in a folder, and answers its UID.
+    pub fn append<J: Keeper>(
+        &mut self,
+        keeper: &mut J,
+        folder: u32,
+        flags: u8,
+        date: &[u8],
+        octets: &[u8],
+    ) -> Result<u32, StoreFault>
+        requires works { self.old.failed ≡ false }
+        requires appendable { IsAppendable self.old folder flags date.now octets.now }
+        ensures changes { Changes self.old self.new (J.tells keeper.old).octets (J.tells keeper.new).octets result
+            (records.Message folder flags date.now octets.now ∷ []) }
+        ensures uid { IfOk result (λ uid. uid ≡ uid_next self.old.kept folder) }
+        ensures refusal { IsRefusedAs result (append_refusal self.old octets.now) }
+        ensures cause { HasKeeperCause (J.tells keeper.old) (J.tells keeper.new) result StoreFault.Keeper }
+    {
+        let made = self.new_message(folder, flags, date, octets)?;
+        self.put_new_message(keeper, made)
+    }
+
+    // What is put last for a message, unless it is refused.
+    fn new_message(
+        &self,
+        folder: u32,
+        flags: u8,
+        date: &[u8],
+        octets: &[u8],
+    ) -> Result<NewMessage, StoreFault>
+        requires { IsAppendable self.now folder flags date.now octets.now }
+        ensures front { IfOk result (λ made. made.front ++ octets.now ≡ record_text (records.Message folder flags date.now octets.now)) }
+        ensures own { IfOk result (λ made. made.own ≡ live_message folder flags date.now octets.now) }
+        ensures refusal { IsRefusedAs result (append_refusal self.now octets.now) }
+        ensures no_keeper { result ≢ Err faults.Keeper }
+    {
+        if self.has_no_place(octets) {
+            return Err(StoreFault::TooLarge);
+        }
+        Ok(message_made(self.alloc, folder, flags, date, octets)?)
+    }
+
+    // Whether octets are more than the limit, or there would be too many messages.
+    fn has_no_place(&self, octets: &[u8]) -> bool
+        ensures { result ≡ (nat_lt self.now.message_max (length octets.now) || are_too_many (length self.now.kept.messages) 1) }
+    {
+        octets.len() > self.message_max as usize || are_too_many(self.messages.len(), 1)
+    }
+
+    // Puts a message last that isn't refused, and writes it.
+    fn put_new_message<J: Keeper>(
+        &mut self,
+        keeper: &mut J,
+        made: NewMessage,
+    ) -> Result<u32, StoreFault>
+        requires { IsNewMessage self.old made.front made.own }
+        ensures changes { Changes self.old self.new (J.tells keeper.old).octets (J.tells keeper.new).octets result
+            (records.Message made.own.folder made.own.flags made.own.date made.own.octets ∷ []) }
+        ensures uid { IfOk result (λ uid. uid ≡ uid_next self.old.kept made.own.folder) }
+        ensures refusal { IsRefusedAs result None }
+        ensures cause { HasKeeperCause (J.tells keeper.old) (J.tells keeper.new) result StoreFault.Keeper }
+    {
+        let uid = self.uid_next(made.own.folder);
+        write_message(
+            keeper,
+            &mut self.messages,
+            &mut self.previous,
+            &mut self.progress,
+            &made,
+        )?;
+        put_message(
+            &mut self.contents,
+            &mut self.previous,
+            &mut self.messages,
+            made.own,
+        );
+        Ok(uid)
+    }
+}
