@@ -1,0 +1,7 @@
+use Rattle.std.proofs.Common.{inr}
+use Rattle.std.proofs.lemmas.Result.{IfOk-weaker}
+use Rattle.imap_views.proofs.params.type_of.Goals as goal
+
+pub returns-in-None : goal.returns-in-None
+returns-in-None c =
+    rw (c.in-Some.is) (IfOk-weaker c.usual_type-in-None.result _ _ (λ x usual. inr (rw (c.in-None.is, c.as_slice.ensures) at c.in_ok-body.ensures.none, usual)) c.usual_type-in-None.ensures)

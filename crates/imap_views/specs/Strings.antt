@@ -1,0 +1,39 @@
+-- Strings and lists of a reply (RFC 3501, 4.3 and 4.4), and where the parts of a text are divided.
+use Rattle.std.specs.Prelude.{◌≡◌, ℕ, ◌==◌, if◌then◌else◌, List, [], ◌∷◌, ◌++◌, codes, Option, Some, None}
+use Rattle.address_grammar.specs.Addresses.{quoted_string}
+
+abbrev pub nil : List ℕ
+nil = codes "NIL"
+
+-- a text as a quoted string, or NIL
+abbrev pub nstring : Option (List ℕ) → List ℕ
+nstring None = nil
+nstring (Some text) = quoted_string text
+
+abbrev pub in_parentheses : List ℕ → List ℕ
+in_parentheses text = 40 ∷ (text ++ 41 ∷ [])
+
+-- texts with a space between each two
+unfoldable pub spaced : List (List ℕ) → List ℕ
+spaced [] = []
+spaced (text ∷ []) = text
+spaced (text ∷ next ∷ texts) = text ++ 32 ∷ spaced (next ∷ texts)
+
+-- the texts in parentheses, or NIL where there are none
+abbrev pub listed : List (List ℕ) → List ℕ
+listed [] = nil
+listed (text ∷ texts) = in_parentheses (spaced (text ∷ texts))
+
+-- what stands before the first such octet; all, where there is none
+unfoldable pub before_mark : ℕ → List ℕ → List ℕ
+before_mark mark [] = []
+before_mark mark (x ∷ octets) = if x == mark then [] else x ∷ before_mark mark octets
+
+-- what stands behind the first such octet; nothing, where there is none
+unfoldable pub behind_mark : ℕ → List ℕ → List ℕ
+behind_mark mark [] = []
+behind_mark mark (x ∷ octets) = if x == mark then octets else behind_mark mark octets
+
+-- new is old with a text behind it of which this holds
+abbrev pub AddsText : (List ℕ → Type 0) → List ℕ → List ℕ → Type 0
+AddsText Holds old new = (text : List ℕ) × Holds text × (new ≡ old ++ text)
