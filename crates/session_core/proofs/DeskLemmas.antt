@@ -7,7 +7,7 @@ use Rattle.mail_wire.specs.Keeping.{HasKeeperCause}
 use Rattle.mail_wire.specs.declared.outside.Fault.{Fault}
 use Rattle.mail_wire.specs.declared.outside.Fault.TheVariants as fault
 use Rattle.mail_wire.proofs.Moving.{GoesOn-nil, HasWireCause-fine}
-use Rattle.mail_store.specs.Changing.{Changes, IsRefusedAs, delivery_refusal, expunged, folder_refusal}
+use Rattle.mail_store.specs.Changing.{Changes, IsRefusedAs, append_refusal, delivery_refusal, expunged, folder_refusal}
 use Rattle.kept_mail.specs.Deliveries.{copy_for, delivered, inboxes_of, queued}
 use Rattle.mail_store.specs.Following.{records_of}
 use Rattle.kept_mail.specs.Kept.{Kept, after_record, after_all, change_at, gone, name_of, with_flags}
@@ -26,7 +26,7 @@ use Rattle.mail_store.proofs.DeliveryLemmas.{after-copies}
 use Rattle.mail_store.proofs.IndexLemmas.{AreStored-same}
 use Rattle.kept_mail.proofs.SameMessages.{AreSameMessages-flags, AreSameMessages-gone}
 use Rattle.session_core.specs.Around.{Around}
-use Rattle.session_core.specs.Changes.{calls_of, changes_of, folder_changes, unless_refused}
+use Rattle.session_core.specs.Changes.{append_changes, calls_of, changes_of, folder_changes, unless_refused}
 use Rattle.session_core.specs.Doing.{IsChanged}
 use Rattle.session_core.specs.Keeps.{Keeps, answer_of, fault_of}
 
@@ -112,6 +112,9 @@ flags_name store id flags = refl
 folder_name : (store : StoreState) (account : ℕ) (name : List ℕ) → KeepsName store (folder_changes store account name)
 folder_name store account name = unless_name store (records.Folder account (kept_name name) ∷ []) (folder_refusal store.kept account name) refl
 
+append_name : (store : StoreState) (folder flags : ℕ) (date octets : List ℕ) → KeepsName store (append_changes store folder flags date octets)
+append_name store folder flags date octets = unless_name store (records.Message folder flags date octets ∷ []) (append_refusal store octets) refl
+
 -- ---- what a change leaves
 
 abbrev pub with_store : Around → StoreState → KeeperTelling → Around
@@ -195,3 +198,8 @@ pub folder_keeps : {T : Type 0} (a : Around) (store : StoreState) (keeper : Keep
     → IsChanged a.desk.store store a.keeper.octets keeper.octets (fault_of result) (folder_changes a.desk.store account name) → HasKeeperCause a.keeper keeper result fault.Keeper → ¬ (result ≡ Err fault.Wire)
     → Keeps a (with_store a store keeper) (fault_of result)
 folder_keeps a store keeper result account name = answered a store keeper result (folder_changes a.desk.store account name) (folder_name a.desk.store account name)
+
+pub append_keeps : {T : Type 0} (a : Around) (store : StoreState) (keeper : KeeperTelling) (result : Result T Fault) (folder flags : ℕ) (date octets : List ℕ)
+    → IsChanged a.desk.store store a.keeper.octets keeper.octets (fault_of result) (append_changes a.desk.store folder flags date octets) → HasKeeperCause a.keeper keeper result fault.Keeper → ¬ (result ≡ Err fault.Wire)
+    → Keeps a (with_store a store keeper) (fault_of result)
+append_keeps a store keeper result folder flags date octets = answered a store keeper result (append_changes a.desk.store folder flags date octets) (append_name a.desk.store folder flags date octets)

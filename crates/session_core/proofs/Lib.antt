@@ -14,3 +14,4 @@ pub mod AnswerLemmas
 pub mod TranscriptLemmas
 pub mod ServingLemmas
 pub mod StoreTurns
+pub mod MomentLemmas

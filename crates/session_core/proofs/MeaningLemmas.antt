@@ -1,4 +1,4 @@
--- There are functions that give surrogates, read paths, tell trees, and read commands and names.
+-- There are functions that give surrogates, read paths, tell trees and entities, read commands and names, and give views.
 use Rattle.std.proofs.Common.{ℕ, List, Bool, true, false, rules, ◌⊎◌, inl, inr}
 use Rattle.std.specs.Prelude.{IsTrue, ◌↔◌}
 use Rattle.mime_tree.specs.declared.entity.Entity.{Entity}
@@ -9,6 +9,7 @@ use Rattle.surrogate_cache.proofs.ServedLemmas.{surrogates_given}
 use Rattle.address_lists.proofs.PathPiecesLemmas.{paths_read}
 use Rattle.imap_grammar.proofs.DecidingDue.{commands_read}
 use Rattle.imap_mailboxes.proofs.ReadMailboxes.{mailboxes_read}
+use Rattle.imap_views.proofs.GivenViews.{outlines_given, views_given}
 use Rattle.session_core.specs.Meanings.{Meanings, AreMeanings}
 
 -- octets have a tree of entities, or none
@@ -32,14 +33,18 @@ meanings_given = (
     surrogate = surrogates_given.0;
     path_of = paths_read.0;
     has_tree = λ octets. told octets (decide_tree octets);
+    outlines = outlines_given.0;
     event_of = commands_read.0;
     name_of = mailboxes_read.0;
+    view_of = views_given.0;
   },
   record {
     surrogates = surrogates_given.1;
     paths = paths_read.1;
     trees = λ octets. told_is octets (decide_tree octets);
+    entities = outlines_given.1;
     commands = commands_read.1;
     names = mailboxes_read.1;
+    views = views_given.1;
   },
 )

@@ -1,6 +1,6 @@
 -- What the bundle's changing calls do to a store.
 use Rattle.std.specs.Prelude.{ℕ, List, [], ◌∷◌, Option, None, Some}
-use Rattle.mail_store.specs.Changing.{delivery_refusal, folder_refusal}
+use Rattle.mail_store.specs.Changing.{append_refusal, delivery_refusal, folder_refusal}
 use Rattle.kept_mail.specs.Deliveries.{delivered}
 use Rattle.mail_store.specs.StoreState.{StoreState}
 use Rattle.mail_store.specs.declared.changing.StoreFault.{StoreFault}
@@ -28,7 +28,11 @@ unless_refused (Some refusal) all = []
 abbrev pub changes_of : StoreState → Delivery → List (List Record)
 changes_of store delivery = unless_refused (delivery_refusal store delivery) (delivered store.kept delivery)
 
--- what came of a delivery that was refused so, or that wasn't
+-- the change that puts a message last in a folder
+abbrev pub append_changes : StoreState → (folder flags : ℕ) → (date octets : List ℕ) → List (List Record)
+append_changes store folder flags date octets = unless_refused (append_refusal store octets) (records.Message folder flags date octets ∷ [])
+
+-- what came of a message that was refused so, or that wasn't
 abbrev pub came_of : Option StoreFault → Delivered
 came_of None = Stored
 came_of (Some refusal) = TooLarge

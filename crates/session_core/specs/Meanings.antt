@@ -1,33 +1,40 @@
 -- What sessions take from other definitions: what surrogate a message has, what a text says that may be a path, which octets have a
--- tree of entities, what is due first in a stream of IMAP commands, and which mailbox a text names.
+-- tree of entities and which entities these are, what is due first in a stream of IMAP commands, which mailbox a text names, and the views
+-- of octets.
 use Rattle.std.specs.Prelude.{ℕ, List, Bool, Option, IsTrue, ◌↔◌}
 use Rattle.address_grammar.specs.declared.Address.{Address}
 use Rattle.address_grammar.specs.Paths.{ReadsPaths}
 use Rattle.journal_records.specs.Stored.{IsStored}
+use Rattle.mime_tree.specs.Outlines.{Outline}
 use Rattle.surrogate_cache.specs.Served.{GivesSurrogates}
 use Rattle.imap_grammar.specs.FirstDue.{Due, ReadsCommands}
 use Rattle.imap_mailboxes.specs.Names.{ReadsMailboxes}
+use Rattle.imap_views.specs.Views.{View, GivesViews, GivesOutlines}
 
 pub record Meanings : Type 0 where
   pub surrogate : List ℕ → List ℕ
   pub path_of : List ℕ → Option (Option Address)
   pub has_tree : List ℕ → Bool
+  pub outlines : List ℕ → List Outline
   -- by whether the session has enabled UTF-8, what was seen of a command, and what follows
   pub event_of : Bool → List ℕ → List ℕ → Option Due
   -- by whether the session has enabled UTF-8
   pub name_of : Bool → List ℕ → Option (List ℕ)
+  pub view_of : View → List ℕ → List ℕ
 
 -- the function tells which octets have a tree of entities
 abbrev pub TellsTrees : (List ℕ → Bool) → Type 0
 TellsTrees has_tree = (octets : List ℕ) → IsTrue (has_tree octets) ↔ IsStored octets
 
--- they give surrogates, read paths, tell trees, read commands and read names
+-- they give surrogates, read paths, tell trees and their entities, read commands and names, and give views
 pub record AreMeanings (meanings : Meanings) : Type 0 where
   pub surrogates : GivesSurrogates meanings.surrogate
   pub paths : ReadsPaths meanings.path_of
   pub trees : TellsTrees meanings.has_tree
+  pub entities : GivesOutlines meanings.outlines
   pub commands : ReadsCommands meanings.event_of
   pub names : ReadsMailboxes meanings.name_of
+  pub views : GivesViews meanings.view_of
 
 -- whatever functions do so
 abbrev pub WithMeanings : (Meanings → Type 0) → Type 0

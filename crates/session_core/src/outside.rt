@@ -5,12 +5,12 @@ ghost use Rattle.mail_wire.specs.Keeping.{HasKeeperCause};
 ghost use Rattle.mail_wire.specs.Moves.{TakesNothing, TakesPiece};
 ghost use Rattle.journal_records.specs.Grammar.{IsFolderName, kept_name};
 ghost use Rattle.journal_records.specs.declared.records.Record.TheVariants as records;
-ghost use Rattle.mail_store.specs.Changing.{IsDeliverable, delivery_refusal, expunged, expunge_refusal, flags_refusal, folder_refusal};
+ghost use Rattle.mail_store.specs.Changing.{IsAppendable, IsDeliverable, append_refusal, delivery_refusal, expunged, expunge_refusal, flags_refusal, folder_refusal};
 ghost use Rattle.surrogate_rope.specs.Served.{IsShownOf, shown_octets};
 ghost use Rattle.surrogate_cache.specs.Served.{IsServed, HasServedHeaders};
 ghost use Rattle.session_core.specs.Around.{LeavesDesk};
 ghost use Rattle.session_core.specs.Moments.{IsTold, moment_of};
-ghost use Rattle.session_core.specs.Changes.{calls_of, came_of, changes_of, created_of, folder_changes};
+ghost use Rattle.session_core.specs.Changes.{append_changes, calls_of, came_of, changes_of, created_of, folder_changes};
 ghost use Rattle.session_core.specs.Desks.{IsOpen, stored_date, stored_octets};
 ghost use Rattle.session_core.specs.Doing.{IsChanged, Makes, Replies};
 ghost use Rattle.session_core.specs.Keeps.{Keeps, fault_of};
@@ -60,7 +60,7 @@ pub struct Stamp {
     pub internal: Octets,
 }
 
-/// What came of a delivery.
+/// What came of a message that was to be kept.
 #[derive(Clone, Copy, Debug, PartialEq, Eq)]
 pub enum Delivered {
     Stored,
@@ -114,6 +114,31 @@ fn deliver_to<J: Keeper>(
 {
     match store.deliver(keeper, delivery) {
         Ok(()) => Ok(Delivered::Stored),
+        Err(StoreFault::TooLarge) => Ok(Delivered::TooLarge),
+        Err(StoreFault::Keeper) => Err(Fault::Keeper),
+        Err(StoreFault::Memory) => Err(Fault::Memory),
+        Err(StoreFault::Exists | StoreFault::NoSuch) => unreachable!(),
+    }
+}
+
+// Puts a message last in a folder, or tells that it would pass a limit.
+fn append_to<J: Keeper>(
+    store: &mut Store,
+    keeper: &mut J,
+    folder: u32,
+    flags: u8,
+    date: &[u8],
+    octets: &[u8],
+) -> Result<Delivered, Fault>
+    requires works { store.old.failed ≡ false }
+    requires appendable { IsAppendable store.old folder flags date.now octets.now }
+    ensures came { IfOk result (λ came. came ≡ came_of (append_refusal store.old octets.now)) }
+    ensures changes { IsChanged store.old store.new (J.tells keeper.old).octets (J.tells keeper.new).octets (fault_of result) (append_changes store.old folder flags date.now octets.now) }
+    ensures cause { HasKeeperCause (J.tells keeper.old) (J.tells keeper.new) result Fault.Keeper }
+    ensures wire { ¬ (result ≡ Err Fault.Wire) }
+{
+    match store.append(keeper, folder, flags, date, octets) {
+        Ok(_) => Ok(Delivered::Stored),
         Err(StoreFault::TooLarge) => Ok(Delivered::TooLarge),
         Err(StoreFault::Keeper) => Err(Fault::Keeper),
         Err(StoreFault::Memory) => Err(Fault::Memory),
@@ -316,6 +341,30 @@ impl<'w, 'k, 'c, W: Wire, J: Keeper, C: Clock> Outside<'w, 'k, 'c, W, J, C> {
         ensures keeps { Keeps self.old self.new (fault_of result) }
     {
         deliver_to(&mut self.desk.store, self.keeper, delivery)
+    }
+
+    /// Puts a message with these flags and this date last in a folder, by one call of the keeper. What the store has no room for it refuses.
+    pub fn append(
+        &mut self,
+        folder: u32,
+        flags: u8,
+        date: &[u8],
+        octets: &[u8],
+    ) -> Result<Delivered, Fault>
+        requires opens { IsOpen self.old.desk }
+        requires appendable { IsAppendable self.old.desk.store folder flags date.now octets.now }
+        ensures came { IfOk result (λ came. came ≡ came_of (append_refusal self.old.desk.store octets.now)) }
+        ensures makes { Makes self.old self.new (fault_of result) (append_changes self.old.desk.store folder flags date.now octets.now) }
+        ensures keeps { Keeps self.old self.new (fault_of result) }
+    {
+        append_to(
+            &mut self.desk.store,
+            self.keeper,
+            folder,
+            flags,
+            date,
+            octets,
+        )
     }
 
     /// Takes messages away, in order, by one call of the keeper, which isn't called where there are none.
