@@ -22,12 +22,12 @@ use Rattle.session_core.proofs.MeaningLemmas.{meanings_given}
 use Rattle.imap_grammar.specs.declared.command.Command.{Command}
 use Rattle.imap_grammar.specs.declared.command.Command.TheVariants as command
 use Rattle.imap_grammar.specs.declared.command.StatusItem.{StatusItem}
-use Rattle.imap_session.specs.Machine.{State, Step, answers, authenticated, authenticated_step, common_step, create_by, create_unless, done, enable_step, mailbox_step, names_folder, not_authenticated, not_authenticated_step, out_of_order, status_by, untagged}
+use Rattle.imap_session.specs.Machine.{State, Step, answers, authenticated, authenticated_step, common_step, create_by, create_unless, done, enable_step, lacks_date, mailbox_step, names_folder, not_authenticated, not_authenticated_step, out_of_order, status_by, untagged}
 use Rattle.imap_session.specs.Replies.{part_octets}
 use Rattle.imap_session.specs.Session.{KnowsFolder, KnowsState}
 use Rattle.imap_session.specs.declared.states.ImapState.{ImapState}
 use Rattle.imap_session.specs.declared.states.ImapState.TheVariants as imap
-use Rattle.imap_session.specs.private.Messages.{selects, state_left}
+use Rattle.imap_session.specs.private.Messages.{selects_or_appends, state_left}
 use Rattle.journal_records.specs.Grammar.{kept_name}
 use Rattle.mail_store.specs.Changing.{folder_refusal}
 
@@ -76,67 +76,87 @@ unauthenticated-other meanings tag store command.Close no_login = refl
 unauthenticated-other meanings tag store command.NotHere no_login = refl
 
 -- a command on folders that isn't one of these is one of every state
-pub mailbox-other : (meanings : Meanings) (tag : List ℕ) (state : State) (mode : Mode) (account : ℕ) (store : StoreState) (c : Command) → ((written : List ℕ) → c ≡ command.Create written → ⊥) → ((reference pattern : List ℕ) → c ≡ command.List reference pattern → ⊥) → ((written : List ℕ) (items : List StatusItem) → c ≡ command.Status written items → ⊥) → ((written : List ℕ) (flags : ℕ) (date : Option (List ℕ)) (utf8 : Bool) (octets : List ℕ) → c ≡ command.Append written flags date utf8 octets → ⊥) → selects c ≡ false
-    → common_step tag state c ≡ mailbox_step meanings tag state mode account store c
-mailbox-other meanings tag state mode account store command.Capability no_create no_list no_status no_append none = refl
-mailbox-other meanings tag state mode account store command.Noop no_create no_list no_status no_append none = refl
-mailbox-other meanings tag state mode account store command.Check no_create no_list no_status no_append none = refl
-mailbox-other meanings tag state mode account store command.Logout no_create no_list no_status no_append none = refl
-mailbox-other meanings tag state mode account store (command.Login user password) no_create no_list no_status no_append none = refl
-mailbox-other meanings tag state mode account store (command.Enable words) no_create no_list no_status no_append none = refl
-mailbox-other meanings tag state mode account store (command.Select written) no_create no_list no_status no_append none = absurd cc
-mailbox-other meanings tag state mode account store (command.Examine written) no_create no_list no_status no_append none = absurd cc
-mailbox-other meanings tag state mode account store (command.Create written) no_create no_list no_status no_append none = absurd (no_create written refl)
-mailbox-other meanings tag state mode account store (command.List reference pattern) no_create no_list no_status no_append none = absurd (no_list reference pattern refl)
-mailbox-other meanings tag state mode account store (command.Status written items) no_create no_list no_status no_append none = absurd (no_status written items refl)
-mailbox-other meanings tag state mode account store (command.Append written flags date utf8 octets) no_create no_list no_status no_append none = absurd (no_append written flags date utf8 octets refl)
-mailbox-other meanings tag state mode account store (command.Fetch by_uid set items) no_create no_list no_status no_append none = refl
-mailbox-other meanings tag state mode account store (command.Store by_uid set op silent flags) no_create no_list no_status no_append none = refl
-mailbox-other meanings tag state mode account store command.Expunge no_create no_list no_status no_append none = refl
-mailbox-other meanings tag state mode account store command.Close no_create no_list no_status no_append none = refl
-mailbox-other meanings tag state mode account store command.NotHere no_create no_list no_status no_append none = refl
+pub mailbox-other : (meanings : Meanings) (now tag : List ℕ) (state : State) (mode : Mode) (account : ℕ) (store : StoreState) (c : Command) → ((written : List ℕ) → c ≡ command.Create written → ⊥) → ((reference pattern : List ℕ) → c ≡ command.List reference pattern → ⊥) → ((written : List ℕ) (items : List StatusItem) → c ≡ command.Status written items → ⊥) → selects_or_appends c ≡ false
+    → common_step tag state c ≡ mailbox_step meanings now tag state mode account store c
+mailbox-other meanings now tag state mode account store command.Capability no_create no_list no_status none = refl
+mailbox-other meanings now tag state mode account store command.Noop no_create no_list no_status none = refl
+mailbox-other meanings now tag state mode account store command.Check no_create no_list no_status none = refl
+mailbox-other meanings now tag state mode account store command.Logout no_create no_list no_status none = refl
+mailbox-other meanings now tag state mode account store (command.Login user password) no_create no_list no_status none = refl
+mailbox-other meanings now tag state mode account store (command.Enable words) no_create no_list no_status none = refl
+mailbox-other meanings now tag state mode account store (command.Select written) no_create no_list no_status none = absurd cc
+mailbox-other meanings now tag state mode account store (command.Examine written) no_create no_list no_status none = absurd cc
+mailbox-other meanings now tag state mode account store (command.Create written) no_create no_list no_status none = absurd (no_create written refl)
+mailbox-other meanings now tag state mode account store (command.List reference pattern) no_create no_list no_status none = absurd (no_list reference pattern refl)
+mailbox-other meanings now tag state mode account store (command.Status written items) no_create no_list no_status none = absurd (no_status written items refl)
+mailbox-other meanings now tag state mode account store (command.Append written flags date utf8 octets) no_create no_list no_status none = absurd cc
+mailbox-other meanings now tag state mode account store (command.Fetch by_uid set items) no_create no_list no_status none = refl
+mailbox-other meanings now tag state mode account store (command.Store by_uid set op silent flags) no_create no_list no_status none = refl
+mailbox-other meanings now tag state mode account store command.Expunge no_create no_list no_status none = refl
+mailbox-other meanings now tag state mode account store command.Close no_create no_list no_status none = refl
+mailbox-other meanings now tag state mode account store command.NotHere no_create no_list no_status none = refl
 
 -- after login, any but ENABLE is one on folders
-pub authenticated-other : (meanings : Meanings) (tag : List ℕ) (mode : Mode) (account : ℕ) (store : StoreState) (c : Command) → ((words : List (List ℕ)) → c ≡ command.Enable words → ⊥)
-    → mailbox_step meanings tag (authenticated mode account) mode account store c ≡ authenticated_step meanings tag mode account store c
-authenticated-other meanings tag mode account store command.Capability no_enable = refl
-authenticated-other meanings tag mode account store command.Noop no_enable = refl
-authenticated-other meanings tag mode account store command.Check no_enable = refl
-authenticated-other meanings tag mode account store command.Logout no_enable = refl
-authenticated-other meanings tag mode account store (command.Login user password) no_enable = refl
-authenticated-other meanings tag mode account store (command.Enable words) no_enable = absurd (no_enable words refl)
-authenticated-other meanings tag mode account store (command.Select written) no_enable = refl
-authenticated-other meanings tag mode account store (command.Examine written) no_enable = refl
-authenticated-other meanings tag mode account store (command.Create written) no_enable = refl
-authenticated-other meanings tag mode account store (command.List reference pattern) no_enable = refl
-authenticated-other meanings tag mode account store (command.Status written items) no_enable = refl
-authenticated-other meanings tag mode account store (command.Append written flags date utf8 octets) no_enable = refl
-authenticated-other meanings tag mode account store (command.Fetch by_uid set items) no_enable = refl
-authenticated-other meanings tag mode account store (command.Store by_uid set op silent flags) no_enable = refl
-authenticated-other meanings tag mode account store command.Expunge no_enable = refl
-authenticated-other meanings tag mode account store command.Close no_enable = refl
-authenticated-other meanings tag mode account store command.NotHere no_enable = refl
+pub authenticated-other : (meanings : Meanings) (now tag : List ℕ) (mode : Mode) (account : ℕ) (store : StoreState) (c : Command) → ((words : List (List ℕ)) → c ≡ command.Enable words → ⊥)
+    → mailbox_step meanings now tag (authenticated mode account) mode account store c ≡ authenticated_step meanings now tag mode account store c
+authenticated-other meanings now tag mode account store command.Capability no_enable = refl
+authenticated-other meanings now tag mode account store command.Noop no_enable = refl
+authenticated-other meanings now tag mode account store command.Check no_enable = refl
+authenticated-other meanings now tag mode account store command.Logout no_enable = refl
+authenticated-other meanings now tag mode account store (command.Login user password) no_enable = refl
+authenticated-other meanings now tag mode account store (command.Enable words) no_enable = absurd (no_enable words refl)
+authenticated-other meanings now tag mode account store (command.Select written) no_enable = refl
+authenticated-other meanings now tag mode account store (command.Examine written) no_enable = refl
+authenticated-other meanings now tag mode account store (command.Create written) no_enable = refl
+authenticated-other meanings now tag mode account store (command.List reference pattern) no_enable = refl
+authenticated-other meanings now tag mode account store (command.Status written items) no_enable = refl
+authenticated-other meanings now tag mode account store (command.Append written flags date utf8 octets) no_enable = refl
+authenticated-other meanings now tag mode account store (command.Fetch by_uid set items) no_enable = refl
+authenticated-other meanings now tag mode account store (command.Store by_uid set op silent flags) no_enable = refl
+authenticated-other meanings now tag mode account store command.Expunge no_enable = refl
+authenticated-other meanings now tag mode account store command.Close no_enable = refl
+authenticated-other meanings now tag mode account store command.NotHere no_enable = refl
 
--- any but SELECT and EXAMINE selects no folder
+-- any but SELECT, EXAMINE and APPEND selects no folder and puts no message into one
 pub selects-other : (c : Command) → ((written : List ℕ) → c ≡ command.Select written → ⊥) → ((written : List ℕ) → c ≡ command.Examine written → ⊥)
-    → selects c ≡ false
-selects-other command.Capability no_select no_examine = refl
-selects-other command.Noop no_select no_examine = refl
-selects-other command.Check no_select no_examine = refl
-selects-other command.Logout no_select no_examine = refl
-selects-other (command.Login user password) no_select no_examine = refl
-selects-other (command.Enable words) no_select no_examine = refl
-selects-other (command.Select written) no_select no_examine = absurd (no_select written refl)
-selects-other (command.Examine written) no_select no_examine = absurd (no_examine written refl)
-selects-other (command.Create written) no_select no_examine = refl
-selects-other (command.List reference pattern) no_select no_examine = refl
-selects-other (command.Status written items) no_select no_examine = refl
-selects-other (command.Append written flags date utf8 octets) no_select no_examine = refl
-selects-other (command.Fetch by_uid set items) no_select no_examine = refl
-selects-other (command.Store by_uid set op silent flags) no_select no_examine = refl
-selects-other command.Expunge no_select no_examine = refl
-selects-other command.Close no_select no_examine = refl
-selects-other command.NotHere no_select no_examine = refl
+    → ((written : List ℕ) (flags : ℕ) (date : Option (List ℕ)) (utf8 : Bool) (octets : List ℕ) → c ≡ command.Append written flags date utf8 octets → ⊥) → selects_or_appends c ≡ false
+selects-other command.Capability no_select no_examine no_append = refl
+selects-other command.Noop no_select no_examine no_append = refl
+selects-other command.Check no_select no_examine no_append = refl
+selects-other command.Logout no_select no_examine no_append = refl
+selects-other (command.Login user password) no_select no_examine no_append = refl
+selects-other (command.Enable words) no_select no_examine no_append = refl
+selects-other (command.Select written) no_select no_examine no_append = absurd (no_select written refl)
+selects-other (command.Examine written) no_select no_examine no_append = absurd (no_examine written refl)
+selects-other (command.Create written) no_select no_examine no_append = refl
+selects-other (command.List reference pattern) no_select no_examine no_append = refl
+selects-other (command.Status written items) no_select no_examine no_append = refl
+selects-other (command.Append written flags date utf8 octets) no_select no_examine no_append = absurd (no_append written flags date utf8 octets refl)
+selects-other (command.Fetch by_uid set items) no_select no_examine no_append = refl
+selects-other (command.Store by_uid set op silent flags) no_select no_examine no_append = refl
+selects-other command.Expunge no_select no_examine no_append = refl
+selects-other command.Close no_select no_examine no_append = refl
+selects-other command.NotHere no_select no_examine no_append = refl
+
+-- nor does it lack a date
+pub dated-other : (c : Command) → selects_or_appends c ≡ false → lacks_date c ≡ false
+dated-other command.Capability none = refl
+dated-other command.Noop none = refl
+dated-other command.Check none = refl
+dated-other command.Logout none = refl
+dated-other (command.Login user password) none = refl
+dated-other (command.Enable words) none = refl
+dated-other (command.Select written) none = refl
+dated-other (command.Examine written) none = refl
+dated-other (command.Create written) none = refl
+dated-other (command.List reference pattern) none = refl
+dated-other (command.Status written items) none = refl
+dated-other (command.Append written flags date utf8 octets) none = absurd cc
+dated-other (command.Fetch by_uid set items) none = refl
+dated-other (command.Store by_uid set op silent flags) none = refl
+dated-other command.Expunge none = refl
+dated-other command.Close none = refl
+dated-other command.NotHere none = refl
 
 -- ENABLE turns nothing on where the session is enabled, or where it isn't asked for
 pub enable-again : (tag : List ℕ) (mode : Mode) (account : ℕ) (asked : Bool) → (is_enabled mode ≡ true) ⊎ (asked ≡ false)
@@ -197,26 +217,26 @@ status-left : (tag : List ℕ) (state : State) (mode : Mode) (store : StoreState
 status-left tag state mode store items None = refl
 status-left tag state mode store items (Some folder) = refl
 
--- a command on folders that selects none leaves the state, unless it ends the session
-pub mailbox-left : (meanings : Meanings) (tag : List ℕ) (state : State) (mode : Mode) (account : ℕ) (store : StoreState) (c : Command) → selects c ≡ false
-    → state_left state c ≡ (mailbox_step meanings tag state mode account store c).state
-mailbox-left meanings tag state mode account store command.Capability none = refl
-mailbox-left meanings tag state mode account store command.Noop none = refl
-mailbox-left meanings tag state mode account store command.Check none = refl
-mailbox-left meanings tag state mode account store command.Logout none = refl
-mailbox-left meanings tag state mode account store (command.Login user password) none = refl
-mailbox-left meanings tag state mode account store (command.Enable words) none = refl
-mailbox-left meanings tag state mode account store (command.Select written) none = absurd cc
-mailbox-left meanings tag state mode account store (command.Examine written) none = absurd cc
-mailbox-left meanings tag state mode account store (command.Create written) none = create-left tag state account store _
-mailbox-left meanings tag state mode account store (command.List reference pattern) none = refl
-mailbox-left meanings tag state mode account store (command.Status written items) none = status-left tag state mode store items _
-mailbox-left meanings tag state mode account store (command.Append written flags date utf8 octets) none = refl
-mailbox-left meanings tag state mode account store (command.Fetch by_uid set items) none = refl
-mailbox-left meanings tag state mode account store (command.Store by_uid set op silent flags) none = refl
-mailbox-left meanings tag state mode account store command.Expunge none = refl
-mailbox-left meanings tag state mode account store command.Close none = refl
-mailbox-left meanings tag state mode account store command.NotHere none = refl
+-- a command on folders that selects none and puts nothing into one leaves the state, unless it ends the session
+pub mailbox-left : (meanings : Meanings) (now tag : List ℕ) (state : State) (mode : Mode) (account : ℕ) (store : StoreState) (c : Command) → selects_or_appends c ≡ false
+    → state_left state c ≡ (mailbox_step meanings now tag state mode account store c).state
+mailbox-left meanings now tag state mode account store command.Capability none = refl
+mailbox-left meanings now tag state mode account store command.Noop none = refl
+mailbox-left meanings now tag state mode account store command.Check none = refl
+mailbox-left meanings now tag state mode account store command.Logout none = refl
+mailbox-left meanings now tag state mode account store (command.Login user password) none = refl
+mailbox-left meanings now tag state mode account store (command.Enable words) none = refl
+mailbox-left meanings now tag state mode account store (command.Select written) none = absurd cc
+mailbox-left meanings now tag state mode account store (command.Examine written) none = absurd cc
+mailbox-left meanings now tag state mode account store (command.Create written) none = create-left tag state account store _
+mailbox-left meanings now tag state mode account store (command.List reference pattern) none = refl
+mailbox-left meanings now tag state mode account store (command.Status written items) none = status-left tag state mode store items _
+mailbox-left meanings now tag state mode account store (command.Append written flags date utf8 octets) none = absurd cc
+mailbox-left meanings now tag state mode account store (command.Fetch by_uid set items) none = refl
+mailbox-left meanings now tag state mode account store (command.Store by_uid set op silent flags) none = refl
+mailbox-left meanings now tag state mode account store command.Expunge none = refl
+mailbox-left meanings now tag state mode account store command.Close none = refl
+mailbox-left meanings now tag state mode account store command.NotHere none = refl
 
 -- ---- what a session knows
 

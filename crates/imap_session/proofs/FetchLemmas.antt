@@ -24,8 +24,9 @@ use Rattle.session_core.specs.Meanings.{Meanings, AreMeanings}
 use Rattle.imap_grammar.specs.declared.command.FetchItem.{FetchItem}
 use Rattle.imap_grammar.specs.declared.command.FetchItem.TheVariants as item
 use Rattle.imap_mailboxes.specs.Flags.{flags_text}
-use Rattle.imap_session.specs.Machine.{becomes_seen, fetch_one, fetch_reply, flags_change, is_flags, is_seen, item_parts, line, literal_parts, parts_behind, reply, seen, sets_seen, size_of, with_flags, with_uid}
-use Rattle.imap_session.specs.Replies.{ReplyPart, text, shown, part_octets}
+use Rattle.imap_session.specs.Items.{is_flags, item_parts, sets_seen}
+use Rattle.imap_session.specs.Machine.{becomes_seen, fetch_one, fetch_reply, flags_change, is_seen, line, parts_behind, reply, seen, with_flags, with_uid}
+use Rattle.imap_session.specs.Replies.{ReplyPart, text, part_octets}
 use Rattle.imap_session.specs.private.Fetched.{end_octets, space_octets, tells_flags_last, tells_uid_first, uid_first_octets}
 use Rattle.imap_session.specs.private.Pending.{Carries}
 use Rattle.imap_session.specs.private.Shown.{HasShown, shows}
@@ -117,92 +118,10 @@ Carries-cut meanings a b met owed had owes others f items at front =
     subst (λ (l : List (Act ReplyPart)). Carries (part_octets meanings) a b (Some met) owed owes l) (sym acts)
     (Carries-before (part_octets meanings) a b met owed had owes (reply (parts_behind others (map f (take at items)))) (reply rest) front)
 
--- ---- a literal
-
-abbrev header_of : (asked : List ℕ) (size : ℕ) → List ℕ
-header_of asked size = asked ++ (codes " {" ++ (decimal size ++ codes "}\r\n"))
-
-abbrev literal_of : (served asked : List ℕ) → Mode → (msg : List ℕ) → List ReplyPart
-literal_of served asked mode msg = text (header_of asked (length served)) ∷ shown msg mode 0 (length served) ∷ []
-
--- nothing is cut off
-all_shown : (meanings : Meanings) (mode : Mode) (msg served : List ℕ) → served ≡ served_by meanings.surrogate mode msg
-    → served ≡ flat_map (part_octets meanings) (shown msg mode 0 (length served) ∷ [])
-all_shown meanings mode msg served is =
-    let whole : take (length served) (served_by meanings.surrogate mode msg) ≡ served = ap (take (length served)) (sym is) ∙ take_all (length served) served (omega arith) in
-    sym (append-nil (take (length served) (served_by meanings.surrogate mode msg)) ∙ whole)
-
-literal_is : (meanings : Meanings) → AreMeanings meanings → (mode : Mode) (store : StoreState) (one : Listed) (asked msg served : List ℕ) → msg ≡ stored_octets store one.id
-    → served ≡ served_by meanings.surrogate mode msg → literal_parts meanings mode store one asked ≡ literal_of served asked mode msg
-literal_is meanings are mode store one asked msg served msg_is served_is =
-    let size : size_of meanings mode store one ≡ length served = ap length (ap (served_by meanings.surrogate mode) (sym msg_is) ∙ sym served_is) in
-    ap (λ (n : ℕ). text (header_of asked n) ∷ shown (stored_octets store one.id) mode 0 n ∷ []) size
-    ∙ ap (λ (m : List ℕ). text (header_of asked (length served)) ∷ shown m mode 0 (length served) ∷ []) (sym msg_is)
-
--- the header stays pending and is given, and then the octets are
-pub Carries-literal : (meanings : Meanings) → AreMeanings meanings → (mode : Mode) (store : StoreState) (one : Listed) (asked msg served : List ℕ) (size : ℕ) (a b c : Around) (met : Option Fault) (owed had : List ℕ)
-    → msg ≡ stored_octets store one.id → IsServed mode msg served → size ≡ length served → had ≡ owed ++ header_of asked size
-    → Carries (part_octets meanings) a b None had [] [] → Replies b c met served → Carries (part_octets meanings) a c met owed [] (reply (literal_parts meanings mode store one asked))
-Carries-literal meanings are mode store one asked msg served size a b c met owed had msg_is is size_is had_is given replies =
-    let served_is : served ≡ served_by meanings.surrogate mode msg = IsServed-by meanings.surrogate are.surrogates mode msg served is in
-    let header = text (header_of asked (length served)) ∷ [] in
-    let headed : had ≡ owed ++ flat_map (part_octets meanings) header =
-    had_is ∙ (ap (λ (n : ℕ). owed ++ header_of asked n) size_is ∙ ap (λ (l : List ℕ). owed ++ l) (sym (append-nil (header_of asked (length served))))) in
-    subst (λ (parts : List ReplyPart). Carries (part_octets meanings) a c met owed [] (reply parts)) (sym (literal_is meanings are mode store one asked msg served msg_is served_is))
-    (Carries-then (part_octets meanings) a a c met owed had [] (reply header) (reply (shown msg mode 0 (length served) ∷ [])) (Carries-parts (part_octets meanings) a owed had header headed)
-    (Carries-then (part_octets meanings) a b c met had [] [] [] (reply (shown msg mode 0 (length served) ∷ [])) given
-    (Carries-replies (part_octets meanings) b c met (shown msg mode 0 (length served) ∷ []) (subst (λ (octets : List ℕ). Replies b c met octets) (all_shown meanings mode msg served served_is) replies))))
-
--- a fault before the octets
-pub Carries-headed : (meanings : Meanings) → AreMeanings meanings → (mode : Mode) (store : StoreState) (one : Listed) (asked msg served : List ℕ) (size : ℕ) (a b : Around) (met : Fault) (owed had mid owes : List ℕ)
-    → msg ≡ stored_octets store one.id → IsServed mode msg served → size ≡ length served → had ≡ owed ++ header_of asked size
-    → Carries (part_octets meanings) a b (Some met) had mid [] → Carries (part_octets meanings) a b (Some met) owed owes (reply (literal_parts meanings mode store one asked))
-Carries-headed meanings are mode store one asked msg served size a b met owed had mid owes msg_is is size_is had_is given =
-    let served_is : served ≡ served_by meanings.surrogate mode msg = IsServed-by meanings.surrogate are.surrogates mode msg served is in
-    let header = text (header_of asked (length served)) ∷ [] in
-    let headed : had ≡ owed ++ flat_map (part_octets meanings) header =
-    had_is ∙ (ap (λ (n : ℕ). owed ++ header_of asked n) size_is ∙ ap (λ (l : List ℕ). owed ++ l) (sym (append-nil (header_of asked (length served))))) in
-    subst (λ (parts : List ReplyPart). Carries (part_octets meanings) a b (Some met) owed owes (reply parts)) (sym (literal_is meanings are mode store one asked msg served msg_is served_is))
-    (Carries-then (part_octets meanings) a a b (Some met) owed had owes (reply header) (reply (shown msg mode 0 (length served) ∷ [])) (Carries-parts (part_octets meanings) a owed had header headed)
-    (Carries-before (part_octets meanings) a b met had mid owes [] (reply (shown msg mode 0 (length served) ∷ [])) given))
-
--- ---- the octets of a message, a piece after another
-
--- one number of octets more
-take_two : (octets : List ℕ) (at n : ℕ) → at ≤ length octets → take (at + n) octets ≡ take at octets ++ take n (drop at octets)
-take_two octets at n low =
-    let front = take at octets in
-    ap (λ (k : ℕ). take (k + n) octets) (sym (length-take-le at octets low)) ∙ (ap (take (length front + n)) (sym (take-append-drop at octets)) ∙ take-append-add front (drop at octets) n)
-
--- what is read fills the front of the buffer
-read_front : (octets buffer old : List ℕ) (at n : ℕ) → n ≡ min (length old) (length octets - at) → buffer ≡ take n (drop at octets) ++ drop n old → take n buffer ≡ take n (drop at octets)
-read_front octets buffer old at n count read =
-    let rest : length (drop at octets) ≡ length octets - at = length-drop at octets in
-    let len : length (take n (drop at octets)) ≡ n = length-take-le n (drop at octets) (omega (arith, rest, count)) in
-    ap (take n) read ∙ take_at (take n (drop at octets)) (drop n old) n len
-
-pub gives_more : (a b c : Telling) (octets buffer old : List ℕ) (at n : ℕ) → n ≡ min (length old) (length octets - at) → buffer ≡ take n (drop at octets) ++ drop n old → at ≤ length octets
-    → Gives a b (take at octets) → Gives b c (take n buffer) → Gives a c (take (at + n) octets)
-gives_more a b c octets buffer old at n count read low front gave =
-    rw (take_two octets at n low) (Gives-trans a b c (take at octets) (take n (drop at octets)) front (rw (read_front octets buffer old at n count read) at gave))
-
-pub gives_first : (a b c : Telling) (octets buffer old : List ℕ) (at n : ℕ) → n ≡ min (length old) (length octets - at) → buffer ≡ take n (drop at octets) ++ drop n old → at ≤ length octets
-    → Gives a b (take at octets) → GivesPrefix b c (take n buffer) → GivesPrefix a c octets
-gives_first a b c octets buffer old at n count read low front gave =
-    let so_far = Gives-prefix a b c (take at octets) (take n (drop at octets)) front (rw (read_front octets buffer old at n count read) at gave) in
-    let whole : take (at + n) octets ++ drop (at + n) octets ≡ octets = take-append-drop (at + n) octets in
-    subst (λ (all : List ℕ). GivesPrefix a c all) whole (GivesPrefix-more a c (take (at + n) octets) (drop (at + n) octets) (rw (take_two octets at n low) so_far))
-
 -- ---- what is put last and stays pending
 
 pub Carries-text : (meanings : Meanings) (a : Around) (owed owes octets : List ℕ) → owes ≡ owed ++ octets → Carries (part_octets meanings) a a None owed owes (reply (text octets ∷ []))
 Carries-text meanings a owed owes octets is = Carries-parts (part_octets meanings) a owed owes (text octets ∷ []) (is ∙ ap (λ (l : List ℕ). owed ++ l) (sym (append-nil octets)))
-
--- how much is served
-pub size_is : (meanings : Meanings) → AreMeanings meanings → (mode : Mode) (store : StoreState) (one : Listed) (msg served : List ℕ) (size : ℕ) → msg ≡ stored_octets store one.id → IsServed mode msg served
-    → size ≡ length served → size ≡ size_of meanings mode store one
-size_is meanings are mode store one msg served size msg_is is len_is =
-    len_is ∙ ap length (IsServed-by meanings.surrogate are.surrogates mode msg served is ∙ ap (served_by meanings.surrogate mode) msg_is)
 
 -- ---- a message's reply
 
@@ -346,7 +265,7 @@ fetched meanings mode store by_uid read_only items number one is = cond-false (b
 
 -- ---- the items, one after the other
 
-pub stands_next : (others : Bool) (items : List FetchItem) (at : ℕ) (x : FetchItem) → at < length items → true ≡ stands_behind others (take (at + 1) items)
+pub stands_next : {A : Type 0} (others : Bool) (items : List A) (at : ℕ) (x : A) → at < length items → true ≡ stands_behind others (take (at + 1) items)
 stands_next others items at x low = sym (ap (stands_behind others) (take_more items at x low) ∙ behind-push others (take at items) (get_or items at x))
 
 -- what is shown is there for each item that needs it

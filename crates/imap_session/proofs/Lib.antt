@@ -1,5 +1,7 @@
 pub mod EachLemmas
 pub mod FetchLemmas
+pub mod RangeLemmas
+pub mod SectionLemmas
 pub mod PendingLemmas
 pub mod LineLemmas
 pub mod FolderLemmas
@@ -7,3 +9,4 @@ pub mod StepLemmas
 pub mod SessionLemmas
 pub mod SelectedLemmas
 pub mod CommandLemmas
+pub mod AppendLemmas

@@ -35,7 +35,7 @@ use Rattle.session_core.specs.Doing.{Does, DoesFirst, Makes, Replies}
 use Rattle.session_core.specs.Keeps.{fault_of}
 use Rattle.session_core.specs.Meanings.{Meanings, WithMeanings}
 use Rattle.session_core.proofs.DoingLemmas.{Does-changes, Does-replies, Does-then, Does-unchanged, DoesFirst-before}
-use Rattle.imap_session.specs.Machine.{Numbered, State, Step, chosen, close_step, closing_up, deleted_ids, done, ends_with, expunge_step, fetch_one, fetch_step, for_each, is_built, is_deleted, mailbox_step, no_such_message, not_built, numbered_at, refused_as_read_only, reply, selected, selected_step, store_one, store_step, tagged, taken_out}
+use Rattle.imap_session.specs.Machine.{Numbered, State, Step, chosen, close_step, closing_up, deleted_ids, done, ends_with, expunge_step, fetch_one, fetch_step, for_each, is_deleted, mailbox_step, no_such_message, numbered_at, refused_as_read_only, reply, selected, selected_step, store_one, store_step, tagged, taken_out}
 use Rattle.imap_session.specs.Replies.{ReplyPart, part_octets, reply_octets}
 use Rattle.imap_session.specs.Session.{KnowsFolder, KnowsNext, TakesStep, state_or_ended}
 use Rattle.imap_session.specs.declared.states.ImapState.{ImapState}
@@ -130,16 +130,12 @@ some_taken places v refused told is = false_from_ne_true refused (λ yes. (let n
 
 -- ---- FETCH and STORE
 
-pub fetch_refused : (meanings : Meanings) (a b : Around) (met : Option Fault) (tag : List ℕ) (state : State) (mode : Mode) (folder : ℕ) (read_only : Bool) (store : StoreState) (by_uid : Bool) (set : Set) (items : List FetchItem)
-    → list_all is_built items ≡ false → Replies a b met (tagged_octets tag (codes "NO not built")) → Does (part_octets meanings) a b met (fetch_step meanings tag state mode folder read_only store by_uid set items).acts
-fetch_refused meanings a b met tag state mode folder read_only store by_uid set items not_built replies = rw not_built (says_given meanings a b met tag (codes "NO not built") state replies)
-
 pub fetch_taken : (meanings : Meanings) (a b : Around) (met : Option Fault) (tag : List ℕ) (state : State) (mode : Mode) (folder : ℕ) (read_only : Bool) (store : StoreState) (by_uid : Bool) (set : Set) (items : List FetchItem)
-    (messages : List Listed) → list_all is_built items ≡ true → messages ≡ listed store.kept folder
+    (messages : List Listed) → messages ≡ listed store.kept folder
     → Does (part_octets meanings) a b met (for_each tag state by_uid set messages (fetch_one meanings mode store by_uid read_only items)).acts
     → Does (part_octets meanings) a b met (fetch_step meanings tag state mode folder read_only store by_uid set items).acts
-fetch_taken meanings a b met tag state mode folder read_only store by_uid set items messages built are does =
-    rw built (subst (λ (l : List Listed). Does (part_octets meanings) a b met (for_each tag state by_uid set l (fetch_one meanings mode store by_uid read_only items)).acts) are does)
+fetch_taken meanings a b met tag state mode folder read_only store by_uid set items messages are does =
+    subst (λ (l : List Listed). Does (part_octets meanings) a b met (for_each tag state by_uid set l (fetch_one meanings mode store by_uid read_only items)).acts) are does
 
 pub store_refused : (meanings : Meanings) (a b : Around) (met : Option Fault) (tag : List ℕ) (state : State) (folder : ℕ) (read_only : Bool) (store : StoreState) (by_uid : Bool) (set : Set) (op : StoreOp) (silent : Bool) (named : ℕ)
     → read_only ≡ true → Replies a b met (tagged_octets tag (codes "NO read only")) → Does (part_octets meanings) a b met (store_step tag state folder read_only store by_uid set op silent named).acts
@@ -287,10 +283,9 @@ pub close_told : (meanings : Meanings) (a b c : Around) (met : Option Fault) (ta
 close_told meanings a b c met tag state read_only messages free makes replies = rw free (taken_silently meanings a b c met tag done (deleted_ids messages) makes replies)
 
 -- the folder with the list that was read anew
-pub knows_anew : (a b c : Around) (ids : List ℕ) (account folder : ℕ) (were are : List Listed) → Makes a b None (calls_of (expunged ids)) → c.desk ≡ b.desk → KnowsFolder a.desk.store account folder were
+pub knows_anew : (a b c : Around) (account folder : ℕ) (were are : List Listed) → HasCounts a.desk.store b.desk.store → c.desk ≡ b.desk → KnowsFolder a.desk.store account folder were
     → are ≡ listed b.desk.store.kept folder → length are ≤ THINGS_MAX → KnowsFolder c.desk.store account folder are
-knows_anew a b c ids account folder were are makes same knows is few =
-    let counts = counts_made a b ids makes in
+knows_anew a b c account folder were are counts same knows is few =
     rw same (record {
       account_is = rw counts.accounts knows.account_is;
       folder_is = rw counts.folders knows.folder_is;
@@ -347,8 +342,7 @@ each_state tag state by_uid set messages act =
 pub fetch_state : (meanings : Meanings) (tag : List ℕ) (state : State) (mode : Mode) (folder : ℕ) (read_only : Bool) (store : StoreState) (by_uid : Bool) (set : Set) (items : List FetchItem)
     → state ≡ (fetch_step meanings tag state mode folder read_only store by_uid set items).state
 fetch_state meanings tag state mode folder read_only store by_uid set items =
-    let act = fetch_one meanings mode store by_uid read_only items in
-    state_if (list_all is_built items) state (for_each tag state by_uid set (listed store.kept folder) act) (not_built tag state) (each_state tag state by_uid set (listed store.kept folder) act) refl
+    each_state tag state by_uid set (listed store.kept folder) (fetch_one meanings mode store by_uid read_only items)
 
 pub store_state : (tag : List ℕ) (state : State) (folder : ℕ) (read_only : Bool) (store : StoreState) (by_uid : Bool) (set : Set) (op : StoreOp) (silent : Bool) (named : ℕ)
     → state ≡ (store_step tag state folder read_only store by_uid set op silent named).state
@@ -363,24 +357,24 @@ expunge_state tag state read_only messages =
 -- ---- which step it is
 
 -- any other command is one on folders, or one of every state
-pub selected-other : (meanings : Meanings) (tag : List ℕ) (mode : Mode) (account folder : ℕ) (read_only : Bool) (store : StoreState) (c : Command) → (c ≡ command.Check → ⊥)
+pub selected-other : (meanings : Meanings) (now tag : List ℕ) (mode : Mode) (account folder : ℕ) (read_only : Bool) (store : StoreState) (c : Command) → (c ≡ command.Check → ⊥)
     → ((by_uid : Bool) (set : Set) (items : List FetchItem) → c ≡ command.Fetch by_uid set items → ⊥)
     → ((by_uid : Bool) (set : Set) (op : StoreOp) (silent : Bool) (flags : ℕ) → c ≡ command.Store by_uid set op silent flags → ⊥) → (c ≡ command.Expunge → ⊥) → (c ≡ command.Close → ⊥)
-    → mailbox_step meanings tag (selected mode account folder read_only) mode account store c ≡ selected_step meanings tag mode account folder read_only store c
-selected-other meanings tag mode account folder read_only store command.Capability no_check no_fetch no_store no_expunge no_close = refl
-selected-other meanings tag mode account folder read_only store command.Noop no_check no_fetch no_store no_expunge no_close = refl
-selected-other meanings tag mode account folder read_only store command.Check no_check no_fetch no_store no_expunge no_close = absurd (no_check refl)
-selected-other meanings tag mode account folder read_only store command.Logout no_check no_fetch no_store no_expunge no_close = refl
-selected-other meanings tag mode account folder read_only store (command.Login user password) no_check no_fetch no_store no_expunge no_close = refl
-selected-other meanings tag mode account folder read_only store (command.Enable words) no_check no_fetch no_store no_expunge no_close = refl
-selected-other meanings tag mode account folder read_only store (command.Select written) no_check no_fetch no_store no_expunge no_close = refl
-selected-other meanings tag mode account folder read_only store (command.Examine written) no_check no_fetch no_store no_expunge no_close = refl
-selected-other meanings tag mode account folder read_only store (command.Create written) no_check no_fetch no_store no_expunge no_close = refl
-selected-other meanings tag mode account folder read_only store (command.List reference pattern) no_check no_fetch no_store no_expunge no_close = refl
-selected-other meanings tag mode account folder read_only store (command.Status written items) no_check no_fetch no_store no_expunge no_close = refl
-selected-other meanings tag mode account folder read_only store (command.Append written flags date utf8 octets) no_check no_fetch no_store no_expunge no_close = refl
-selected-other meanings tag mode account folder read_only store (command.Fetch by_uid set items) no_check no_fetch no_store no_expunge no_close = absurd (no_fetch by_uid set items refl)
-selected-other meanings tag mode account folder read_only store (command.Store by_uid set op silent flags) no_check no_fetch no_store no_expunge no_close = absurd (no_store by_uid set op silent flags refl)
-selected-other meanings tag mode account folder read_only store command.Expunge no_check no_fetch no_store no_expunge no_close = absurd (no_expunge refl)
-selected-other meanings tag mode account folder read_only store command.Close no_check no_fetch no_store no_expunge no_close = absurd (no_close refl)
-selected-other meanings tag mode account folder read_only store command.NotHere no_check no_fetch no_store no_expunge no_close = refl
+    → mailbox_step meanings now tag (selected mode account folder read_only) mode account store c ≡ selected_step meanings now tag mode account folder read_only store c
+selected-other meanings now tag mode account folder read_only store command.Capability no_check no_fetch no_store no_expunge no_close = refl
+selected-other meanings now tag mode account folder read_only store command.Noop no_check no_fetch no_store no_expunge no_close = refl
+selected-other meanings now tag mode account folder read_only store command.Check no_check no_fetch no_store no_expunge no_close = absurd (no_check refl)
+selected-other meanings now tag mode account folder read_only store command.Logout no_check no_fetch no_store no_expunge no_close = refl
+selected-other meanings now tag mode account folder read_only store (command.Login user password) no_check no_fetch no_store no_expunge no_close = refl
+selected-other meanings now tag mode account folder read_only store (command.Enable words) no_check no_fetch no_store no_expunge no_close = refl
+selected-other meanings now tag mode account folder read_only store (command.Select written) no_check no_fetch no_store no_expunge no_close = refl
+selected-other meanings now tag mode account folder read_only store (command.Examine written) no_check no_fetch no_store no_expunge no_close = refl
+selected-other meanings now tag mode account folder read_only store (command.Create written) no_check no_fetch no_store no_expunge no_close = refl
+selected-other meanings now tag mode account folder read_only store (command.List reference pattern) no_check no_fetch no_store no_expunge no_close = refl
+selected-other meanings now tag mode account folder read_only store (command.Status written items) no_check no_fetch no_store no_expunge no_close = refl
+selected-other meanings now tag mode account folder read_only store (command.Append written flags date utf8 octets) no_check no_fetch no_store no_expunge no_close = refl
+selected-other meanings now tag mode account folder read_only store (command.Fetch by_uid set items) no_check no_fetch no_store no_expunge no_close = absurd (no_fetch by_uid set items refl)
+selected-other meanings now tag mode account folder read_only store (command.Store by_uid set op silent flags) no_check no_fetch no_store no_expunge no_close = absurd (no_store by_uid set op silent flags refl)
+selected-other meanings now tag mode account folder read_only store command.Expunge no_check no_fetch no_store no_expunge no_close = absurd (no_expunge refl)
+selected-other meanings now tag mode account folder read_only store command.Close no_check no_fetch no_store no_expunge no_close = absurd (no_close refl)
+selected-other meanings now tag mode account folder read_only store command.NotHere no_check no_fetch no_store no_expunge no_close = refl

@@ -1,5 +1,5 @@
 -- Sessions over pieces of a stream, and what is due in them.
-use Rattle.std.proofs.Common.{◌≡◌, ℕ, zero, suc, ◌+◌, ◌-◌, ◌<◌, ◌≤◌, List, [], ◌∷◌, ◌++◌, length, take, drop, Option, Some, None, inl, inr, refl, sym, ap, ◌∙◌, subst, append_assoc, append-nil, length-append, arith, Bool, ◌⊎◌, codes}
+use Rattle.std.proofs.Common.{◌≡◌, ℕ, zero, suc, ◌+◌, ◌-◌, ◌<◌, ◌≤◌, List, [], ◌∷◌, ◌++◌, length, take, drop, Option, Some, None, inl, inr, refl, sym, ap, ◌∙◌, subst, append_assoc, append-nil, length-append, arith, Bool, ◌⊎◌, codes, false}
 use Rattle.std.specs.Prelude.{Result, Ok, Err, IfOk, MatchResult}
 use Rattle.std.specs.Option.{option_map}
 use Rattle.std.proofs.lemmas.List.{drop_all, take-append-le}
@@ -30,22 +30,23 @@ use Rattle.session_core.specs.Moments.{Moment, IsTold}
 use Rattle.session_core.specs.Steps.{Begins, StandsAfter, Steps, StepsBy, IsReadyAfter}
 use Rattle.session_core.specs.declared.desk.Desk.{Desk}
 use Rattle.session_core.specs.declared.machine.Came.{Came}
-use Rattle.session_core.proofs.DoingLemmas.{Does-replies, DoesFirst-none}
+use Rattle.session_core.proofs.DoingLemmas.{Does-replies, DoesAll-nil, DoesFirst-none}
 use Rattle.session_core.proofs.MeaningLemmas.{meanings_given}
 use Rattle.session_core.specs.Turns.{all_turns}
 use Rattle.session_core.proofs.StepLemmas.{StepsBy-turn, StepsBy-fails, StepsBy-waits}
 use Rattle.std.specs.List.{All}
 use Rattle.std.proofs.lemmas.List.Elements.{All-nil}
+use Rattle.imap_session.specs.CommandLaws.{said_of}
 use Rattle.imap_session.specs.ImapLaws.{at_due, framed_by}
 use Rattle.imap_session.specs.Machine.{State, Step, ended, line, mode_of, not_authenticated, reply, untagged}
 use Rattle.imap_session.specs.Replies.{ReplyPart, part_octets}
-use Rattle.imap_session.specs.Session.{ImapReady, ImapStands, KnowsState, Machine, TakesStep, due_step, due_turn, greeting, imap_protocol, machine_next, next_turn, state_of, state_or_ended, turn_from}
+use Rattle.imap_session.specs.Session.{ImapReady, ImapStands, IsSaidIn, KnowsState, Machine, TakesStep, TakesStepAt, date_at, due_step, due_turn, event_takes, greeting, imap_protocol, machine_next, moments_behind, next_turn, state_of, state_or_ended, turn_from}
 use Rattle.imap_session.specs.declared.session.ImapMachine.{ImapMachine}
 use Rattle.imap_session.specs.declared.states.ImapState.{ImapState}
 use Rattle.imap_session.specs.declared.states.ImapState.TheVariants as imap
 use Rattle.imap_session.specs.private.Lines.{bad_octets, due_octets}
 use Rattle.imap_session.proofs.LineLemmas.{tagged_reply}
-use Rattle.imap_session.proofs.StepLemmas.{says_given, Takes-fault, Takes-next}
+use Rattle.imap_session.proofs.StepLemmas.{says_given, Takes-fault, Takes-next, TakesAt-plain}
 
 -- the event leaves the state, and is no command
 abbrev pub IsPlain : Event → Type 0
@@ -158,15 +159,15 @@ seen_same seen rest piece used TooLong other = refl
 -- ---- the reader behind what was due
 
 -- where no octets of a command were kept, a reader reads in whatever mode comes
-reads_behind : (meanings : Meanings) (state : State) (store : StoreState) (reader : Reader) (seen piece : List ℕ) (used : ℕ) (event : Event)
-    → HasSeen (is_enabled (mode_of state)) reader (seen_after seen piece used event) → HasSeen (is_enabled (mode_of (due_step meanings state store event).state)) reader (seen_after seen piece used event)
-reads_behind meanings state store reader seen piece used More s = s
-reads_behind meanings state store reader seen piece used Go s = s
-reads_behind meanings state store reader seen piece used (Command tag said) s = stands_anew _ _ reader s
-reads_behind meanings state store reader seen piece used (Bad (Some tag) at) s = s
-reads_behind meanings state store reader seen piece used (Bad None at) s = s
-reads_behind meanings state store reader seen piece used (TooLarge tag) s = s
-reads_behind meanings state store reader seen piece used TooLong s = stands_anew _ _ reader s
+reads_behind : (meanings : Meanings) (now : List ℕ) (state : State) (store : StoreState) (reader : Reader) (seen piece : List ℕ) (used : ℕ) (event : Event)
+    → HasSeen (is_enabled (mode_of state)) reader (seen_after seen piece used event) → HasSeen (is_enabled (mode_of (due_step meanings now state store event).state)) reader (seen_after seen piece used event)
+reads_behind meanings now state store reader seen piece used More s = s
+reads_behind meanings now state store reader seen piece used Go s = s
+reads_behind meanings now state store reader seen piece used (Command tag said) s = stands_anew _ _ reader s
+reads_behind meanings now state store reader seen piece used (Bad (Some tag) at) s = s
+reads_behind meanings now state store reader seen piece used (Bad None at) s = s
+reads_behind meanings now state store reader seen piece used (TooLarge tag) s = s
+reads_behind meanings now state store reader seen piece used TooLong s = stands_anew _ _ reader s
 
 -- ---- turns
 
@@ -232,58 +233,70 @@ module _ (a b : Around) (session : ImapMachine) (reader : Reader) (piece : List 
       (due_found meanings are utf8 machine.seen (rest ++ piece) (length rest + used) event other (tells_whole utf8 machine.seen rest piece used event other has.quiet told))
 
   step_same : (meanings : Meanings) (more : List Moment) (kept : List ℕ) (machine : Machine) (rest : List ℕ) → ImapStands more session kept a.desk machine rest
-      → due_step meanings machine.state machine.store event ≡ due_step meanings (state_of session.state) a.desk.store event
+      → due_step meanings (date_at machine.moments) machine.state machine.store event ≡ due_step meanings (date_at more) (state_of session.state) a.desk.store event
   step_same meanings more kept machine rest has =
-      ap (λ state. due_step meanings state machine.store event) has.state_is ∙ ap (λ store. due_step meanings (state_of session.state) store event) has.store_is
+      ap (λ state. due_step meanings (date_at machine.moments) state machine.store event) has.state_is
+      ∙ (ap (λ store. due_step meanings (date_at machine.moments) (state_of session.state) store event) has.store_is
+      ∙ ap (λ (moments : List Moment). due_step meanings (date_at moments) (state_of session.state) a.desk.store event) has.moments_are)
+
+  -- what was due was done, or broken off
+  abbrev Answers : Result (Option ImapState) Fault → Type 0
+  Answers result = TakesStepAt a b result (event_takes (state_of session.state) event) (λ meanings now. due_step meanings now (state_of session.state) a.desk.store event)
 
   -- a fault broke off what was due
-  Steps-fails : (kept keeps : List ℕ) (met : Fault) → (event ≡ More → ⊥) → TakesStep a b (Err met) (λ meanings. due_step meanings (state_of session.state) a.desk.store event)
+  Steps-fails : (kept keeps : List ℕ) (met : Fault) → (event ≡ More → ⊥) → Answers (Err met)
       → Steps imap_protocol ImapStands a b session kept keeps piece (Err met)
   Steps-fails kept keeps met other takes = record {
-    told = [];
-    are_told = All-nil (IsTold a.clock);
+    told = takes.told;
+    are_told = takes.are_told;
     steps = λ meanings are more machine rest has.
-        StepsBy-fails imap_protocol ImapStands meanings (framed_by meanings are) a b keeps piece more met machine (rest ++ piece) _ (found_in meanings are more kept machine rest other has)
-        (subst (λ (step : Step). DoesFirst (part_octets meanings) a b met step.acts) (sym (step_same meanings more kept machine rest has)) (takes.does meanings are));
+        StepsBy-fails imap_protocol ImapStands meanings (framed_by meanings are) a b keeps piece more met machine (rest ++ piece) _ (found_in meanings are (takes.told ++ more) kept machine rest other has)
+        (subst (λ (step : Step). DoesFirst (part_octets meanings) a b met step.acts) (sym (step_same meanings (takes.told ++ more) kept machine rest has)) ((takes.steps more).does meanings are));
   }
 
   -- what the session stands for behind what was due
-  stands_behind : (meanings : Meanings) (more : List Moment) (kept keeps : List ℕ) (machine : Machine) (rest : List ℕ) (next : Option ImapState) → (event ≡ More → ⊥) → ImapStands more session kept a.desk machine rest
-      → DoesAll (part_octets meanings) a b (due_step meanings machine.state machine.store event).acts → state_or_ended next ≡ (due_step meanings machine.state machine.store event).state
+  stands_behind : (meanings : Meanings) (all more : List Moment) (kept keeps : List ℕ) (machine : Machine) (rest : List ℕ) (next : Option ImapState) → (event ≡ More → ⊥) → ImapStands all session kept a.desk machine rest
+      → moments_behind (event_takes (state_of session.state) event) all ≡ more
+      → DoesAll (part_octets meanings) a b (due_step meanings (date_at machine.moments) machine.state machine.store event).acts
+      → state_or_ended next ≡ (due_step meanings (date_at machine.moments) machine.state machine.store event).state
       → StandsAfter imap_protocol ImapStands more (machine_next reader next) keeps b.desk (due_turn meanings machine (rest ++ piece) (record { used = length rest + used; event = event })).after []
-  stands_behind meanings more kept keeps machine rest None other has does next_is = sym next_is
-  stands_behind meanings more kept keeps machine rest (Some state) other has does next_is =
+  stands_behind meanings all more kept keeps machine rest None other has left does next_is = sym next_is
+  stands_behind meanings all more kept keeps machine rest (Some state) other has left does next_is =
       let utf8 = is_enabled (mode_of machine.state) in
       let seen = machine.seen ++ rest in
-      let step = due_step meanings machine.state machine.store event in
-      let now = subst (λ z. HasSeen utf8 reader z) (seen_same machine.seen rest piece used event other)
+      let now = date_at machine.moments in
+      let step = due_step meanings now machine.state machine.store event in
+      let reads = subst (λ z. HasSeen utf8 reader z) (seen_same machine.seen rest piece used event other)
       (subst (λ z. HasSeen (is_enabled (mode_of z)) reader (seen_after seen piece used event)) (sym has.state_is) (feeds.stands seen (own_reads machine rest has.state_is has.reads))) in
       let after = seen_after machine.seen (rest ++ piece) (length rest + used) event in
       record {
         state_is = sym next_is;
         store_is = sym (does.follows.store ∙ ap (λ store. with_records store (records_of (changes_in step.acts))) (sym has.store_is));
-        reads = subst (λ z. HasSeen (is_enabled (mode_of step.state)) reader z) (sym (append-nil after)) (reads_behind meanings machine.state machine.store reader machine.seen (rest ++ piece) (length rest + used) event now);
+        moments_are = ap (λ state. moments_behind (event_takes state event) machine.moments) has.state_is
+            ∙ (ap (λ moments. moments_behind (event_takes (state_of session.state) event) moments) has.moments_are ∙ left);
+        reads = subst (λ z. HasSeen (is_enabled (mode_of step.state)) reader z) (sym (append-nil after)) (reads_behind meanings now machine.state machine.store reader machine.seen (rest ++ piece) (length rest + used) event reads);
         quiet = λ n some below event due. absurd (omega (arith, some, below));
       }
 
   -- what was due was done
-  Steps-due : (kept keeps : List ℕ) (next : Option ImapState) → (event ≡ More → ⊥) → TakesStep a b (Ok next) (λ meanings. due_step meanings (state_of session.state) a.desk.store event)
+  Steps-due : (kept keeps : List ℕ) (next : Option ImapState) → (event ≡ More → ⊥) → Answers (Ok next)
       → Steps imap_protocol ImapStands a b session kept keeps piece (Ok (record { next = machine_next reader next; used = used }))
   Steps-due kept keeps next other takes = record {
-    told = [];
-    are_told = All-nil (IsTold a.clock);
+    told = takes.told;
+    are_told = takes.are_told;
     steps = λ meanings are more machine rest has.
-        let same = sym (step_same meanings more kept machine rest has) in
-        let does = subst (λ (step : Step). DoesAll (part_octets meanings) a b step.acts) same (takes.does meanings are) in
-        let next_is = subst (λ (step : Step). state_or_ended next ≡ step.state) same (takes.next meanings are) in
+        let all = takes.told ++ more in
+        let same = sym (step_same meanings all kept machine rest has) in
+        let does = subst (λ (step : Step). DoesAll (part_octets meanings) a b step.acts) same ((takes.steps more).does meanings are) in
+        let next_is = subst (λ (step : Step). state_or_ended next ≡ step.state) same ((takes.steps more).next meanings are) in
         StepsBy-turn imap_protocol ImapStands meanings (framed_by meanings are) a b (record { next = machine_next reader next; used = used }) keeps piece more [] machine (rest ++ piece) _
-        (found_in meanings are more kept machine rest other has) does (stands_behind meanings more kept keeps machine rest next other has does next_is) (drop_past rest piece used);
+        (found_in meanings are all kept machine rest other has) does (stands_behind meanings all more kept keeps machine rest next other has (takes.count more) does next_is) (drop_past rest piece used);
   }
 
-  waits_stand : (meanings : Meanings) → (more : List Moment) (kept keeps : List ℕ) (machine : Machine) (rest : List ℕ) (next : Option ImapState) → event ≡ More → ImapStands more session kept a.desk machine rest
-      → DoesAll (part_octets meanings) a b [] → state_or_ended next ≡ state_of session.state → StandsAfter imap_protocol ImapStands more (machine_next reader next) keeps b.desk machine (rest ++ piece)
-  waits_stand meanings more kept keeps machine rest None waits has does next_is = absurd (not_ended session.state next_is)
-  waits_stand meanings more kept keeps machine rest (Some state) waits has does next_is =
+  waits_stand : (meanings : Meanings) → (all more : List Moment) (kept keeps : List ℕ) (machine : Machine) (rest : List ℕ) (next : Option ImapState) → event ≡ More → ImapStands all session kept a.desk machine rest
+      → all ≡ more → DoesAll (part_octets meanings) a b [] → state_or_ended next ≡ state_of session.state → StandsAfter imap_protocol ImapStands more (machine_next reader next) keeps b.desk machine (rest ++ piece)
+  waits_stand meanings all more kept keeps machine rest None waits has left does next_is = absurd (not_ended session.state next_is)
+  waits_stand meanings all more kept keeps machine rest (Some state) waits has left does next_is =
       let utf8 = is_enabled (mode_of machine.state) in
       let seen = machine.seen ++ rest in
       let own = own_reads machine rest has.state_is has.reads in
@@ -295,22 +308,26 @@ module _ (a b : Around) (session : ImapMachine) (reader : Reader) (piece : List 
       record {
         state_is = has.state_is ∙ sym next_is;
         store_is = has.store_is ∙ sym does.follows.store;
+        moments_are = has.moments_are ∙ left;
         reads = subst (λ z. HasSeen utf8 reader z) (append_assoc machine.seen rest piece) now;
         quiet = subst (λ n. NothingBefore utf8 machine.seen (rest ++ piece) n) (omega (arith, size)) (quiet_both utf8 machine.seen rest piece (length piece + 1) has.quiet told.1);
       }
 
   -- nothing was due
-  Steps-waits : (kept keeps : List ℕ) (next : Option ImapState) → event ≡ More → TakesStep a b (Ok next) (λ meanings. due_step meanings (state_of session.state) a.desk.store event)
+  Steps-waits : (kept keeps : List ℕ) (next : Option ImapState) → event ≡ More → Answers (Ok next)
       → Steps imap_protocol ImapStands a b session kept keeps piece (Ok (record { next = machine_next reader next; used = used }))
   Steps-waits kept keeps next waits takes = record {
-    told = [];
-    are_told = All-nil (IsTold a.clock);
+    told = takes.told;
+    are_told = takes.are_told;
     steps = λ meanings are more machine rest has.
-        let does = subst (λ e. DoesAll (part_octets meanings) a b (due_step meanings (state_of session.state) a.desk.store e).acts) waits (takes.does meanings are) in
-        let next_is = subst (λ e. state_or_ended next ≡ (due_step meanings (state_of session.state) a.desk.store e).state) waits (takes.next meanings are) in
+        let all = takes.told ++ more in
+        let state = state_of session.state in
+        let left = subst (λ e. moments_behind (event_takes state e) all ≡ more) waits (takes.count more) in
+        let does = subst (λ e. DoesAll (part_octets meanings) a b (due_step meanings (date_at all) state a.desk.store e).acts) waits ((takes.steps more).does meanings are) in
+        let next_is = subst (λ e. state_or_ended next ≡ (due_step meanings (date_at all) state a.desk.store e).state) waits ((takes.steps more).next meanings are) in
         let told = subst (λ z. Tells (is_enabled (mode_of (state_of session.state))) (machine.seen ++ rest) piece used z) waits (feeds.tells (machine.seen ++ rest) (own_reads machine rest has.state_is has.reads)) in
-        let all = told.0 in
-        let none : drop used piece ≡ [] = drop_all used piece (omega (arith, all)) in
+        let whole = told.0 in
+        let none : drop used piece ≡ [] = drop_all used piece (omega (arith, whole)) in
         record {
           acts = [];
           turn = all_turns (next_turn meanings) machine (rest ++ piece);
@@ -319,35 +336,35 @@ module _ (a b : Around) (session : ImapMachine) (reader : Reader) (piece : List 
           stays = record {
             state = machine;
             rest = rest ++ piece;
-            has = waits_stand meanings more kept keeps machine rest next waits has does next_is;
+            has = waits_stand meanings all more kept keeps machine rest next waits has left does next_is;
             turn_is = ap (λ l. all_turns (next_turn meanings) machine l) (sym (append-nil (rest ++ piece)) ∙ ap (λ z. (rest ++ piece) ++ z) (sym none));
           };
         };
   }
 
-  waits_fail : (kept keeps : List ℕ) (met : Fault) → event ≡ More → TakesStep a b (Err met) (λ meanings. due_step meanings (state_of session.state) a.desk.store event)
+  waits_fail : (kept keeps : List ℕ) (met : Fault) → event ≡ More → Answers (Err met)
       → Steps imap_protocol ImapStands a b session kept keeps piece (Err met)
   waits_fail kept keeps met waits takes = record {
-    told = [];
-    are_told = All-nil (IsTold a.clock);
+    told = takes.told;
+    are_told = takes.are_told;
     steps = λ meanings are more machine rest has. record {
       acts = [];
       turn = all_turns (next_turn meanings) machine (rest ++ piece);
       turns_are = refl;
-      does = subst (λ e. DoesFirst (part_octets meanings) a b met (due_step meanings (state_of session.state) a.desk.store e).acts) waits (takes.does meanings are);
+      does = subst (λ e. DoesFirst (part_octets meanings) a b met (due_step meanings (date_at (takes.told ++ more)) (state_of session.state) a.desk.store e).acts) waits ((takes.steps more).does meanings are);
       stays = tt;
     };
   }
 
   -- whatever was due
-  pub Steps-broken : (kept keeps : List ℕ) (met : Fault) → TakesStep a b (Err met) (λ meanings. due_step meanings (state_of session.state) a.desk.store event)
+  pub Steps-broken : (kept keeps : List ℕ) (met : Fault) → Answers (Err met)
       → Steps imap_protocol ImapStands a b session kept keeps piece (Err met)
   Steps-broken kept keeps met takes = elim (waits_or_not event) [
     | inl waits ↦ waits_fail kept keeps met waits takes
     | inr other ↦ Steps-fails kept keeps met other takes
   ]
 
-  pub Steps-taken : (kept keeps : List ℕ) (next : Option ImapState) → TakesStep a b (Ok next) (λ meanings. due_step meanings (state_of session.state) a.desk.store event)
+  pub Steps-taken : (kept keeps : List ℕ) (next : Option ImapState) → Answers (Ok next)
       → Steps imap_protocol ImapStands a b session kept keeps piece (Ok (record { next = machine_next reader next; used = used }))
   Steps-taken kept keeps next takes = elim (waits_or_not event) [
     | inl waits ↦ Steps-waits kept keeps next waits takes
@@ -365,17 +382,29 @@ module _ (a b : Around) (session : ImapMachine) (reader : Reader) (piece : List 
   pub used_bound : (kept : List ℕ) (desk : Desk) → ImapReady session kept desk → 0 < length piece → (0 < used) × (used ≤ length piece)
   used_bound kept desk ready some = used_in (is_enabled (mode_of (state_of session.state))) ready.seen event some (feeds.tells ready.seen ready.reads)
 
-  pub ready_behind : (kept : List ℕ) (desk : Desk) (next : Option ImapState) → ImapReady session kept desk → TakesStep a b (Ok next) (λ meanings. due_step meanings (state_of session.state) a.desk.store event)
+  said_in : (utf8 : Bool) (seen : List ℕ) (e : Event) → Tells utf8 seen piece used e → IsSaidIn e
+  said_in utf8 seen More told = tt
+  said_in utf8 seen Go told = tt
+  said_in utf8 seen (Command tag said) told = said_of utf8 (seen ++ take used piece) (Command tag said) told.3
+  said_in utf8 seen (Bad tag at) told = tt
+  said_in utf8 seen (TooLarge tag) told = tt
+  said_in utf8 seen TooLong told = tt
+
+  -- what a command says is as its step needs it
+  pub said_now : (kept : List ℕ) (desk : Desk) → ImapReady session kept desk → IsSaidIn event
+  said_now kept desk ready = said_in (is_enabled (mode_of (state_of session.state))) ready.seen event (feeds.tells ready.seen ready.reads)
+
+  pub ready_behind : (kept : List ℕ) (desk : Desk) (next : Option ImapState) → ImapReady session kept desk → Answers (Ok next)
       → IsReadyAfter ImapReady (record { next = machine_next reader next; used = used }) kept b.desk
   ready_behind kept desk None ready takes = tt
   ready_behind kept desk (Some state) ready takes =
       let meanings = meanings_given in
       record {
         nothing_kept = ready.nothing_kept;
-        known = takes.known;
+        known = (takes.steps []).known;
         seen = seen_after ready.seen piece used event;
-        reads = subst (λ s. HasSeen (is_enabled (mode_of s)) reader (seen_after ready.seen piece used event)) (sym (takes.next meanings.0 meanings.1))
-            (reads_behind meanings.0 (state_of session.state) a.desk.store reader ready.seen piece used event (feeds.stands ready.seen ready.reads));
+        reads = subst (λ s. HasSeen (is_enabled (mode_of s)) reader (seen_after ready.seen piece used event)) (sym ((takes.steps []).next meanings.0 meanings.1))
+            (reads_behind meanings.0 (date_at (takes.told ++ [])) (state_of session.state) a.desk.store reader ready.seen piece used event (feeds.stands ready.seen ready.reads));
       }
 
 -- ---- the greeting
@@ -393,6 +422,7 @@ Begins-given a b session state_is reads replies =
       stands_for = λ moments. record {
         state_is = sym state_is;
         store_is = sym given.follows.store;
+        moments_are = refl;
         reads = reads (is_enabled (mode_of not_authenticated));
         quiet = λ n some below event due. absurd (omega (arith, some, below));
       };
@@ -403,43 +433,72 @@ Begins-fails a b met replies = record { does = λ meanings are. greeting_does me
 
 -- ---- what is due is answered
 
--- a reply that leaves the state
-pub due_given : (meanings : Meanings) (a b : Around) (met : Option Fault) (state : State) (store : StoreState) (event : Event) → IsPlain event → Replies a b met (due_octets event)
-    → Does (part_octets meanings) a b met (due_step meanings state store event).acts
-due_given meanings a b met state store More plain replies = Does-replies (part_octets meanings) a b met [] replies
-due_given meanings a b met state store Go plain replies = Does-replies (part_octets meanings) a b met (line (codes "+ go") ∷ []) replies
-due_given meanings a b met state store (Command tag said) plain replies = absurd plain
-due_given meanings a b met state store (Bad (Some tag) at) plain replies = says_given meanings a b met tag (codes "BAD syntax") state replies
-due_given meanings a b met state store (Bad None at) plain replies = Does-replies (part_octets meanings) a b met (untagged (codes "BAD syntax") ∷ []) replies
-due_given meanings a b met state store (TooLarge tag) plain replies = says_given meanings a b met tag (codes "NO too large") state replies
-due_given meanings a b met state store TooLong plain replies = absurd plain
+-- nothing yet
+pub TakesAt-more : (a : Around) (session : ImapState) → KnowsState a.desk.store session
+    → TakesStepAt a a (Ok (Some session)) false (λ meanings now. due_step meanings now (state_of session) a.desk.store More)
+TakesAt-more a session known =
+    TakesAt-plain a a (Ok (Some session)) false (λ meanings now. due_step meanings now (state_of session) a.desk.store More) refl
+    (λ now. Takes-next a a (Some session) (λ meanings. due_step meanings now (state_of session) a.desk.store More) (λ meanings are. DoesAll-nil (part_octets meanings) a) (λ meanings are. refl) known)
 
-pub plain_state : (meanings : Meanings) (state : State) (store : StoreState) (event : Event) → IsPlain event → (due_step meanings state store event).state ≡ state
-plain_state meanings state store More plain = refl
-plain_state meanings state store Go plain = refl
-plain_state meanings state store (Command tag said) plain = absurd plain
-plain_state meanings state store (Bad (Some tag) at) plain = refl
-plain_state meanings state store (Bad None at) plain = refl
-plain_state meanings state store (TooLarge tag) plain = refl
-plain_state meanings state store TooLong plain = absurd plain
+-- a reply that leaves the state
+due_given : (meanings : Meanings) (a b : Around) (met : Option Fault) (now : List ℕ) (state : State) (store : StoreState) (event : Event) → IsPlain event → Replies a b met (due_octets event)
+    → Does (part_octets meanings) a b met (due_step meanings now state store event).acts
+due_given meanings a b met now state store More plain replies = Does-replies (part_octets meanings) a b met [] replies
+due_given meanings a b met now state store Go plain replies = Does-replies (part_octets meanings) a b met (line (codes "+ go") ∷ []) replies
+due_given meanings a b met now state store (Command tag said) plain replies = absurd plain
+due_given meanings a b met now state store (Bad (Some tag) at) plain replies = says_given meanings a b met tag (codes "BAD syntax") state replies
+due_given meanings a b met now state store (Bad None at) plain replies = Does-replies (part_octets meanings) a b met (untagged (codes "BAD syntax") ∷ []) replies
+due_given meanings a b met now state store (TooLarge tag) plain replies = says_given meanings a b met tag (codes "NO too large") state replies
+due_given meanings a b met now state store TooLong plain replies = absurd plain
+
+plain_state : (meanings : Meanings) (now : List ℕ) (state : State) (store : StoreState) (event : Event) → IsPlain event → (due_step meanings now state store event).state ≡ state
+plain_state meanings now state store More plain = refl
+plain_state meanings now state store Go plain = refl
+plain_state meanings now state store (Command tag said) plain = absurd plain
+plain_state meanings now state store (Bad (Some tag) at) plain = refl
+plain_state meanings now state store (Bad None at) plain = refl
+plain_state meanings now state store (TooLarge tag) plain = refl
+plain_state meanings now state store TooLong plain = absurd plain
+
+plain_takes : (state : State) (event : Event) → IsPlain event → event_takes state event ≡ false
+plain_takes state More plain = refl
+plain_takes state Go plain = refl
+plain_takes state (Command tag said) plain = absurd plain
+plain_takes state (Bad tag at) plain = refl
+plain_takes state (TooLarge tag) plain = refl
+plain_takes state TooLong plain = refl
 
 -- the state of an answer that keeps the session, or a fault
-pub Takes-kept : (a b : Around) (session : ImapState) (given : Result (Unit {0}) Fault) (result : Result (Option ImapState) Fault) (event : Event) → IsPlain event
+kept_step : (a b : Around) (session : ImapState) (given : Result (Unit {0}) Fault) (result : Result (Option ImapState) Fault) (event : Event) (now : List ℕ) → IsPlain event
     → MatchResult given (λ done. result ≡ Ok (Some session)) (λ met. result ≡ Err met) → Replies a b (fault_of given) (due_octets event) → KnowsState b.desk.store session
-    → TakesStep a b result (λ meanings. due_step meanings (state_of session) a.desk.store event)
-Takes-kept a b session (Ok done) result event plain kept replies known =
-    rw kept (Takes-next a b (Some session) (λ meanings. due_step meanings (state_of session) a.desk.store event)
-    (λ meanings are. due_given meanings a b None (state_of session) a.desk.store event plain replies) (λ meanings are. sym (plain_state meanings (state_of session) a.desk.store event plain)) known)
-Takes-kept a b session (Err met) result event plain kept replies known =
-    rw kept (Takes-fault a b met (λ meanings. due_step meanings (state_of session) a.desk.store event)
-    (λ meanings are. due_given meanings a b (Some met) (state_of session) a.desk.store event plain replies))
+    → TakesStep a b result (λ meanings. due_step meanings now (state_of session) a.desk.store event)
+kept_step a b session (Ok done) result event now plain kept replies known =
+    rw kept (Takes-next a b (Some session) (λ meanings. due_step meanings now (state_of session) a.desk.store event)
+    (λ meanings are. due_given meanings a b None now (state_of session) a.desk.store event plain replies) (λ meanings are. sym (plain_state meanings now (state_of session) a.desk.store event plain)) known)
+kept_step a b session (Err met) result event now plain kept replies known =
+    rw kept (Takes-fault a b met (λ meanings. due_step meanings now (state_of session) a.desk.store event)
+    (λ meanings are. due_given meanings a b (Some met) now (state_of session) a.desk.store event plain replies))
 
-over_does : (meanings : Meanings) (a b : Around) (met : Option Fault) (state : State) (store : StoreState) → Replies a b met (codes "* BYE line too long\r\n") → Does (part_octets meanings) a b met (due_step meanings state store TooLong).acts
-over_does meanings a b met state store replies = Does-replies (part_octets meanings) a b met (untagged (codes "BYE line too long") ∷ []) replies
+pub TakesAt-kept : (a b : Around) (session : ImapState) (given : Result (Unit {0}) Fault) (result : Result (Option ImapState) Fault) (event : Event) → IsPlain event
+    → MatchResult given (λ done. result ≡ Ok (Some session)) (λ met. result ≡ Err met) → Replies a b (fault_of given) (due_octets event) → KnowsState b.desk.store session
+    → TakesStepAt a b result (event_takes (state_of session) event) (λ meanings now. due_step meanings now (state_of session) a.desk.store event)
+TakesAt-kept a b session given result event plain kept replies known =
+    TakesAt-plain a b result (event_takes (state_of session) event) (λ meanings now. due_step meanings now (state_of session) a.desk.store event) (plain_takes (state_of session) event plain)
+    (λ now. kept_step a b session given result event now plain kept replies known)
 
-pub Takes-over : (a b : Around) (session : ImapState) (given : Result (Unit {0}) Fault) (result : Result (Option ImapState) Fault) → MatchResult given (λ done. result ≡ Ok None) (λ met. result ≡ Err met)
-    → Replies a b (fault_of given) (codes "* BYE line too long\r\n") → TakesStep a b result (λ meanings. due_step meanings (state_of session) a.desk.store TooLong)
-Takes-over a b session (Ok done) result kept replies =
-    rw kept (Takes-next a b None (λ meanings. due_step meanings (state_of session) a.desk.store TooLong) (λ meanings are. over_does meanings a b None (state_of session) a.desk.store replies) (λ meanings are. refl) tt)
-Takes-over a b session (Err met) result kept replies =
-    rw kept (Takes-fault a b met (λ meanings. due_step meanings (state_of session) a.desk.store TooLong) (λ meanings are. over_does meanings a b (Some met) (state_of session) a.desk.store replies))
+over_does : (meanings : Meanings) (a b : Around) (met : Option Fault) (now : List ℕ) (state : State) (store : StoreState) → Replies a b met (codes "* BYE line too long\r\n")
+    → Does (part_octets meanings) a b met (due_step meanings now state store TooLong).acts
+over_does meanings a b met now state store replies = Does-replies (part_octets meanings) a b met (untagged (codes "BYE line too long") ∷ []) replies
+
+over_step : (a b : Around) (session : ImapState) (given : Result (Unit {0}) Fault) (result : Result (Option ImapState) Fault) (now : List ℕ) → MatchResult given (λ done. result ≡ Ok None) (λ met. result ≡ Err met)
+    → Replies a b (fault_of given) (codes "* BYE line too long\r\n") → TakesStep a b result (λ meanings. due_step meanings now (state_of session) a.desk.store TooLong)
+over_step a b session (Ok done) result now kept replies =
+    rw kept (Takes-next a b None (λ meanings. due_step meanings now (state_of session) a.desk.store TooLong) (λ meanings are. over_does meanings a b None now (state_of session) a.desk.store replies) (λ meanings are. refl) tt)
+over_step a b session (Err met) result now kept replies =
+    rw kept (Takes-fault a b met (λ meanings. due_step meanings now (state_of session) a.desk.store TooLong) (λ meanings are. over_does meanings a b (Some met) now (state_of session) a.desk.store replies))
+
+-- the session is over
+pub TakesAt-over : (a b : Around) (session : ImapState) (given : Result (Unit {0}) Fault) (result : Result (Option ImapState) Fault) → MatchResult given (λ done. result ≡ Ok None) (λ met. result ≡ Err met)
+    → Replies a b (fault_of given) (codes "* BYE line too long\r\n") → TakesStepAt a b result false (λ meanings now. due_step meanings now (state_of session) a.desk.store TooLong)
+TakesAt-over a b session given result kept replies =
+    TakesAt-plain a b result false (λ meanings now. due_step meanings now (state_of session) a.desk.store TooLong) refl (λ now. over_step a b session given result now kept replies)

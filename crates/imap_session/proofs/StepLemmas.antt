@@ -1,9 +1,10 @@
 -- Steps of commands, as they are carried out.
 use Rattle.std.proofs.Common.{◌≡◌, ℕ, List, [], ◌∷◌, ◌++◌, Option, Some, None, refl, sym, ap, ◌∙◌, subst}
-use Rattle.std.specs.Prelude.{Result, Ok, Err, IfOk}
-use Rattle.std.specs.List.{flat_map}
+use Rattle.std.specs.Prelude.{Result, Ok, Err, IfOk, Bool, true, false, is_some, not, if◌then◌else◌}
+use Rattle.std.specs.List.{All, flat_map}
 use Rattle.std.proofs.lemmas.List.{map-append}
 use Rattle.std.proofs.lemmas.List.Concat.{flat_map-append}
+use Rattle.std.proofs.lemmas.List.Elements.{All-from_recursion, All-nil}
 use Rattle.mail_wire.specs.declared.outside.Fault.{Fault}
 use Rattle.mail_wire.specs.declared.outside.Fault.TheVariants as fault
 use Rattle.session_core.specs.Acts.{gives}
@@ -11,12 +12,16 @@ use Rattle.session_core.specs.Around.{Around}
 use Rattle.session_core.specs.Doing.{Does, Replies}
 use Rattle.session_core.specs.Keeps.{fault_of}
 use Rattle.session_core.specs.Meanings.{Meanings, WithMeanings}
+use Rattle.session_core.specs.Moments.{IsTold, Moment}
 use Rattle.session_core.specs.declared.desk.Desk.{Desk}
 use Rattle.session_core.proofs.DoingLemmas.{Does-replies, DoesFirst-none}
-use Rattle.imap_session.specs.Machine.{State, Step, answers, says, tagged}
+use Rattle.session_core.proofs.MomentLemmas.{moment_date}
+use Rattle.imap_session.specs.Machine.{State, Step, answers, date_or, says, tagged}
+use Rattle.imap_session.specs.CommandLaws.{is_date_true}
 use Rattle.imap_session.specs.Replies.{ReplyPart, part_octets, reply_octets}
-use Rattle.imap_session.specs.Session.{KnowsNext, KnowsState, TakesStep, state_of, state_or_ended}
+use Rattle.imap_session.specs.Session.{KnowsNext, KnowsState, TakesStep, TakesStepAt, date_at, is_date, long_ago, moments_behind, state_of, state_or_ended}
 use Rattle.imap_session.specs.declared.states.ImapState.{ImapState}
+use Rattle.imap_session.specs.private.Appending.{IsDateFrom}
 use Rattle.imap_session.specs.private.Lines.{tagged_octets}
 use Rattle.imap_session.proofs.LineLemmas.{tagged_reply}
 
@@ -75,3 +80,57 @@ Takes-said a b tag words state session replies is known =
 -- or a fault broke that off
 pub Takes-unsaid : (a b : Around) (met : Fault) (tag words : List ℕ) (state : State) → Replies a b (Some met) (tagged_octets tag words) → TakesStep a b (Err met) (λ meanings. says tag words state)
 Takes-unsaid a b met tag words state replies = Takes-fault a b met (λ meanings. says tag words state) (λ meanings are. says_given meanings a b (Some met) tag words state replies)
+
+-- ---- steps at a moment
+
+whatever : (result : Result (Option ImapState) Fault) (P : Type 0) → P → IfOk result (λ next. P)
+whatever (Ok next) P holds = holds
+whatever (Err met) P holds = tt
+
+-- a step that takes none
+pub TakesAt-plain : (a b : Around) (result : Result (Option ImapState) Fault) (takes : Bool) (taken : Meanings → (date : List ℕ) → Step) → takes ≡ false
+    → ((date : List ℕ) → TakesStep a b result (λ meanings. taken meanings date)) → TakesStepAt a b result takes taken
+TakesAt-plain a b result takes taken none steps = record {
+  told = [];
+  are_told = All-nil (IsTold a.clock);
+  count = whatever result ((more : List Moment) → moments_behind takes more ≡ more) (λ more. rw none refl);
+  steps = λ more. steps (date_at more);
+}
+
+-- want of memory came before the clock was read
+pub TakesAt-none : (a : Around) (takes : Bool) (taken : Meanings → (date : List ℕ) → Step) → TakesStepAt a a (Err fault.Memory) takes taken
+TakesAt-none a takes taken = record { told = []; are_told = All-nil (IsTold a.clock); count = tt; steps = λ more. Takes-none a (λ meanings. taken meanings (date_at more)) }
+
+-- the date at a moment that was told
+told_date : (reading : Option ℕ) (moment : Moment) (more : List Moment) → IsTold reading moment → date_at (moment ∷ more) ≡ moment.internal
+told_date reading moment more told = rw (is_date_true moment.internal (moment_date told.seconds moment.internal told.is.internal)) refl
+
+-- a step with the date that is given, or else with that of a moment
+pub TakesAt-dated : (a b : Around) (result : Result (Option ImapState) Fault) (given : Option (List ℕ)) (date : List ℕ) (taken : Meanings → (date : List ℕ) → Step) → IsDateFrom a.clock given date
+    → TakesStep a b result (λ meanings. taken meanings date) → TakesStepAt a b result (not (is_some given)) (λ meanings now. taken meanings (date_or now given))
+TakesAt-dated a b result (Some given) date taken from takes = record {
+  told = [];
+  are_told = All-nil (IsTold a.clock);
+  count = whatever result ((more : List Moment) → moments_behind false more ≡ more) (λ more. refl);
+  steps = λ more. subst (λ d. TakesStep a b result (λ meanings. taken meanings d)) from takes;
+}
+TakesAt-dated a b result None date taken from takes =
+    let moment = from.0 in
+    let told : IsTold a.clock moment = from.1 in
+    record {
+      told = moment ∷ [];
+      are_told = All-from_recursion (IsTold a.clock) (moment ∷ []) (told, tt);
+      count = whatever result ((more : List Moment) → moments_behind true (moment ∷ more) ≡ more) (λ more. refl);
+      steps = λ more. subst (λ d. TakesStep a b result (λ meanings. taken meanings d)) (from.2 ∙ sym (told_date a.clock moment more told)) takes;
+    }
+
+-- the same step, said otherwise
+pub TakesAt-same : (a b : Around) (result : Result (Option ImapState) Fault) (takes : Bool) (taken other : Meanings → (date : List ℕ) → Step)
+    → WithMeanings (λ meanings. (date : List ℕ) → taken meanings date ≡ other meanings date) → TakesStepAt a b result takes taken → TakesStepAt a b result takes other
+TakesAt-same a b result takes taken other same at = record {
+  told = at.told;
+  are_told = at.are_told;
+  count = at.count;
+  steps = λ more. Takes-same a b result (λ meanings. taken meanings (date_at (at.told ++ more))) (λ meanings. other meanings (date_at (at.told ++ more)))
+      (λ meanings are. same meanings are (date_at (at.told ++ more))) (at.steps more);
+}

@@ -1,29 +1,38 @@
 -- Whatever is asked for, the replies may be sent, and each message of the store may be kept behind what was done.
-use Rattle.std.proofs.Common.{◌≡◌, ℕ, ◌+◌, ◌==◌, List, [], ◌∷◌, ◌++◌, length, map, Bool, true, false, not, ◌&&◌, ◌||◌, nat_lt, refl, ap, Option, Some, None, codes, ◌⊎◌, inl, inr, if◌then◌else◌}
+use Rattle.std.proofs.Common.{◌≡◌, ℕ, ◌+◌, ◌==◌, List, [], ◌∷◌, ◌++◌, length, drop, map, Bool, true, false, not, ◌&&◌, ◌||◌, nat_lt, refl, sym, ap, subst, arith, Option, Some, None, codes, ◌⊎◌, inl, inr, if◌then◌else◌}
+use Rattle.std.specs.Char.{to_ascii_uppercase}
 use Rattle.std.specs.Fmt.{decimal}
 use Rattle.std.specs.List.{AllByRecursion, flat_map, list_all, list_any, join_with_byte}
-use Rattle.std.specs.Str.{chars}
-use Rattle.std.proofs.lemmas.Bool.{and_parts, cond_both, eqb-true}
+use Rattle.std.specs.Str.{chars, str_to_ascii_uppercase}
+use Rattle.std.proofs.lemmas.Bool.{and_from, and_parts, cond_both, eqb-true}
+use Rattle.std.proofs.lemmas.Bool.Decides.{nat_tests}
+use Rattle.std.proofs.lemmas.List.Elements.{All-push}
 use Rattle.mail_wire.specs.Lines.{crlf}
-use Rattle.mail_wire.specs.Octets.{is_ascii}
-use Rattle.mail_wire.proofs.AllLemmas.{all-append, pass-append, pass-weaker}
+use Rattle.mail_wire.specs.Octets.{is_ascii, same_name}
+use Rattle.mail_wire.specs.declared.values.Span.{Span}
+use Rattle.mail_wire.proofs.AllLemmas.{all-append, pass-append, pass-drop, pass-take, pass-weaker}
 use Rattle.mail_wire.proofs.NumberLemmas.{ascii-decimal}
-use Rattle.journal_records.specs.Grammar.{kept_name}
+use Rattle.journal_records.specs.Grammar.{IsDate, fits_letter, kept_name}
+use Rattle.journal_records.specs.Stored.{IsStored}
 use Rattle.journal_records.specs.declared.records.Record.{Record}
 use Rattle.journal_records.specs.declared.records.Record.TheVariants as records
 use Rattle.kept_mail.specs.Kept.{Kept, after_all, after_record, folder_names, kept_folder_name, listed, logged_in, uid_next}
 use Rattle.kept_mail.specs.declared.kept.Listed.{Listed}
+use Rattle.kept_mail.specs.declared.kept.Message.{Message}
 use Rattle.kept_mail.proofs.SameMessages.{AreSameMessages-flags, AreSameMessages-gone}
-use Rattle.mail_store.specs.Changing.{expunged, folder_refusal}
+use Rattle.mail_store.specs.Changing.{append_refusal, expunged, folder_refusal}
 use Rattle.mail_store.specs.Following.{records_of}
-use Rattle.mail_store.specs.StoreState.{StoreState, AreStored, with_records}
+use Rattle.mail_store.specs.StoreState.{StoreState, AreStored}
 use Rattle.mail_store.specs.declared.changing.StoreFault.{StoreFault}
 use Rattle.mail_store.specs.declared.changing.StoreFault.TheVariants as refusal
 use Rattle.mail_store.proofs.IndexLemmas.{AreStored-same}
+use Rattle.mime_tree.specs.declared.sections.Part.TheVariants as place
+use Rattle.surrogate_rope.specs.Layout.{HasAsciiBlocks}
 use Rattle.surrogate_cache.specs.Served.{Mode, legacy, enabled, is_enabled}
 use Rattle.session_core.specs.Acts.{Act, IsFitAct, changes, changes_in, gives}
 use Rattle.session_core.specs.Desks.{stored_date, stored_octets}
 use Rattle.session_core.specs.Meanings.{Meanings, AreMeanings}
+use Rattle.session_core.specs.Moments.{Moment}
 use Rattle.session_core.proofs.StoredLemmas.{dated_at, stored_at, surrogate_shown}
 use Rattle.imap_words.specs.Tokens.{IsTag, is_astring_char, is_atom_char, is_atom_special, is_char, is_resp_special, is_quoted_special, is_tag_char}
 use Rattle.imap_words.specs.Utf7.{modified_utf7}
@@ -34,6 +43,8 @@ use Rattle.imap_grammar.specs.declared.command.Command.{Command}
 use Rattle.imap_grammar.specs.declared.command.Command.TheVariants as command
 use Rattle.imap_grammar.specs.declared.command.FetchItem.{FetchItem}
 use Rattle.imap_grammar.specs.declared.command.FetchItem.TheVariants as item
+use Rattle.imap_grammar.specs.declared.command.SectionPart.{SectionPart}
+use Rattle.imap_grammar.specs.declared.command.SectionPart.TheVariants as part
 use Rattle.imap_grammar.specs.declared.command.Set.{Set}
 use Rattle.imap_grammar.specs.declared.command.StatusItem.{StatusItem}
 use Rattle.imap_grammar.specs.declared.command.StatusItem.TheVariants as status
@@ -44,23 +55,25 @@ use Rattle.imap_mailboxes.specs.Flags.{flag_word, flag_words, flags_text, has_fl
 use Rattle.imap_mailboxes.specs.Names.{in_quotes, quoted, shown_name}
 use Rattle.imap_mailboxes.specs.Patterns.{is_match}
 use Rattle.imap_mailboxes.specs.Sets.{is_refused}
-use Rattle.imap_session.specs.Machine.{State, Step, Numbered, authenticated, becomes_seen, chosen, close_step, closing_up, common_step, create_by, create_unless, deleted_ids, done, enable_step, ends_with, expunge_step, fetch_one, fetch_reply, fetch_step, flags_reply, flags_change, folder_lines, folder_named, for_each, is_built, line, names_folder, no_such_message, not_built, out_of_order, refused_as_read_only, says, size_of, untagged, is_deleted, item_parts, list_line, list_lines, literal_parts, login_by, mailbox_step, not_authenticated, not_authenticated_step, numbered_at, opened_words, parts_behind, permanent_flags, reply, seen, select_by, selected, selected_step, authenticated_step, spaced, status_among, status_by, status_line, status_text, step, store_one, store_step, tagged, taken_out, uid_text, unseen_among, with_flags, with_uid, asks_utf8, ended}
-use Rattle.imap_session.specs.Replies.{AreFit, IsFit, ReplyPart, text, name, shown}
-use Rattle.imap_session.specs.Session.{due_step}
+use Rattle.imap_views.specs.Views.{envelope, fields, structure}
+use Rattle.imap_session.specs.CommandLaws.{AsksAscii, FetchesAscii, IsAsciiName, NamesAscii, is_date_date, names_of, said_of}
+use Rattle.imap_session.specs.Items.{field_name, fields_parts, fields_word, header_octets, is_flags, is_uid, item_parts, literal_head, octets_at, part_words, partial_octets, partial_span, partial_text, section_at, section_name, section_parts, served_of, shown_parts, size_of, whole_header}
+use Rattle.imap_session.specs.Machine.{State, Step, Numbered, append_in, append_octets, append_unless, appended, authenticated, becomes_seen, chosen, close_step, closing_up, common_step, completed, create_by, create_unless, deleted_ids, done, enable_step, ends_with, exists_lines, expunge_step, fetch_one, fetch_reply, fetch_step, flags_reply, flags_change, folder_lines, folder_named, for_each, line, names_folder, no_such_message, opened_in, out_of_order, refused_as_read_only, says, untagged, is_deleted, list_line, list_lines, login_by, mailbox_step, not_authenticated, not_authenticated_step, opened_words, parts_behind, permanent_flags, reply, seen, select_by, selected, selected_step, authenticated_step, spaced, status_among, status_by, status_line, status_text, step, store_one, store_step, tagged, taken_out, uid_text, unseen_among, with_flags, with_uid, asks_utf8, ended}
+use Rattle.imap_session.specs.Replies.{AreFit, IsFit, ReplyPart, text, name, shown, viewed}
+use Rattle.imap_session.specs.Session.{IsSaid, date_at, due_step, fits_shape, is_date, long_ago}
+use Rattle.imap_session.specs.ViewLaws.{ascii_envelope, ascii_fields, ascii_header, ascii_structure, first_header}
 
 -- ---- acts
 
--- a record that adds no message
-abbrev pub AddsNoMessage : Record → Type 0
-AddsNoMessage (records.Folder account folder_name) = Unit {0}
-AddsNoMessage (records.Flags message flags) = Unit {0}
-AddsNoMessage (records.Expunge message) = Unit {0}
-AddsNoMessage other = ⊥
+-- the message of a record, if it has one, may be kept
+abbrev pub MayBeKept : Record → Type 0
+MayBeKept (records.Message folder flags date octets) = IsDate date × IsStored octets
+MayBeKept other = Unit {0}
 
--- what is given may be sent, and no change adds a message
+-- what is given may be sent, and each message that a change adds may be kept
 abbrev pub IsRightAct : Meanings → Act ReplyPart → Type 0
 IsRightAct meanings (gives part) = IsFit meanings part
-IsRightAct meanings (changes made) = AllByRecursion AddsNoMessage made
+IsRightAct meanings (changes made) = AllByRecursion MayBeKept made
 
 abbrev pub AreRight : Meanings → List (Act ReplyPart) → Type 0
 AreRight meanings acts = AllByRecursion (IsRightAct meanings) acts
@@ -70,20 +83,25 @@ fit_of meanings [] right = tt
 fit_of meanings (gives part ∷ acts) right = (right.0, fit_of meanings acts right.1)
 fit_of meanings (changes made ∷ acts) right = (tt, fit_of meanings acts right.1)
 
-stored_after : (kept : Kept) (one : Record) → AddsNoMessage one → AreStored kept.messages → AreStored (after_record kept one).messages
-stored_after kept (records.Folder account folder_name) none stored = stored
-stored_after kept (records.Flags message flags) none stored = AreStored-same kept.messages _ stored (AreSameMessages-flags flags kept.messages message)
-stored_after kept (records.Expunge message) none stored = AreStored-same kept.messages _ stored (AreSameMessages-gone kept.messages message)
-stored_after kept (records.Account address password) none stored = absurd none
-stored_after kept (records.Domain domain) none stored = absurd none
-stored_after kept (records.Message folder flags date octets) none stored = absurd none
-stored_after kept (records.Queue path addresses octets) none stored = absurd none
-stored_after kept (records.Settle entry index) none stored = absurd none
+stored_after : (kept : Kept) (one : Record) → MayBeKept one → AreStored kept.messages → AreStored (after_record kept one).messages
+stored_after kept (records.Folder account folder_name) may stored = stored
+stored_after kept (records.Flags message flags) may stored = AreStored-same kept.messages _ stored (AreSameMessages-flags flags kept.messages message)
+stored_after kept (records.Expunge message) may stored = AreStored-same kept.messages _ stored (AreSameMessages-gone kept.messages message)
+stored_after kept (records.Account address password) may stored = stored
+stored_after kept (records.Domain domain) may stored = stored
+stored_after kept (records.Message folder flags date octets) may stored =
+    let message : Message = record { folder = folder; flags = flags; live = true; date = date; octets = octets } in
+    record {
+      each = All-push (λ (one : Message). IsStored one.octets) kept.messages message stored.each may.1;
+      dated = All-push (λ (one : Message). IsDate one.date) kept.messages message stored.dated may.0;
+    }
+stored_after kept (records.Queue path addresses octets) may stored = stored
+stored_after kept (records.Settle entry index) may stored = stored
 
-stored_behind : (kept : Kept) (made : List Record) → AllByRecursion AddsNoMessage made → AreStored kept.messages → (others : List Record)
+stored_behind : (kept : Kept) (made : List Record) → AllByRecursion MayBeKept made → AreStored kept.messages → (others : List Record)
     → ((between : Kept) → AreStored between.messages → AreStored (after_all between others).messages) → AreStored (after_all kept (made ++ others)).messages
-stored_behind kept [] none stored others later = later kept stored
-stored_behind kept (one ∷ made) none stored others later = stored_behind (after_record kept one) made none.1 (stored_after kept one none.0 stored) others later
+stored_behind kept [] may stored others later = later kept stored
+stored_behind kept (one ∷ made) may stored others later = stored_behind (after_record kept one) made may.1 (stored_after kept one may.0 stored) others later
 
 pub stored_of : (meanings : Meanings) (kept : Kept) (acts : List (Act ReplyPart)) → AreRight meanings acts → AreStored kept.messages → AreStored (after_all kept (records_of (changes_in acts))).messages
 stored_of meanings kept [] right stored = stored
@@ -250,70 +268,194 @@ status_fit meanings mode store folder items =
 
 -- ---- FETCH
 
-flag_fit : (flags flag : ℕ) (word : List ℕ) → list_all is_ascii word ≡ true → AllByRecursion (λ one. list_all is_ascii one ≡ true) (flag_word flags flag word)
-flag_fit flags flag word fit = cond_both (has_flag flags flag) (word ∷ []) [] (λ z. AllByRecursion (λ one. list_all is_ascii one ≡ true) z) (λ _. (fit, tt)) (λ _. tt)
+flag_fit : (flags flag : ℕ) (word : List ℕ) → list_all is_ascii word ≡ true → AllByRecursion IsAsciiName (flag_word flags flag word)
+flag_fit flags flag word fit = cond_both (has_flag flags flag) (word ∷ []) [] (λ z. AllByRecursion IsAsciiName z) (λ _. (fit, tt)) (λ _. tt)
 
-words_fit : (flags : ℕ) → AllByRecursion (λ one. list_all is_ascii one ≡ true) (flag_words flags)
+words_fit : (flags : ℕ) → AllByRecursion IsAsciiName (flag_words flags)
 words_fit flags =
-    let Each = λ (one : List ℕ). list_all is_ascii one ≡ true in
     let answered = flag_fit flags 2 (codes "\\Answered") refl in
     let flagged = flag_fit flags 4 (codes "\\Flagged") refl in
     let deleted = flag_fit flags 8 (codes "\\Deleted") refl in
     let is_seen = flag_fit flags 1 (codes "\\Seen") refl in
     let draft = flag_fit flags 16 (codes "\\Draft") refl in
-    let last = all-append Each (flag_word flags 1 (codes "\\Seen")) (flag_word flags 16 (codes "\\Draft")) is_seen draft in
-    let three = all-append Each (flag_word flags 8 (codes "\\Deleted")) (flag_word flags 1 (codes "\\Seen") ++ flag_word flags 16 (codes "\\Draft")) deleted last in
-    let four = all-append Each (flag_word flags 4 (codes "\\Flagged")) (flag_word flags 8 (codes "\\Deleted") ++ (flag_word flags 1 (codes "\\Seen") ++ flag_word flags 16 (codes "\\Draft"))) flagged three in
-    all-append Each (flag_word flags 2 (codes "\\Answered")) (flag_word flags 4 (codes "\\Flagged") ++ (flag_word flags 8 (codes "\\Deleted") ++ (flag_word flags 1 (codes "\\Seen") ++ flag_word flags 16 (codes "\\Draft")))) answered four
+    let last = all-append IsAsciiName (flag_word flags 1 (codes "\\Seen")) (flag_word flags 16 (codes "\\Draft")) is_seen draft in
+    let three = all-append IsAsciiName (flag_word flags 8 (codes "\\Deleted")) (flag_word flags 1 (codes "\\Seen") ++ flag_word flags 16 (codes "\\Draft")) deleted last in
+    let four = all-append IsAsciiName (flag_word flags 4 (codes "\\Flagged")) (flag_word flags 8 (codes "\\Deleted") ++ (flag_word flags 1 (codes "\\Seen") ++ flag_word flags 16 (codes "\\Draft"))) flagged three in
+    all-append IsAsciiName (flag_word flags 2 (codes "\\Answered")) (flag_word flags 4 (codes "\\Flagged") ++ (flag_word flags 8 (codes "\\Deleted") ++ (flag_word flags 1 (codes "\\Seen") ++ flag_word flags 16 (codes "\\Draft")))) answered four
 
-joined_fit : (words : List (List ℕ)) → AllByRecursion (λ one. list_all is_ascii one ≡ true) words → list_all is_ascii (join_with_byte 32 words) ≡ true
-joined_fit [] fit = refl
-joined_fit (one ∷ []) fit = fit.0
-joined_fit (one ∷ next ∷ others) fit = pass-append is_ascii one (32 ∷ join_with_byte 32 (next ∷ others)) fit.0 (pass-append is_ascii (32 ∷ []) (join_with_byte 32 (next ∷ others)) refl (joined_fit (next ∷ others) fit.1))
+joined_fit : (x : ℕ) → list_all is_ascii (x ∷ []) ≡ true → (words : List (List ℕ)) → AllByRecursion IsAsciiName words → list_all is_ascii (join_with_byte x words) ≡ true
+joined_fit x between_fit [] fit = refl
+joined_fit x between_fit (one ∷ []) fit = fit.0
+joined_fit x between_fit (one ∷ next ∷ others) fit =
+    pass-append is_ascii one (x ∷ join_with_byte x (next ∷ others)) fit.0 (pass-append is_ascii (x ∷ []) (join_with_byte x (next ∷ others)) between_fit (joined_fit x between_fit (next ∷ others) fit.1))
 
 flags_fit : (flags : ℕ) → list_all is_ascii (flags_text flags) ≡ true
 unfolding flags_text
-flags_fit flags = pass-append is_ascii (codes "FLAGS (") (join_with_byte 32 (flag_words flags) ++ 41 ∷ []) refl (pass-append is_ascii (join_with_byte 32 (flag_words flags)) (41 ∷ []) (joined_fit (flag_words flags) (words_fit flags)) refl)
+flags_fit flags = pass-append is_ascii (codes "FLAGS (") (join_with_byte 32 (flag_words flags) ++ 41 ∷ []) refl (pass-append is_ascii (join_with_byte 32 (flag_words flags)) (41 ∷ []) (joined_fit 32 refl (flag_words flags) (words_fit flags)) refl)
 
-shown_fit : (meanings : Meanings) → AreMeanings meanings → (mode : Mode) (store : StoreState) (id size : ℕ) → AreStored store.kept.messages → IsFit meanings (shown (stored_octets store id) mode 0 size)
-shown_fit meanings are legacy store id size stored = surrogate_shown meanings are (stored_octets store id) (stored_at store id stored)
-shown_fit meanings are enabled store id size stored = tt
+-- ---- names of sections
+
+numbers_fit : (path : List ℕ) → AllByRecursion IsAsciiName (map decimal path)
+numbers_fit [] = tt
+numbers_fit (n ∷ path) = (ascii-decimal n, numbers_fit path)
+
+upper_fit : (octets : List ℕ) → list_all is_ascii octets ≡ true → list_all is_ascii (str_to_ascii_uppercase octets) ≡ true
+upper_fit [] fit = refl
+upper_fit (x ∷ octets) fit =
+    let parts = and_parts (is_ascii x) (list_all is_ascii octets) fit in
+    and_from (is_ascii (to_ascii_uppercase x)) (list_all is_ascii (str_to_ascii_uppercase octets)) (one parts.0) (upper_fit octets parts.1)
+  where
+    one : is_ascii x ≡ true → is_ascii (to_ascii_uppercase x) ≡ true
+    one low = grind (arith, nat_tests)
+
+quoted_fit : (octets : List ℕ) → list_all is_ascii octets ≡ true → list_all is_ascii (quoted octets) ≡ true
+quoted_fit octets fit = pass-append is_ascii (34 ∷ []) (flat_map in_quotes octets ++ 34 ∷ []) refl (pass-append is_ascii (flat_map in_quotes octets) (34 ∷ []) (in_quotes_all octets fit) refl)
+
+field_fit : (octets : List ℕ) → list_all is_ascii octets ≡ true → list_all is_ascii (field_name octets) ≡ true
+field_fit octets fit =
+    let upper = str_to_ascii_uppercase octets in
+    cond_both (list_all is_atom_char upper) upper (quoted upper) (λ z. list_all is_ascii z ≡ true) (λ _. upper_fit octets fit) (λ _. quoted_fit upper (upper_fit octets fit))
+
+fields_fit : (names : List (List ℕ)) → AllByRecursion IsAsciiName names → AllByRecursion IsAsciiName (map field_name names)
+fields_fit [] fit = tt
+fields_fit (one ∷ names) fit = (field_fit one fit.0, fields_fit names fit.1)
+
+word_fit : (negated : Bool) → list_all is_ascii (fields_word negated) ≡ true
+word_fit true = refl
+word_fit false = refl
+
+part_fit : (what : SectionPart) → NamesAscii what → AllByRecursion IsAsciiName (part_words what)
+part_fit part.Whole fit = tt
+part_fit part.Header fit = (refl, tt)
+part_fit (part.Fields names negated) fit =
+    let listed = join_with_byte 32 (map field_name names) in
+    (between (fields_word negated) listed (codes ")") (word_fit negated) (joined_fit 32 refl (map field_name names) (fields_fit names fit)) refl, tt)
+part_fit part.Text fit = (refl, tt)
+part_fit part.Mime fit = (refl, tt)
+
+partial_fit : (partial : Option (ℕ × ℕ)) → list_all is_ascii (partial_text partial) ≡ true
+partial_fit None = refl
+partial_fit (Some asked) = number_fit (codes "<") asked.0 (codes ">") refl refl
+
+section_name_fit : (path : List ℕ) (what : SectionPart) (partial : Option (ℕ × ℕ)) → NamesAscii what → list_all is_ascii (section_name path what partial) ≡ true
+section_name_fit path what partial fit =
+    let words = map decimal path ++ part_words what in
+    between (codes "BODY[") (join_with_byte 46 words) (codes "]" ++ partial_text partial) refl
+    (joined_fit 46 refl words (all-append IsAsciiName (map decimal path) (part_words what) (numbers_fit path) (part_fit what fit))) (pass-append is_ascii (codes "]") (partial_text partial) refl (partial_fit partial))
+
+-- ---- what is shown of a message
+
+partial_ascii : (partial : Option (ℕ × ℕ)) (octets : List ℕ) → list_all is_ascii octets ≡ true → list_all is_ascii (partial_octets partial octets) ≡ true
+partial_ascii None octets fit = fit
+partial_ascii (Some asked) octets fit = pass-take is_ascii asked.1 (drop asked.0 octets) (pass-drop is_ascii asked.0 octets fit)
+
+shown_fit : (meanings : Meanings) → AreMeanings meanings → (mode : Mode) (store : StoreState) (id at size : ℕ) → AreStored store.kept.messages → IsFit meanings (shown (stored_octets store id) mode at size)
+shown_fit meanings are legacy store id at size stored = surrogate_shown meanings are (stored_octets store id) (stored_at store id stored)
+shown_fit meanings are enabled store id at size stored = tt
+
+-- the headers of what a legacy session is shown are ASCII
+blocks_of : (meanings : Meanings) → AreMeanings meanings → (store : StoreState) (id : ℕ) → AreStored store.kept.messages → HasAsciiBlocks (meanings.surrogate (stored_octets store id))
+blocks_of meanings are store id stored = (surrogate_shown meanings are (stored_octets store id) (stored_at store id stored)).1
+
+structure_fit : (meanings : Meanings) → AreMeanings meanings → (mode : Mode) (store : StoreState) → AreStored store.kept.messages → (one : Listed) (extended : Bool)
+    → IsFit meanings (viewed mode (meanings.view_of (structure extended) (served_of meanings mode store one)))
+structure_fit meanings are legacy store stored one extended = ascii_structure meanings are (meanings.surrogate (stored_octets store one.id)) (blocks_of meanings are store one.id stored) extended
+structure_fit meanings are enabled store stored one extended = tt
+
+envelope_fit : (meanings : Meanings) → AreMeanings meanings → (mode : Mode) (store : StoreState) → AreStored store.kept.messages → (one : Listed)
+    → IsFit meanings (viewed mode (meanings.view_of envelope (whole_header meanings mode store one)))
+envelope_fit meanings are legacy store stored one =
+    let octets = meanings.surrogate (stored_octets store one.id) in
+    let blocks = blocks_of meanings are store one.id stored in
+    let first = first_header meanings are octets blocks in
+    subst (λ found. list_all is_ascii (meanings.view_of envelope (header_octets meanings legacy store one found)) ≡ true) (sym first.1)
+    (ascii_envelope meanings are (octets_at meanings legacy store one first.0) (ascii_header meanings are octets blocks [] first.0 first.1))
+envelope_fit meanings are enabled store stored one = tt
+
+chosen_fit : (meanings : Meanings) → AreMeanings meanings → (mode : Mode) (store : StoreState) → AreStored store.kept.messages → (one : Listed) (path : List ℕ) (names : List (List ℕ)) (negated : Bool)
+    (partial : Option (ℕ × ℕ)) (span : Span) → section_at meanings mode store one path place.Header ≡ Some span
+    → IsFit meanings (viewed mode (partial_octets partial (meanings.view_of (fields names negated) (octets_at meanings mode store one span))))
+chosen_fit meanings are legacy store stored one path names negated partial span is =
+    let octets = meanings.surrogate (stored_octets store one.id) in
+    let header = octets_at meanings legacy store one span in
+    partial_ascii partial (meanings.view_of (fields names negated) header)
+    (ascii_fields meanings are header names negated (ascii_header meanings are octets (blocks_of meanings are store one.id stored) path span is))
+chosen_fit meanings are enabled store stored one path names negated partial span is = tt
+
+-- items that are added ask for no names
+uid_ascii : (by_uid : Bool) (items : List FetchItem) → AllByRecursion AsksAscii items → AllByRecursion AsksAscii (with_uid by_uid items)
+uid_ascii by_uid items ascii = cond_both (by_uid && not (list_any is_uid items)) (item.Uid ∷ items) items (λ z. AllByRecursion AsksAscii z) (λ _. (tt, ascii)) (λ _. ascii)
+
+flags_ascii : (changed : Bool) (items : List FetchItem) → AllByRecursion AsksAscii items → AllByRecursion AsksAscii (with_flags changed items)
+flags_ascii changed items ascii =
+    cond_both (changed && not (list_any is_flags items)) (items ++ item.Flags ∷ []) items (λ z. AllByRecursion AsksAscii z) (λ _. all-append AsksAscii items (item.Flags ∷ []) ascii (tt, tt)) (λ _. ascii)
 
 module _ (meanings : Meanings) (are : AreMeanings meanings) (mode : Mode) (store : StoreState) (stored : AreStored store.kept.messages) where
-  literal_fit : (one : Listed) (asked : List ℕ) → list_all is_ascii asked ≡ true → AreFit meanings (literal_parts meanings mode store one asked)
-  literal_fit one asked fit =
-      let size = size_of meanings mode store one in
-      (pass-append is_ascii asked (codes " {" ++ (decimal size ++ codes "}\r\n")) fit (number_fit (codes " {") size (codes "}\r\n") refl refl), (shown_fit meanings are mode store one.id size stored, tt))
+  head_fit : (asked : List ℕ) (size : ℕ) → list_all is_ascii asked ≡ true → IsFit meanings (literal_head asked size)
+  head_fit asked size fit = pass-append is_ascii asked (codes " {" ++ (decimal size ++ codes "}\r\n")) fit (number_fit (codes " {") size (codes "}\r\n") refl refl)
 
-  item_fit : (one : Listed) (asked : FetchItem) → AreFit meanings (item_parts meanings mode store one asked)
-  item_fit one item.Flags = (flags_fit one.flags, tt)
-  item_fit one item.Uid = (behind_words (codes "UID ") one.uid refl, tt)
-  item_fit one item.InternalDate = (between (codes "INTERNALDATE \"") (stored_date store one.id) (codes "\"") refl (dated_at store one.id stored) refl, tt)
-  item_fit one item.Size = (behind_words (codes "RFC822.SIZE ") (size_of meanings mode store one) refl, tt)
-  item_fit one item.Rfc822 = literal_fit one (codes "RFC822") refl
-  item_fit one item.Rfc822Header = tt
-  item_fit one item.Rfc822Text = tt
-  item_fit one item.Envelope = tt
-  item_fit one item.Body = tt
-  item_fit one item.BodyStructure = tt
-  item_fit one (item.Section peek path part partial) = literal_fit one (codes "BODY[]") refl
+  nil_fit : (asked : List ℕ) → list_all is_ascii asked ≡ true → AreFit meanings (text (asked ++ codes " NIL") ∷ [])
+  nil_fit asked fit = (pass-append is_ascii asked (codes " NIL") fit refl, tt)
 
-  behind_fit : (others : Bool) (one : Listed) (items : List FetchItem) → AreFit meanings (parts_behind others (map (item_parts meanings mode store one) items))
-  behind_fit others one [] = tt
-  behind_fit false one (asked ∷ items) = all-append (IsFit meanings) (item_parts meanings mode store one asked) (parts_behind true (map (item_parts meanings mode store one) items)) (item_fit one asked) (behind_fit true one items)
-  behind_fit true one (asked ∷ items) = (refl, all-append (IsFit meanings) (item_parts meanings mode store one asked) (parts_behind true (map (item_parts meanings mode store one) items)) (item_fit one asked) (behind_fit true one items))
+  span_fit : (one : Listed) (asked : List ℕ) (partial : Option (ℕ × ℕ)) (found : Option Span) → list_all is_ascii asked ≡ true → AreFit meanings (shown_parts mode store one asked partial found)
+  span_fit one asked partial None fit = nil_fit asked fit
+  span_fit one asked partial (Some span) fit =
+      let at = partial_span partial span in
+      (head_fit asked at.len fit, (shown_fit meanings are mode store one.id at.at at.len stored, tt))
 
-  fetch_fit : (number : ℕ) (one : Listed) (items : List FetchItem) → AreFit meanings (fetch_reply meanings mode store number one items)
-  fetch_fit number one items = (number_fit (codes "* ") number (codes " FETCH (") refl refl, all-append (IsFit meanings) (parts_behind false (map (item_parts meanings mode store one) items)) (line (codes ")") ∷ []) (behind_fit false one items) (refl, tt))
+  chosen_parts_fit : (one : Listed) (asked path : List ℕ) (names : List (List ℕ)) (negated : Bool) (partial : Option (ℕ × ℕ)) (found : Option Span) → list_all is_ascii asked ≡ true
+      → section_at meanings mode store one path place.Header ≡ found → AreFit meanings (fields_parts meanings mode store one asked partial (fields names negated) found)
+  chosen_parts_fit one asked path names negated partial None fit at = nil_fit asked fit
+  chosen_parts_fit one asked path names negated partial (Some span) fit at =
+      let told = partial_octets partial (meanings.view_of (fields names negated) (octets_at meanings mode store one span)) in
+      (head_fit asked (length told) fit, (chosen_fit meanings are mode store stored one path names negated partial span at, tt))
 
-  fetch_one_right : (by_uid read_only : Bool) (items : List FetchItem) (one : Numbered) → AreRight meanings (fetch_one meanings mode store by_uid read_only items one)
-  fetch_one_right by_uid read_only items one =
-      let all = with_flags true (with_uid by_uid items) in
+  section_fit : (one : Listed) (asked path : List ℕ) (what : SectionPart) (partial : Option (ℕ × ℕ)) → list_all is_ascii asked ≡ true
+      → AreFit meanings (section_parts meanings mode store one asked path what partial)
+  section_fit one asked path (part.Fields names negated) partial fit = chosen_parts_fit one asked path names negated partial _ fit refl
+  section_fit one asked path part.Whole partial fit = span_fit one asked partial _ fit
+  section_fit one asked path part.Header partial fit = span_fit one asked partial _ fit
+  section_fit one asked path part.Text partial fit = span_fit one asked partial _ fit
+  section_fit one asked path part.Mime partial fit = span_fit one asked partial _ fit
+
+  item_fit : (one : Listed) (asked : FetchItem) → AsksAscii asked → AreFit meanings (item_parts meanings mode store one asked)
+  item_fit one item.Flags ascii = (flags_fit one.flags, tt)
+  item_fit one item.Uid ascii = (behind_words (codes "UID ") one.uid refl, tt)
+  item_fit one item.InternalDate ascii = (between (codes "INTERNALDATE \"") (stored_date store one.id) (codes "\"") refl (dated_at store one.id stored) refl, tt)
+  item_fit one item.Size ascii = (behind_words (codes "RFC822.SIZE ") (size_of meanings mode store one) refl, tt)
+  item_fit one item.Rfc822 ascii = section_fit one (codes "RFC822") [] part.Whole None refl
+  item_fit one item.Rfc822Header ascii = section_fit one (codes "RFC822.HEADER") [] part.Header None refl
+  item_fit one item.Rfc822Text ascii = section_fit one (codes "RFC822.TEXT") [] part.Text None refl
+  item_fit one item.Envelope ascii = (refl, (envelope_fit meanings are mode store stored one, tt))
+  item_fit one item.Body ascii = (refl, (structure_fit meanings are mode store stored one false, tt))
+  item_fit one item.BodyStructure ascii = (refl, (structure_fit meanings are mode store stored one true, tt))
+  item_fit one (item.Section peek path what partial) ascii = section_fit one (section_name path what partial) path what partial (section_name_fit path what partial ascii)
+
+  behind_fit : (others : Bool) (one : Listed) (items : List FetchItem) → AllByRecursion AsksAscii items → AreFit meanings (parts_behind others (map (item_parts meanings mode store one) items))
+  behind_fit others one [] ascii = tt
+  behind_fit false one (asked ∷ items) ascii =
+      all-append (IsFit meanings) (item_parts meanings mode store one asked) (parts_behind true (map (item_parts meanings mode store one) items)) (item_fit one asked ascii.0) (behind_fit true one items ascii.1)
+  behind_fit true one (asked ∷ items) ascii = (
+    refl,
+    all-append (IsFit meanings) (item_parts meanings mode store one asked) (parts_behind true (map (item_parts meanings mode store one) items)) (item_fit one asked ascii.0) (behind_fit true one items ascii.1),
+  )
+
+  fetch_fit : (number : ℕ) (one : Listed) (items : List FetchItem) → AllByRecursion AsksAscii items → AreFit meanings (fetch_reply meanings mode store number one items)
+  fetch_fit number one items ascii = (
+    number_fit (codes "* ") number (codes " FETCH (") refl refl,
+    all-append (IsFit meanings) (parts_behind false (map (item_parts meanings mode store one) items)) (line (codes ")") ∷ []) (behind_fit false one items ascii) (refl, tt),
+  )
+
+  fetch_one_right : (by_uid read_only : Bool) (items : List FetchItem) → AllByRecursion AsksAscii items → (one : Numbered) → AreRight meanings (fetch_one meanings mode store by_uid read_only items one)
+  fetch_one_right by_uid read_only items ascii one =
       let asked = with_uid by_uid items in
+      let all = with_flags true asked in
       let told = fetch_reply meanings mode store one.number (seen one.listed) all in
       let same = fetch_reply meanings mode store one.number one.listed asked in
+      let asked_ascii = uid_ascii by_uid items ascii in
       cond_both (becomes_seen read_only items one.listed) (changes (flags_change one.listed (seen one.listed).flags) ∷ reply told) (reply same) (λ z. AreRight meanings z)
-      (λ _. ((tt, tt), reply_right meanings told (fetch_fit one.number (seen one.listed) all))) (λ _. reply_right meanings same (fetch_fit one.number one.listed asked))
+      (λ _. ((tt, tt), reply_right meanings told (fetch_fit one.number (seen one.listed) all (flags_ascii true asked asked_ascii))))
+      (λ _. reply_right meanings same (fetch_fit one.number one.listed asked asked_ascii))
 
 -- ---- STORE, EXPUNGE and CLOSE
 
@@ -331,7 +473,7 @@ told_fit meanings by_uid false one flags =
     let words_are : list_all is_ascii words ≡ true = pass-append is_ascii (codes " FETCH (") back refl back_fit in
     (untagged_fit (decimal one.number ++ words) (pass-append is_ascii (decimal one.number) words (ascii-decimal one.number) words_are), tt)
 
-expunged_quiet : (ids : List ℕ) → AllByRecursion AddsNoMessage (expunged ids)
+expunged_quiet : (ids : List ℕ) → AllByRecursion MayBeKept (expunged ids)
 expunged_quiet [] = tt
 expunged_quiet (id ∷ ids) = (tt, expunged_quiet ids)
 
@@ -347,7 +489,8 @@ closing_fit meanings number (one ∷ others) =
 
 -- ---- commands
 
-module _ (meanings : Meanings) (are : AreMeanings meanings) (store : StoreState) (stored : AreStored store.kept.messages) (tag : List ℕ) (tag_fit : list_all is_ascii tag ≡ true) where
+module _ (meanings : Meanings) (are : AreMeanings meanings) (now : List ℕ) (dated : IsDate now) (store : StoreState) (stored : AreStored store.kept.messages) (tag : List ℕ)
+    (tag_fit : list_all is_ascii tag ≡ true) where
   each_message_right : (state : State) (by_uid : Bool) (set : Set) (messages : List Listed) (act : Numbered → List (Act ReplyPart)) → ((one : Numbered) → AreRight meanings (act one))
       → AreRight meanings (for_each tag state by_uid set messages act).acts
   each_message_right state by_uid set messages act right =
@@ -355,12 +498,44 @@ module _ (meanings : Meanings) (are : AreMeanings meanings) (store : StoreState)
       either_right meanings tag tag_fit (is_refused by_uid set messages) (no_such_message tag state) (ends_with tag done acts state) (says_right meanings tag tag_fit (codes "BAD no such message") state refl)
       (ends_right meanings tag tag_fit done acts state refl (each_right meanings act right (chosen by_uid set messages)))
 
-  fetch_right : (state : State) (mode : Mode) (folder : ℕ) (read_only by_uid : Bool) (set : Set) (items : List FetchItem) → AreRight meanings (fetch_step meanings tag state mode folder read_only store by_uid set items).acts
-  fetch_right state mode folder read_only by_uid set items =
-      let act = fetch_one meanings mode store by_uid read_only items in
-      either_right meanings tag tag_fit (list_all is_built items) (for_each tag state by_uid set (listed store.kept folder) act) (not_built tag state)
-      (each_message_right state by_uid set (listed store.kept folder) act (λ one. fetch_one_right meanings are mode store stored by_uid read_only items one))
-      (says_right meanings tag tag_fit (codes "NO not built") state refl)
+  fetch_right : (state : State) (mode : Mode) (folder : ℕ) (read_only by_uid : Bool) (set : Set) (items : List FetchItem) → AllByRecursion AsksAscii items
+      → AreRight meanings (fetch_step meanings tag state mode folder read_only store by_uid set items).acts
+  fetch_right state mode folder read_only by_uid set items ascii =
+      each_message_right state by_uid set (listed store.kept folder) (fetch_one meanings mode store by_uid read_only items) (fetch_one_right meanings are mode store stored by_uid read_only items ascii)
+
+  exists_fit : (opened : Option ℕ) (kept : Kept) (folder : ℕ) → AreFit meanings (exists_lines opened kept folder)
+  exists_fit None kept folder = tt
+  exists_fit (Some opened) kept folder =
+      let count = decimal (length (listed kept folder)) in
+      cond_both (opened == folder) (untagged (count ++ codes " EXISTS") ∷ []) [] (λ z. AreFit meanings z)
+      (λ _. (untagged_fit (count ++ codes " EXISTS") (pass-append is_ascii count (codes " EXISTS") (ascii-decimal (length (listed kept folder))) refl), tt)) (λ _. tt)
+
+  unless_kept_right : (state : State) (opened : Option ℕ) (folder : ℕ) (made : Record) (refused : Option StoreFault) → MayBeKept made
+      → AreRight meanings (append_unless tag state opened store.kept folder made refused).acts
+  unless_kept_right state opened folder made None may =
+      let told = exists_lines opened (after_record store.kept made) folder in
+      ends_right meanings tag tag_fit done (changes (made ∷ []) ∷ reply told) state refl ((may, tt), reply_right meanings told (exists_fit opened (after_record store.kept made) folder))
+  unless_kept_right state opened folder made (Some refusal.Exists) may = says_right meanings tag tag_fit (codes "NO too large") state refl
+  unless_kept_right state opened folder made (Some refusal.NoSuch) may = says_right meanings tag tag_fit (codes "NO too large") state refl
+  unless_kept_right state opened folder made (Some refusal.TooLarge) may = says_right meanings tag tag_fit (codes "NO too large") state refl
+  unless_kept_right state opened folder made (Some refusal.Memory) may = says_right meanings tag tag_fit (codes "NO too large") state refl
+  unless_kept_right state opened folder made (Some refusal.Keeper) may = says_right meanings tag tag_fit (codes "NO too large") state refl
+
+  octets_right : (state : State) (opened : Option ℕ) (folder flags : ℕ) (date octets : List ℕ) → IsDate date
+      → AreRight meanings (append_octets (meanings.has_tree octets) tag state opened store folder flags date octets).acts
+  octets_right state opened folder flags date octets dated =
+      let refused = append_refusal store octets in
+      let made = appended folder flags date octets in
+      cond_both (meanings.has_tree octets) (append_unless tag state opened store.kept folder made refused) (says tag (codes "NO not a message") state) (λ (one : Step). AreRight meanings one.acts)
+      (λ is. unless_kept_right state opened folder made refused (dated, (are.trees octets).0 is)) (λ _. says_right meanings tag tag_fit (codes "NO not a message") state refl)
+
+  append_right : (state : State) (opened : Option ℕ) (mode : Mode) (flags : ℕ) (date : List ℕ) (in_utf8 : Bool) (octets : List ℕ) (found : Option ℕ) → IsDate date
+      → AreRight meanings (append_in meanings tag state opened mode store flags date in_utf8 octets found).acts
+  append_right state opened mode flags date in_utf8 octets None dated = says_right meanings tag tag_fit (codes "NO no such folder") state refl
+  append_right state opened mode flags date in_utf8 octets (Some folder) dated =
+      either_right meanings tag tag_fit (in_utf8 && not (is_enabled mode)) (says tag (codes "NO not enabled") state)
+      (append_octets (meanings.has_tree (completed octets)) tag state opened store folder flags date (completed octets)) (says_right meanings tag tag_fit (codes "NO not enabled") state refl)
+      (octets_right state opened folder flags date (completed octets) dated)
 
   store_right : (state : State) (folder : ℕ) (read_only by_uid : Bool) (set : Set) (op : StoreOp) (silent : Bool) (named : ℕ) → AreRight meanings (store_step tag state folder read_only store by_uid set op silent named).acts
   store_right state folder read_only by_uid set op silent named =
@@ -423,73 +598,75 @@ module _ (meanings : Meanings) (are : AreMeanings meanings) (store : StoreState)
   unauthenticated_right command.Expunge = common_right not_authenticated command.Expunge
   unauthenticated_right command.Close = common_right not_authenticated command.Close
 
-  mailbox_right : (state : State) (mode : Mode) (account : ℕ) (said : Command) → AreRight meanings (mailbox_step meanings tag state mode account store said).acts
-  mailbox_right state mode account (command.Select written) = select_right meanings tag tag_fit mode account false store (folder_named meanings mode store account written)
-  mailbox_right state mode account (command.Examine written) = select_right meanings tag tag_fit mode account true store (folder_named meanings mode store account written)
-  mailbox_right state mode account (command.Create written) = create_right meanings tag tag_fit state account store (meanings.name_of (is_enabled mode) written)
-  mailbox_right state mode account (command.List reference pattern) = answers_right meanings tag tag_fit done (list_lines mode store account reference pattern) state refl (list_fit meanings mode store account reference pattern)
-  mailbox_right state mode account (command.Status written items) = status_right (folder_named meanings mode store account written)
+  mailbox_right : (state : State) (mode : Mode) (account : ℕ) (said : Command) → IsSaid said → AreRight meanings (mailbox_step meanings now tag state mode account store said).acts
+  mailbox_right state mode account (command.Select written) said = select_right meanings tag tag_fit mode account false store (folder_named meanings mode store account written)
+  mailbox_right state mode account (command.Examine written) said = select_right meanings tag tag_fit mode account true store (folder_named meanings mode store account written)
+  mailbox_right state mode account (command.Create written) said = create_right meanings tag tag_fit state account store (meanings.name_of (is_enabled mode) written)
+  mailbox_right state mode account (command.List reference pattern) said = answers_right meanings tag tag_fit done (list_lines mode store account reference pattern) state refl (list_fit meanings mode store account reference pattern)
+  mailbox_right state mode account (command.Status written items) said = status_right (folder_named meanings mode store account written)
     where
       status_right : (found : Option ℕ) → AreRight meanings (status_by tag state mode store items found).acts
       status_right None = says_right meanings tag tag_fit (codes "NO no such folder") state refl
       status_right (Some folder) = answers_right meanings tag tag_fit done (status_line mode store folder items) state refl (status_fit meanings mode store folder items)
-  mailbox_right state mode account (command.Append written flags date utf8 octets) = says_right meanings tag tag_fit (codes "NO not built") state refl
-  mailbox_right state mode account command.Capability = common_right state command.Capability
-  mailbox_right state mode account command.Noop = common_right state command.Noop
-  mailbox_right state mode account command.Logout = common_right state command.Logout
-  mailbox_right state mode account command.NotHere = common_right state command.NotHere
-  mailbox_right state mode account command.Check = common_right state command.Check
-  mailbox_right state mode account (command.Login user password) = common_right state (command.Login user password)
-  mailbox_right state mode account (command.Enable words) = common_right state (command.Enable words)
-  mailbox_right state mode account (command.Fetch by_uid set items) = common_right state (command.Fetch by_uid set items)
-  mailbox_right state mode account (command.Store by_uid set op silent flags) = common_right state (command.Store by_uid set op silent flags)
-  mailbox_right state mode account command.Expunge = common_right state command.Expunge
-  mailbox_right state mode account command.Close = common_right state command.Close
+  mailbox_right state mode account (command.Append written flags None utf8 octets) said = append_right state (opened_in state) mode flags now utf8 octets (folder_named meanings mode store account written) dated
+  mailbox_right state mode account (command.Append written flags (Some date) utf8 octets) said =
+      append_right state (opened_in state) mode flags date utf8 octets (folder_named meanings mode store account written) said.0
+  mailbox_right state mode account command.Capability said = common_right state command.Capability
+  mailbox_right state mode account command.Noop said = common_right state command.Noop
+  mailbox_right state mode account command.Logout said = common_right state command.Logout
+  mailbox_right state mode account command.NotHere said = common_right state command.NotHere
+  mailbox_right state mode account command.Check said = common_right state command.Check
+  mailbox_right state mode account (command.Login user password) said = common_right state (command.Login user password)
+  mailbox_right state mode account (command.Enable words) said = common_right state (command.Enable words)
+  mailbox_right state mode account (command.Fetch by_uid set items) said = common_right state (command.Fetch by_uid set items)
+  mailbox_right state mode account (command.Store by_uid set op silent flags) said = common_right state (command.Store by_uid set op silent flags)
+  mailbox_right state mode account command.Expunge said = common_right state command.Expunge
+  mailbox_right state mode account command.Close said = common_right state command.Close
 
-  authenticated_right : (mode : Mode) (account : ℕ) (said : Command) → AreRight meanings (authenticated_step meanings tag mode account store said).acts
-  authenticated_right mode account (command.Enable words) = enable_right meanings tag tag_fit mode account (asks_utf8 words)
-  authenticated_right mode account (command.Select written) = mailbox_right (authenticated mode account) mode account (command.Select written)
-  authenticated_right mode account (command.Examine written) = mailbox_right (authenticated mode account) mode account (command.Examine written)
-  authenticated_right mode account (command.Create written) = mailbox_right (authenticated mode account) mode account (command.Create written)
-  authenticated_right mode account (command.List reference pattern) = mailbox_right (authenticated mode account) mode account (command.List reference pattern)
-  authenticated_right mode account (command.Status written items) = mailbox_right (authenticated mode account) mode account (command.Status written items)
-  authenticated_right mode account (command.Append written flags date utf8 octets) = mailbox_right (authenticated mode account) mode account (command.Append written flags date utf8 octets)
-  authenticated_right mode account command.Capability = common_right (authenticated mode account) command.Capability
-  authenticated_right mode account command.Noop = common_right (authenticated mode account) command.Noop
-  authenticated_right mode account command.Logout = common_right (authenticated mode account) command.Logout
-  authenticated_right mode account command.NotHere = common_right (authenticated mode account) command.NotHere
-  authenticated_right mode account command.Check = common_right (authenticated mode account) command.Check
-  authenticated_right mode account (command.Login user password) = common_right (authenticated mode account) (command.Login user password)
-  authenticated_right mode account (command.Fetch by_uid set items) = common_right (authenticated mode account) (command.Fetch by_uid set items)
-  authenticated_right mode account (command.Store by_uid set op silent flags) = common_right (authenticated mode account) (command.Store by_uid set op silent flags)
-  authenticated_right mode account command.Expunge = common_right (authenticated mode account) command.Expunge
-  authenticated_right mode account command.Close = common_right (authenticated mode account) command.Close
+  authenticated_right : (mode : Mode) (account : ℕ) (said : Command) → IsSaid said → AreRight meanings (authenticated_step meanings now tag mode account store said).acts
+  authenticated_right mode account (command.Enable words) said = enable_right meanings tag tag_fit mode account (asks_utf8 words)
+  authenticated_right mode account (command.Select written) said = mailbox_right (authenticated mode account) mode account (command.Select written) said
+  authenticated_right mode account (command.Examine written) said = mailbox_right (authenticated mode account) mode account (command.Examine written) said
+  authenticated_right mode account (command.Create written) said = mailbox_right (authenticated mode account) mode account (command.Create written) said
+  authenticated_right mode account (command.List reference pattern) said = mailbox_right (authenticated mode account) mode account (command.List reference pattern) said
+  authenticated_right mode account (command.Status written items) said = mailbox_right (authenticated mode account) mode account (command.Status written items) said
+  authenticated_right mode account (command.Append written flags date utf8 octets) said = mailbox_right (authenticated mode account) mode account (command.Append written flags date utf8 octets) said
+  authenticated_right mode account command.Capability said = common_right (authenticated mode account) command.Capability
+  authenticated_right mode account command.Noop said = common_right (authenticated mode account) command.Noop
+  authenticated_right mode account command.Logout said = common_right (authenticated mode account) command.Logout
+  authenticated_right mode account command.NotHere said = common_right (authenticated mode account) command.NotHere
+  authenticated_right mode account command.Check said = common_right (authenticated mode account) command.Check
+  authenticated_right mode account (command.Login user password) said = common_right (authenticated mode account) (command.Login user password)
+  authenticated_right mode account (command.Fetch by_uid set items) said = common_right (authenticated mode account) (command.Fetch by_uid set items)
+  authenticated_right mode account (command.Store by_uid set op silent flags) said = common_right (authenticated mode account) (command.Store by_uid set op silent flags)
+  authenticated_right mode account command.Expunge said = common_right (authenticated mode account) command.Expunge
+  authenticated_right mode account command.Close said = common_right (authenticated mode account) command.Close
 
-  selected_right : (mode : Mode) (account folder : ℕ) (read_only : Bool) (said : Command) → AreRight meanings (selected_step meanings tag mode account folder read_only store said).acts
-  selected_right mode account folder read_only command.Check = says_right meanings tag tag_fit done (selected mode account folder read_only) refl
-  selected_right mode account folder read_only (command.Fetch by_uid set items) = fetch_right (selected mode account folder read_only) mode folder read_only by_uid set items
-  selected_right mode account folder read_only (command.Store by_uid set op silent flags) = store_right (selected mode account folder read_only) folder read_only by_uid set op silent flags
-  selected_right mode account folder read_only command.Expunge = expunge_right (selected mode account folder read_only) read_only (listed store.kept folder)
-  selected_right mode account folder read_only command.Close = close_right (authenticated mode account) read_only (listed store.kept folder)
-  selected_right mode account folder read_only (command.Select written) = mailbox_right (selected mode account folder read_only) mode account (command.Select written)
-  selected_right mode account folder read_only (command.Examine written) = mailbox_right (selected mode account folder read_only) mode account (command.Examine written)
-  selected_right mode account folder read_only (command.Create written) = mailbox_right (selected mode account folder read_only) mode account (command.Create written)
-  selected_right mode account folder read_only (command.List reference pattern) = mailbox_right (selected mode account folder read_only) mode account (command.List reference pattern)
-  selected_right mode account folder read_only (command.Status written items) = mailbox_right (selected mode account folder read_only) mode account (command.Status written items)
-  selected_right mode account folder read_only (command.Append written flags date utf8 octets) = mailbox_right (selected mode account folder read_only) mode account (command.Append written flags date utf8 octets)
-  selected_right mode account folder read_only command.Capability = common_right (selected mode account folder read_only) command.Capability
-  selected_right mode account folder read_only command.Noop = common_right (selected mode account folder read_only) command.Noop
-  selected_right mode account folder read_only command.Logout = common_right (selected mode account folder read_only) command.Logout
-  selected_right mode account folder read_only command.NotHere = common_right (selected mode account folder read_only) command.NotHere
-  selected_right mode account folder read_only (command.Login user password) = common_right (selected mode account folder read_only) (command.Login user password)
-  selected_right mode account folder read_only (command.Enable words) = common_right (selected mode account folder read_only) (command.Enable words)
+  selected_right : (mode : Mode) (account folder : ℕ) (read_only : Bool) (said : Command) → IsSaid said → FetchesAscii said → AreRight meanings (selected_step meanings now tag mode account folder read_only store said).acts
+  selected_right mode account folder read_only command.Check said ascii = says_right meanings tag tag_fit done (selected mode account folder read_only) refl
+  selected_right mode account folder read_only (command.Fetch by_uid set items) said ascii = fetch_right (selected mode account folder read_only) mode folder read_only by_uid set items ascii
+  selected_right mode account folder read_only (command.Store by_uid set op silent flags) said ascii = store_right (selected mode account folder read_only) folder read_only by_uid set op silent flags
+  selected_right mode account folder read_only command.Expunge said ascii = expunge_right (selected mode account folder read_only) read_only (listed store.kept folder)
+  selected_right mode account folder read_only command.Close said ascii = close_right (authenticated mode account) read_only (listed store.kept folder)
+  selected_right mode account folder read_only (command.Select written) said ascii = mailbox_right (selected mode account folder read_only) mode account (command.Select written) said
+  selected_right mode account folder read_only (command.Examine written) said ascii = mailbox_right (selected mode account folder read_only) mode account (command.Examine written) said
+  selected_right mode account folder read_only (command.Create written) said ascii = mailbox_right (selected mode account folder read_only) mode account (command.Create written) said
+  selected_right mode account folder read_only (command.List reference pattern) said ascii = mailbox_right (selected mode account folder read_only) mode account (command.List reference pattern) said
+  selected_right mode account folder read_only (command.Status written items) said ascii = mailbox_right (selected mode account folder read_only) mode account (command.Status written items) said
+  selected_right mode account folder read_only (command.Append written flags date utf8 octets) said ascii = mailbox_right (selected mode account folder read_only) mode account (command.Append written flags date utf8 octets) said
+  selected_right mode account folder read_only command.Capability said ascii = common_right (selected mode account folder read_only) command.Capability
+  selected_right mode account folder read_only command.Noop said ascii = common_right (selected mode account folder read_only) command.Noop
+  selected_right mode account folder read_only command.Logout said ascii = common_right (selected mode account folder read_only) command.Logout
+  selected_right mode account folder read_only command.NotHere said ascii = common_right (selected mode account folder read_only) command.NotHere
+  selected_right mode account folder read_only (command.Login user password) said ascii = common_right (selected mode account folder read_only) (command.Login user password)
+  selected_right mode account folder read_only (command.Enable words) said ascii = common_right (selected mode account folder read_only) (command.Enable words)
 
-  pub step_right : (state : State) (said : Command) → AreRight meanings (step meanings state store tag said).acts
+  pub step_right : (state : State) (said : Command) → IsSaid said → FetchesAscii said → AreRight meanings (step meanings now state store tag said).acts
   unfolding step
-  step_right not_authenticated said = unauthenticated_right said
-  step_right (authenticated mode account) said = authenticated_right mode account said
-  step_right (selected mode account folder read_only) said = selected_right mode account folder read_only said
-  step_right ended said = tt
+  step_right not_authenticated said is ascii = unauthenticated_right said
+  step_right (authenticated mode account) said is ascii = authenticated_right mode account said is
+  step_right (selected mode account folder read_only) said is ascii = selected_right mode account folder read_only said is ascii
+  step_right ended said is ascii = tt
 
 -- ---- what is due
 
@@ -518,12 +695,24 @@ append_tag utf8 octets appends is =
     let same : appends.tag ≡ is.value = ap (λ (one : Appends). one.tag) is.second.second.second.second.1 in
     rw same (run_ascii is.front is.value is.first)
 
-pub due_right : (meanings : Meanings) → AreMeanings meanings → (state : State) (store : StoreState) → AreStored store.kept.messages → (utf8 : Bool) (octets : List ℕ) (event : Event) → IsDue utf8 octets event
-    → AreRight meanings (due_step meanings state store event).acts
-due_right meanings are state store stored utf8 octets More due = absurd due
-due_right meanings are state store stored utf8 octets Go due = (refl, tt)
-due_right meanings are state store stored utf8 octets (CommandEvent tag said) due = step_right meanings are store stored tag (command_tag utf8 octets tag said due.1) state said
-due_right meanings are state store stored utf8 octets (Bad (Some tag) at) due = says_right meanings tag (run_ascii tag tag due.3.is_tag) (codes "BAD syntax") state refl
-due_right meanings are state store stored utf8 octets (Bad None at) due = (refl, tt)
-due_right meanings are state store stored utf8 octets (TooLarge tag) due = says_right meanings tag (rw due.1.2 (append_tag utf8 octets due.1.0 due.1.1)) (codes "NO too large") state refl
-due_right meanings are state store stored utf8 octets TooLong due = (refl, tt)
+pub due_right : (meanings : Meanings) → AreMeanings meanings → (now : List ℕ) → IsDate now → (state : State) (store : StoreState) → AreStored store.kept.messages → (utf8 : Bool) (octets : List ℕ) (event : Event)
+    → IsDue utf8 octets event → AreRight meanings (due_step meanings now state store event).acts
+due_right meanings are now dated state store stored utf8 octets More due = absurd due
+due_right meanings are now dated state store stored utf8 octets Go due = (refl, tt)
+due_right meanings are now dated state store stored utf8 octets (CommandEvent tag said) due =
+    step_right meanings are now dated store stored tag (command_tag utf8 octets tag said due.1) state said (said_of utf8 octets (CommandEvent tag said) due) (names_of utf8 octets tag said due)
+due_right meanings are now dated state store stored utf8 octets (Bad (Some tag) at) due = says_right meanings tag (run_ascii tag tag due.3.is_tag) (codes "BAD syntax") state refl
+due_right meanings are now dated state store stored utf8 octets (Bad None at) due = (refl, tt)
+due_right meanings are now dated state store stored utf8 octets (TooLarge tag) due = says_right meanings tag (rw due.1.2 (append_tag utf8 octets due.1.0 due.1.1)) (codes "NO too large") state refl
+due_right meanings are now dated state store stored utf8 octets TooLong due = (refl, tt)
+
+-- ---- dates
+
+long_ago_date : IsDate long_ago
+unfolding fits_shape fits_letter same_name
+long_ago_date = is_date_date long_ago refl
+
+-- the date of the next moment is one
+pub date_at_date : (moments : List Moment) → IsDate (date_at moments)
+date_at_date [] = long_ago_date
+date_at_date (moment ∷ moments) = cond_both (is_date moment.internal) moment.internal long_ago IsDate (λ is. is_date_date moment.internal is) (λ _. long_ago_date)

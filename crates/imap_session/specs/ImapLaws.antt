@@ -1,8 +1,8 @@
 -- What the driver takes of IMAP: a turn doesn't depend on what comes later, and whatever is asked for, the replies may be sent.
-use Rattle.std.proofs.Common.{◌≡◌, List, [], ℕ, zero, suc, ◌+◌, ◌-◌, ◌<◌, ◌≤◌, ◌++◌, Bool, Option, Some, None, refl, sym, ap, ◌∙◌, arith, length, take, drop, length-drop, subst}
+use Rattle.std.proofs.Common.{◌≡◌, List, [], ℕ, ◌+◌, ◌-◌, ◌<◌, ◌≤◌, ◌++◌, Bool, Option, Some, None, refl, sym, ap, ◌∙◌, arith, length, take, drop, length-drop, subst}
 use Rattle.std.specs.Option.{option_map}
 use Rattle.std.proofs.lemmas.List.{drop-append-le, take-append-le}
-use Rattle.std.proofs.lemmas.Option.{same_Some, none-some}
+use Rattle.std.proofs.lemmas.Option.{same_Some}
 use Rattle.mail_store.specs.StoreState.{AreStored}
 use Rattle.surrogate_cache.specs.Served.{is_enabled}
 use Rattle.imap_grammar.specs.Events.{IsDue, NothingBefore, Tells, seen_after}
@@ -18,9 +18,9 @@ use Rattle.session_core.specs.Protocol.{IsFitTurn}
 use Rattle.session_core.specs.Turns.{Turn, IsFramed, followed_by}
 use Rattle.session_core.specs.declared.desk.Desk.{Desk}
 use Rattle.imap_session.specs.Machine.{State, authenticated, ended, mode_of, not_authenticated, reply, selected}
-use Rattle.imap_session.specs.FitLaws.{due_right, fit_of, stored_of}
+use Rattle.imap_session.specs.FitLaws.{date_at_date, due_right, fit_of, stored_of}
 use Rattle.imap_session.specs.Replies.{ReplyPart}
-use Rattle.imap_session.specs.Session.{ImapReady, ImapStands, Machine, due_turn, greeting, imap_protocol, next_turn, start_of, state_of, turn_from}
+use Rattle.imap_session.specs.Session.{ImapReady, ImapStands, Machine, date_at, due_turn, greeting, imap_protocol, next_turn, start_of, state_of, turn_from}
 use Rattle.imap_session.specs.declared.session.ImapMachine.{ImapMachine}
 use Rattle.imap_session.specs.declared.states.ImapState.{ImapState}
 use Rattle.imap_session.specs.declared.states.ImapState.TheVariants as imap
@@ -168,7 +168,7 @@ framed_by meanings are = record { shorter = shorter_by meanings are; stays = sta
 -- ---- whatever is asked for, the replies may be sent
 
 pub begins_fit_by : (meanings : Meanings) → AreMeanings meanings → (moments : List Moment) (desk : Desk) → IsOpen desk
-    → IsFitTurn imap_protocol meanings (record { parts = reply greeting; after = start_of desk.store; rest = [] })
+    → IsFitTurn imap_protocol meanings (record { parts = reply greeting; after = start_of desk.store moments; rest = [] })
 begins_fit_by meanings are moments desk opens = record { fit = (refl, tt); sound = opens.stored }
 
 pub fits_by : (meanings : Meanings) → AreMeanings meanings → (machine : Machine) (octets : List ℕ) (turn : Turn Machine (Act ReplyPart)) → AreStored machine.store.kept.messages
@@ -176,5 +176,6 @@ pub fits_by : (meanings : Meanings) → AreMeanings meanings → (machine : Mach
 fits_by meanings are machine octets turn sound is =
     let of = comes meanings machine octets turn is in
     let at = at_due (is_enabled (mode_of machine.state)) machine.seen octets of.due (first_of meanings are machine octets turn of) in
-    let right = due_right meanings are machine.state machine.store sound (is_enabled (mode_of machine.state)) (machine.seen ++ take of.due.used octets) of.due.event at.is_due in
+    let dated = date_at_date machine.moments in
+    let right = due_right meanings are (date_at machine.moments) dated machine.state machine.store sound (is_enabled (mode_of machine.state)) (machine.seen ++ take of.due.used octets) of.due.event at.is_due in
     rw of.turn_is (record { fit = fit_of meanings _ right; sound = stored_of meanings machine.store.kept _ right sound })

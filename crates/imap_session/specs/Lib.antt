@@ -1,6 +1,9 @@
 pub mod Replies
+pub mod Items
 pub mod Machine
 pub mod Session
+pub mod CommandLaws
+pub mod ViewLaws
 pub mod FitLaws
 pub mod ImapLaws
 pub mod private

@@ -1,10 +1,10 @@
 -- The IMAP machine (RFC 3501, 3, 6 and 7; RFC 5161, 3.1; RFC 6855, 3).
-use Rattle.std.specs.Prelude.{ℕ, Bool, true, false, ◌+◌, ◌==◌, ◌++◌, ◌&&◌, not, nat_le, nat_lt, List, [], ◌∷◌, Option, None, Some, length, codes, map, filter, slice_get, count_by, option_and_then, if◌then◌else◌}
+use Rattle.std.specs.Prelude.{ℕ, Bool, true, false, ◌+◌, ◌==◌, ◌++◌, ◌&&◌, ◌||◌, not, nat_le, nat_lt, List, [], ◌∷◌, Option, None, Some, length, codes, map, filter, slice_get, count_by, is_some, option_and_then, if◌then◌else◌}
 use Rattle.std.specs.Fmt.{decimal}
 use Rattle.std.specs.List.{flat_map, list_any, list_all}
 use Rattle.std.specs.Option.{option_map_or}
 use Rattle.std.specs.Str.{chars, is_utf8}
-use Rattle.mail_wire.specs.Lines.{crlf}
+use Rattle.mail_wire.specs.Lines.{crlf, is_crlf}
 use Rattle.mail_wire.specs.Octets.{same_name}
 use Rattle.unicode_normalization.specs.Forms.{is_nfc}
 use Rattle.std.specs.Char.{is_control}
@@ -15,12 +15,11 @@ use Rattle.journal_records.specs.declared.records.Record.TheVariants as records
 use Rattle.kept_mail.specs.declared.kept.Listed.{Listed}
 use Rattle.mail_store.specs.declared.changing.StoreFault.{StoreFault}
 use Rattle.mail_store.specs.declared.changing.StoreFault.TheVariants as refusal
-use Rattle.mail_store.specs.Changing.{expunged, folder_refusal}
-use Rattle.kept_mail.specs.Kept.{find_folder, folder_names, kept_folder_name, listed, logged_in, uid_next}
+use Rattle.mail_store.specs.Changing.{append_refusal, expunged, folder_refusal}
+use Rattle.kept_mail.specs.Kept.{Kept, after_record, find_folder, folder_names, kept_folder_name, listed, logged_in, uid_next}
 use Rattle.mail_store.specs.StoreState.{StoreState}
-use Rattle.surrogate_cache.specs.Served.{Mode, legacy, enabled, is_enabled, served_by}
+use Rattle.surrogate_cache.specs.Served.{Mode, legacy, enabled, is_enabled}
 use Rattle.session_core.specs.Acts.{Act, gives, changes}
-use Rattle.session_core.specs.Desks.{stored_date, stored_octets}
 use Rattle.session_core.specs.Meanings.{Meanings}
 use Rattle.imap_grammar.specs.declared.command.Set.{Set}
 use Rattle.imap_grammar.specs.declared.command.StatusItem.{StatusItem}
@@ -29,14 +28,14 @@ use Rattle.imap_grammar.specs.declared.command.StoreOp.{StoreOp}
 use Rattle.imap_grammar.specs.declared.command.StoreOp.TheVariants.{Add}
 use Rattle.imap_grammar.specs.declared.command.FetchItem.{FetchItem}
 use Rattle.imap_grammar.specs.declared.command.FetchItem.TheVariants as item
-use Rattle.imap_grammar.specs.declared.command.SectionPart.TheVariants.{Whole}
 use Rattle.imap_grammar.specs.declared.command.Command.{Command}
 use Rattle.imap_grammar.specs.declared.command.Command.TheVariants as command
 use Rattle.imap_mailboxes.specs.Flags.{flags_text, has_flag, stored_flags}
 use Rattle.imap_mailboxes.specs.Names.{shown_name}
 use Rattle.imap_mailboxes.specs.Patterns.{is_match}
 use Rattle.imap_mailboxes.specs.Sets.{chosen_places, is_refused}
-use Rattle.imap_session.specs.Replies.{ReplyPart, text, name, shown}
+use Rattle.imap_session.specs.Items.{is_flags, is_uid, item_parts, sets_seen}
+use Rattle.imap_session.specs.Replies.{ReplyPart, text, name}
 
 -- ---- states and steps
 
@@ -89,9 +88,6 @@ no_such_folder tag state = says tag (codes "NO no such folder") state
 
 abbrev pub no_such_message : (tag : List ℕ) → State → Step
 no_such_message tag state = says tag (codes "BAD no such message") state
-
-abbrev pub not_built : (tag : List ℕ) → State → Step
-not_built tag state = says tag (codes "NO not built") state
 
 abbrev pub refused_as_read_only : (tag : List ℕ) → State → Step
 refused_as_read_only tag state = says tag (codes "NO read only") state
@@ -200,6 +196,55 @@ abbrev pub status_by : (tag : List ℕ) → State → Mode → StoreState → Li
 status_by tag state mode store items None = no_such_folder tag state
 status_by tag state mode store items (Some folder) = answers tag done (status_line mode store folder items) state
 
+-- ---- APPEND
+
+-- there are no octets, or CRLF or a CR stands at their end
+unfoldable pub is_complete : List ℕ → Bool
+is_complete [] = true
+is_complete (x ∷ []) = x == 13
+is_complete (x ∷ y ∷ []) = is_crlf x y || y == 13
+is_complete (x ∷ y ∷ z ∷ rest) = is_complete (y ∷ z ∷ rest)
+
+-- data whose last line lacks its end are completed
+abbrev pub completed : List ℕ → List ℕ
+completed octets = if is_complete octets then octets else octets ++ crlf
+
+-- the folder that is selected, if one is
+abbrev pub opened_in : State → Option ℕ
+opened_in (selected mode account folder read_only) = Some folder
+opened_in other = None
+
+-- how many messages the selected folder has is told where it is the one that has another now
+abbrev pub exists_lines : (opened : Option ℕ) → Kept → (folder : ℕ) → List ReplyPart
+exists_lines None kept folder = []
+exists_lines (Some opened) kept folder = if opened == folder then untagged (decimal (length (listed kept folder)) ++ codes " EXISTS") ∷ [] else []
+
+-- the record of a message that is put last in a folder
+abbrev pub appended : (folder flags : ℕ) → (date octets : List ℕ) → Record
+appended folder flags date octets = records.Message folder flags date octets
+
+abbrev pub append_unless : (tag : List ℕ) → State → (opened : Option ℕ) → Kept → (folder : ℕ) → Record → Option StoreFault → Step
+append_unless tag state opened kept folder made None = ends_with tag done (changes (made ∷ []) ∷ reply (exists_lines opened (after_record kept made) folder)) state
+append_unless tag state opened kept folder made (Some other) = says tag (codes "NO too large") state
+
+-- octets without a tree of entities are no message
+abbrev pub append_octets : (has_tree : Bool) → (tag : List ℕ) → State → (opened : Option ℕ) → StoreState → (folder flags : ℕ) → (date octets : List ℕ) → Step
+append_octets has_tree tag state opened store folder flags date octets =
+    if has_tree then append_unless tag state opened store.kept folder (appended folder flags date octets) (append_refusal store octets)
+    else says tag (codes "NO not a message") state
+
+-- data in the form with UTF8 are for a session that enabled it (RFC 6855, 4)
+abbrev pub append_in : Meanings → (tag : List ℕ) → State → (opened : Option ℕ) → Mode → StoreState → (flags : ℕ) → (date : List ℕ) → (in_utf8 : Bool) → (octets : List ℕ) → Option ℕ → Step
+append_in meanings tag state opened mode store flags date in_utf8 octets None = no_such_folder tag state
+append_in meanings tag state opened mode store flags date in_utf8 octets (Some folder) =
+    if in_utf8 && not (is_enabled mode) then says tag (codes "NO not enabled") state
+    else append_octets (meanings.has_tree (completed octets)) tag state opened store folder flags date (completed octets)
+
+-- a date that isn't given is that of the present moment
+abbrev pub date_or : (now : List ℕ) → Option (List ℕ) → List ℕ
+date_or now None = now
+date_or now (Some date) = date
+
 -- ---- messages
 
 -- a message with its number in the folder, from 1 on
@@ -224,54 +269,11 @@ flags_change one flags = records.Flags one.id flags ∷ []
 
 -- ---- FETCH
 
--- A message is wholly shown by RFC822, BODY[] and BODY.PEEK[]; the other items that show of it aren't built.
-abbrev pub is_built : FetchItem → Bool
-is_built item.Flags = true
-is_built item.Uid = true
-is_built item.InternalDate = true
-is_built item.Size = true
-is_built item.Rfc822 = true
-is_built (item.Section peek [] Whole None) = true
-is_built other = false
-
--- what is shown without `PEEK` is seen
-abbrev pub sets_seen : FetchItem → Bool
-sets_seen item.Rfc822 = true
-sets_seen (item.Section peek path part partial) = not peek
-sets_seen other = false
-
--- how many octets a session is served of a message
-abbrev pub size_of : Meanings → Mode → StoreState → Listed → ℕ
-size_of meanings mode store one = length (served_by meanings.surrogate mode (stored_octets store one.id))
-
--- the octets of a message as a literal, behind the name of what was asked
-abbrev pub literal_parts : Meanings → Mode → StoreState → Listed → (asked : List ℕ) → List ReplyPart
-literal_parts meanings mode store one asked =
-    text (asked ++ (codes " {" ++ (decimal (size_of meanings mode store one) ++ codes "}\r\n")))
-    ∷ shown (stored_octets store one.id) mode 0 (size_of meanings mode store one) ∷ []
-
-abbrev pub item_parts : Meanings → Mode → StoreState → Listed → FetchItem → List ReplyPart
-item_parts meanings mode store one item.Flags = text (flags_text one.flags) ∷ []
-item_parts meanings mode store one item.Uid = text (codes "UID " ++ decimal one.uid) ∷ []
-item_parts meanings mode store one item.InternalDate = text (codes "INTERNALDATE \"" ++ (stored_date store one.id ++ codes "\"")) ∷ []
-item_parts meanings mode store one item.Size = text (codes "RFC822.SIZE " ++ decimal (size_of meanings mode store one)) ∷ []
-item_parts meanings mode store one item.Rfc822 = literal_parts meanings mode store one (codes "RFC822")
-item_parts meanings mode store one (item.Section peek path part partial) = literal_parts meanings mode store one (codes "BODY[]")
-item_parts meanings mode store one other = []
-
 -- a space before each, but the first where nothing stands before it
 abbrev pub parts_behind : (others : Bool) → List (List ReplyPart) → List ReplyPart
 parts_behind others [] = []
 parts_behind false (parts ∷ more) = parts ++ parts_behind true more
 parts_behind true (parts ∷ more) = text (codes " ") ∷ (parts ++ parts_behind true more)
-
-abbrev pub is_uid : FetchItem → Bool
-is_uid item.Uid = true
-is_uid other = false
-
-abbrev pub is_flags : FetchItem → Bool
-is_flags item.Flags = true
-is_flags other = false
 
 -- UID FETCH tells the UID first where it isn't asked
 abbrev pub with_uid : (by_uid : Bool) → List FetchItem → List FetchItem
@@ -303,9 +305,7 @@ fetch_one meanings mode store by_uid read_only items one =
 
 abbrev pub fetch_step : Meanings → (tag : List ℕ) → State → Mode → (folder : ℕ) → (read_only : Bool) → StoreState → (by_uid : Bool) → Set → List FetchItem → Step
 fetch_step meanings tag state mode folder read_only store by_uid set items =
-    if list_all is_built items
-    then for_each tag state by_uid set (listed store.kept folder) (fetch_one meanings mode store by_uid read_only items)
-    else not_built tag state
+    for_each tag state by_uid set (listed store.kept folder) (fetch_one meanings mode store by_uid read_only items)
 
 -- ---- STORE
 
@@ -377,37 +377,38 @@ not_authenticated_step meanings tag store (command.Login user password) = login_
 not_authenticated_step meanings tag store other = common_step tag not_authenticated other
 
 -- the commands of every session that is authenticated, whether a folder is selected or not
-abbrev pub mailbox_step : Meanings → (tag : List ℕ) → State → Mode → (account : ℕ) → StoreState → Command → Step
-mailbox_step meanings tag state mode account store (command.Select written) = select_by tag mode account false store (folder_named meanings mode store account written)
-mailbox_step meanings tag state mode account store (command.Examine written) = select_by tag mode account true store (folder_named meanings mode store account written)
-mailbox_step meanings tag state mode account store (command.Create written) = create_by tag state account store (meanings.name_of (is_enabled mode) written)
-mailbox_step meanings tag state mode account store (command.List reference pattern) = answers tag done (list_lines mode store account reference pattern) state
-mailbox_step meanings tag state mode account store (command.Status written items) = status_by tag state mode store items (folder_named meanings mode store account written)
-mailbox_step meanings tag state mode account store (command.Append written flags date utf8 octets) = not_built tag state
-mailbox_step meanings tag state mode account store other = common_step tag state other
+abbrev pub mailbox_step : Meanings → (now tag : List ℕ) → State → Mode → (account : ℕ) → StoreState → Command → Step
+mailbox_step meanings now tag state mode account store (command.Select written) = select_by tag mode account false store (folder_named meanings mode store account written)
+mailbox_step meanings now tag state mode account store (command.Examine written) = select_by tag mode account true store (folder_named meanings mode store account written)
+mailbox_step meanings now tag state mode account store (command.Create written) = create_by tag state account store (meanings.name_of (is_enabled mode) written)
+mailbox_step meanings now tag state mode account store (command.List reference pattern) = answers tag done (list_lines mode store account reference pattern) state
+mailbox_step meanings now tag state mode account store (command.Status written items) = status_by tag state mode store items (folder_named meanings mode store account written)
+mailbox_step meanings now tag state mode account store (command.Append written flags date in_utf8 octets) =
+    append_in meanings tag state (opened_in state) mode store flags (date_or now date) in_utf8 octets (folder_named meanings mode store account written)
+mailbox_step meanings now tag state mode account store other = common_step tag state other
 
-abbrev pub authenticated_step : Meanings → (tag : List ℕ) → Mode → (account : ℕ) → StoreState → Command → Step
-authenticated_step meanings tag mode account store (command.Enable words) = enable_step tag mode account (asks_utf8 words)
-authenticated_step meanings tag mode account store other = mailbox_step meanings tag (authenticated mode account) mode account store other
+abbrev pub authenticated_step : Meanings → (now tag : List ℕ) → Mode → (account : ℕ) → StoreState → Command → Step
+authenticated_step meanings now tag mode account store (command.Enable words) = enable_step tag mode account (asks_utf8 words)
+authenticated_step meanings now tag mode account store other = mailbox_step meanings now tag (authenticated mode account) mode account store other
 
-abbrev pub selected_step : Meanings → (tag : List ℕ) → Mode → (account folder : ℕ) → (read_only : Bool) → StoreState → Command → Step
-selected_step meanings tag mode account folder read_only store command.Check = says tag done (selected mode account folder read_only)
-selected_step meanings tag mode account folder read_only store (command.Fetch by_uid set items) =
+abbrev pub selected_step : Meanings → (now tag : List ℕ) → Mode → (account folder : ℕ) → (read_only : Bool) → StoreState → Command → Step
+selected_step meanings now tag mode account folder read_only store command.Check = says tag done (selected mode account folder read_only)
+selected_step meanings now tag mode account folder read_only store (command.Fetch by_uid set items) =
     fetch_step meanings tag (selected mode account folder read_only) mode folder read_only store by_uid set items
-selected_step meanings tag mode account folder read_only store (command.Store by_uid set op silent flags) =
+selected_step meanings now tag mode account folder read_only store (command.Store by_uid set op silent flags) =
     store_step tag (selected mode account folder read_only) folder read_only store by_uid set op silent flags
-selected_step meanings tag mode account folder read_only store command.Expunge =
+selected_step meanings now tag mode account folder read_only store command.Expunge =
     expunge_step tag (selected mode account folder read_only) read_only (listed store.kept folder)
-selected_step meanings tag mode account folder read_only store command.Close = close_step tag (authenticated mode account) read_only (listed store.kept folder)
-selected_step meanings tag mode account folder read_only store other =
-    mailbox_step meanings tag (selected mode account folder read_only) mode account store other
+selected_step meanings now tag mode account folder read_only store command.Close = close_step tag (authenticated mode account) read_only (listed store.kept folder)
+selected_step meanings now tag mode account folder read_only store other =
+    mailbox_step meanings now tag (selected mode account folder read_only) mode account store other
 
--- a command in a state; after the end none is read
-unfoldable pub step : Meanings → State → StoreState → (tag : List ℕ) → Command → Step
-step meanings not_authenticated store tag said = not_authenticated_step meanings tag store said
-step meanings (authenticated mode account) store tag said = authenticated_step meanings tag mode account store said
-step meanings (selected mode account folder read_only) store tag said = selected_step meanings tag mode account folder read_only store said
-step meanings ended store tag said = record { acts = []; state = ended }
+-- a command in a state, at a moment of this date; after the end none is read
+unfoldable pub step : Meanings → (now : List ℕ) → State → StoreState → (tag : List ℕ) → Command → Step
+step meanings now not_authenticated store tag said = not_authenticated_step meanings tag store said
+step meanings now (authenticated mode account) store tag said = authenticated_step meanings now tag mode account store said
+step meanings now (selected mode account folder read_only) store tag said = selected_step meanings now tag mode account folder read_only store said
+step meanings now ended store tag said = record { acts = []; state = ended }
 
 -- the mode in which commands are read
 abbrev pub mode_of : State → Mode
@@ -415,3 +416,14 @@ mode_of not_authenticated = legacy
 mode_of (authenticated mode account) = mode
 mode_of (selected mode account folder read_only) = mode
 mode_of ended = legacy
+
+-- the command puts a message into a folder, and gives it no date
+abbrev pub lacks_date : Command → Bool
+lacks_date (command.Append written flags date in_utf8 octets) = not (is_some date)
+lacks_date other = false
+
+-- such a message has the date of a moment, where one may be put into a folder
+abbrev pub takes_moment : State → Command → Bool
+takes_moment (authenticated mode account) said = lacks_date said
+takes_moment (selected mode account folder read_only) said = lacks_date said
+takes_moment state said = false

@@ -14,17 +14,20 @@ pub data ReplyPart : Type 0 where
   name : (mode : Mode) (octets : List ℕ) → ReplyPart
   -- of what the mode serves of a message, so many octets from this place on
   shown : (msg : List ℕ) (mode : Mode) (at len : ℕ) → ReplyPart
+  -- a view of what the mode serves of a message
+  viewed : (mode : Mode) (octets : List ℕ) → ReplyPart
 
 -- the octets of a part
 abbrev pub part_octets : Meanings → ReplyPart → List ℕ
 part_octets meanings (text octets) = octets
 part_octets meanings (name mode octets) = quoted (shown_name (is_enabled mode) octets)
 part_octets meanings (shown msg mode at len) = take len (drop at (served_by meanings.surrogate mode msg))
+part_octets meanings (viewed mode octets) = octets
 
 abbrev pub reply_octets : Meanings → List ReplyPart → List ℕ
 reply_octets meanings parts = flat_map (part_octets meanings) parts
 
--- All but names and messages is ASCII, and so are names in a legacy session. What a legacy session is shown of a message is a range of
+-- All but names, messages and views is ASCII, and so are names and views in a legacy session. What a legacy session is shown of a message is a range of
 -- the message's surrogate, all of whose header blocks are ASCII.
 abbrev pub IsFit : Meanings → ReplyPart → Type 0
 IsFit meanings (text octets) = list_all is_ascii octets ≡ true
@@ -32,6 +35,8 @@ IsFit meanings (name legacy octets) = list_all is_ascii (part_octets meanings (n
 IsFit meanings (name enabled octets) = Unit {0}
 IsFit meanings (shown msg legacy at len) = HasSurrogate msg (meanings.surrogate msg) × HasAsciiBlocks (meanings.surrogate msg)
 IsFit meanings (shown msg enabled at len) = Unit {0}
+IsFit meanings (viewed legacy octets) = list_all is_ascii octets ≡ true
+IsFit meanings (viewed enabled octets) = Unit {0}
 
 abbrev pub AreFit : Meanings → List ReplyPart → Type 0
 AreFit meanings parts = AllByRecursion (IsFit meanings) parts

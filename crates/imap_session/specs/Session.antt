@@ -1,7 +1,10 @@
 -- A session (RFC 3501, 3): the machine over a stream, and what its values stand for.
-use Rattle.std.specs.Prelude.{◌≡◌, ℕ, ◌+◌, ◌^◌, ◌<◌, ◌++◌, List, [], ◌∷◌, codes, drop, length, Option, None, Some, Result, IfOk}
+use Rattle.std.specs.Prelude.{◌≡◌, ℕ, ◌+◌, ◌^◌, ◌<◌, ◌++◌, Bool, true, false, ◌&&◌, List, [], ◌∷◌, codes, drop, length, Option, None, Some, Result, IfOk, if◌then◌else◌, slice_range}
+use Rattle.std.specs.List.{All, list_any}
 use Rattle.std.specs.Option.{option_map}
 use Rattle.mail_wire.specs.declared.outside.Fault.{Fault}
+use Rattle.mail_wire.specs.Octets.{same_name}
+use Rattle.journal_records.specs.Grammar.{IsDate, date_shape, fits_letter, months}
 use Rattle.mail_store.specs.Following.{records_of}
 use Rattle.kept_mail.specs.Kept.{listed}
 use Rattle.mail_store.specs.StoreState.{StoreState, AreStored, with_records}
@@ -18,38 +21,72 @@ use Rattle.session_core.specs.Around.{Around}
 use Rattle.session_core.specs.Doing.{Does}
 use Rattle.session_core.specs.Keeps.{fault_of}
 use Rattle.session_core.specs.Meanings.{Meanings, WithMeanings}
-use Rattle.session_core.specs.Moments.{Moment}
+use Rattle.session_core.specs.Moments.{Moment, IsTold}
 use Rattle.session_core.specs.Protocol.{Protocol}
 use Rattle.session_core.specs.Turns.{Turn}
 use Rattle.session_core.specs.declared.desk.Desk.{Desk}
-use Rattle.imap_session.specs.Machine.{State, not_authenticated, authenticated, selected, ended, Step, line, mode_of, reply, says, step, untagged}
+use Rattle.imap_grammar.specs.declared.command.Command.{Command as CommandOf}
+use Rattle.imap_grammar.specs.declared.command.Command.TheVariants as command
+use Rattle.imap_session.specs.Machine.{State, not_authenticated, authenticated, selected, ended, Step, line, mode_of, reply, says, step, takes_moment, untagged}
 use Rattle.imap_session.specs.Replies.{ReplyPart, IsFit, part_octets}
 use Rattle.imap_session.specs.declared.session.ImapMachine.{ImapMachine}
 use Rattle.imap_session.specs.declared.states.ImapState.{ImapState}
 use Rattle.imap_session.specs.declared.states.ImapState.TheVariants as imap
 
--- the machine, its store, and the octets of a command in which literals were asked for
+-- the machine, its store, the octets of a command in which literals were asked for, and the moments that are still to come
 pub record Machine : Type 0 where
   pub state : State
   pub store : StoreState
   pub seen : List ℕ
+  pub moments : List Moment
+
+-- the text is a date: each octet fits its letter, and the month is one
+unfoldable pub fits_shape : (shape date : List ℕ) → Bool
+fits_shape [] [] = true
+fits_shape (letter ∷ shape) (x ∷ date) = fits_letter letter x && fits_shape shape date
+fits_shape shape date = false
+
+abbrev pub is_date : List ℕ → Bool
+is_date date = fits_shape date_shape date && list_any (λ month. same_name month (slice_range date 3 6)) months
+
+-- the date at the next moment; where none is left, or its text is no date, that of a moment long ago
+abbrev pub long_ago : List ℕ
+long_ago = codes " 1-Jan-1970 00:00:00 +0000"
+
+abbrev pub date_at : List Moment → List ℕ
+date_at [] = long_ago
+date_at (moment ∷ moments) = if is_date moment.internal then moment.internal else long_ago
+
+-- the moments behind one that was taken, or not
+abbrev pub moments_behind : (taken : Bool) → List Moment → List Moment
+moments_behind true (moment ∷ moments) = moments
+moments_behind other moments = moments
+
+abbrev pub event_takes : State → Event → Bool
+event_takes state (Command tag said) = takes_moment state said
+event_takes state other = false
 
 -- what is due: a literal may come, or a command is answered, or refused
-abbrev pub due_step : Meanings → State → StoreState → Event → Step
-due_step meanings state store More = record { acts = []; state = state }
-due_step meanings state store Go = record { acts = reply (line (codes "+ go") ∷ []); state = state }
-due_step meanings state store (Command tag said) = step meanings state store tag said
-due_step meanings state store (Bad (Some tag) at) = says tag (codes "BAD syntax") state
-due_step meanings state store (Bad None at) = record { acts = reply (untagged (codes "BAD syntax") ∷ []); state = state }
-due_step meanings state store (TooLarge tag) = says tag (codes "NO too large") state
-due_step meanings state store TooLong = record { acts = reply (untagged (codes "BYE line too long") ∷ []); state = ended }
+abbrev pub due_step : Meanings → (now : List ℕ) → State → StoreState → Event → Step
+due_step meanings now state store More = record { acts = []; state = state }
+due_step meanings now state store Go = record { acts = reply (line (codes "+ go") ∷ []); state = state }
+due_step meanings now state store (Command tag said) = step meanings now state store tag said
+due_step meanings now state store (Bad (Some tag) at) = says tag (codes "BAD syntax") state
+due_step meanings now state store (Bad None at) = record { acts = reply (untagged (codes "BAD syntax") ∷ []); state = state }
+due_step meanings now state store (TooLarge tag) = says tag (codes "NO too large") state
+due_step meanings now state store TooLong = record { acts = reply (untagged (codes "BYE line too long") ∷ []); state = ended }
 
 abbrev pub due_turn : Meanings → Machine → List ℕ → Due → Turn Machine (Act ReplyPart)
 due_turn meanings machine octets due =
-    let taken = due_step meanings machine.state machine.store due.event in
+    let taken = due_step meanings (date_at machine.moments) machine.state machine.store due.event in
     record {
       parts = taken.acts;
-      after = record { state = taken.state; store = with_records machine.store (records_of (changes_in taken.acts)); seen = seen_after machine.seen octets due.used due.event };
+      after = record {
+        state = taken.state;
+        store = with_records machine.store (records_of (changes_in taken.acts));
+        seen = seen_after machine.seen octets due.used due.event;
+        moments = moments_behind (event_takes machine.state due.event) machine.moments;
+      };
       rest = drop due.used octets;
     }
 
@@ -67,15 +104,15 @@ next_turn meanings machine octets = turn_from meanings machine.state machine oct
 abbrev pub greeting : List ReplyPart
 greeting = untagged (codes "OK IMAP4rev1 ready") ∷ []
 
-abbrev pub start_of : StoreState → Machine
-start_of store = record { state = not_authenticated; store = store; seen = [] }
+abbrev pub start_of : StoreState → List Moment → Machine
+start_of store moments = record { state = not_authenticated; store = store; seen = []; moments = moments }
 
 abbrev pub imap_protocol : Protocol
 imap_protocol = record {
   S = Machine;
   P = ReplyPart;
   opening = λ store. reply greeting;
-  start = λ moments store. start_of store;
+  start = λ moments store. start_of store moments;
   next = next_turn;
   spelled = part_octets;
   Fits = IsFit;
@@ -122,6 +159,7 @@ KnowsNext store (Some session) = KnowsState store session
 pub record ImapStands (moments : List Moment) (session : ImapMachine) (kept : List ℕ) (desk : Desk) (machine : Machine) (rest : List ℕ) : Type 0 where
   pub state_is : machine.state ≡ state_of session.state
   pub store_is : machine.store ≡ desk.store
+  pub moments_are : machine.moments ≡ moments
   pub reads : HasSeen (is_enabled (mode_of machine.state)) session.reader (machine.seen ++ rest)
   pub quiet : NothingBefore (is_enabled (mode_of machine.state)) machine.seen rest (length rest + 1)
 
@@ -142,3 +180,20 @@ pub record TakesStep (before now : Around) (result : Result (Option ImapState) F
   pub does : WithMeanings (λ meanings. Does (part_octets meanings) before now (fault_of result) (taken meanings).acts)
   pub next : WithMeanings (λ meanings. IfOk result (λ next. state_or_ended next ≡ (taken meanings).state))
   pub known : IfOk result (KnowsNext now.desk.store)
+
+-- what a command says that the step of its state needs: a date that is given is one, and a bit for each flag
+abbrev pub IsSaid : CommandOf → Type 0
+IsSaid (command.Append written flags (Some date) in_utf8 octets) = IsDate date × (flags < 32)
+IsSaid (command.Append written flags None in_utf8 octets) = flags < 32
+IsSaid other = Unit {0}
+
+abbrev pub IsSaidIn : Event → Type 0
+IsSaidIn (Command tag said) = IsSaid said
+IsSaidIn other = Unit {0}
+
+-- The same step with a moment that the clock told, where one is taken. A fault may come before it was told.
+pub record TakesStepAt (before now : Around) (result : Result (Option ImapState) Fault) (takes : Bool) (taken : Meanings → (date : List ℕ) → Step) : Type 0 where
+  pub told : List Moment
+  pub are_told : All (IsTold before.clock) told
+  pub count : IfOk result (λ next. (more : List Moment) → moments_behind takes (told ++ more) ≡ more)
+  pub steps : (more : List Moment) → TakesStep before now result (λ meanings. taken meanings (date_at (told ++ more)))

@@ -1,18 +1,19 @@
 //! The commands of each state.
-ghost use Rattle.std.specs.Prelude.{◌≡◌, ◌<◌, length, false, OnOk};
+ghost use Rattle.std.specs.Prelude.{◌≡◌, ◌<◌, ℕ, List, length, false, OnOk};
 ghost use Rattle.kept_mail.specs.Kept.{listed, logged_in};
 ghost use Rattle.mail_store.specs.StoreState.{StoreState};
 ghost use Rattle.session_core.specs.Desks.{IsOpen};
 ghost use Rattle.session_core.specs.Doing.{Does};
 ghost use Rattle.session_core.specs.Keeps.{Keeps, fault_of};
 ghost use Rattle.session_core.specs.Meanings.{Meanings, WithMeanings};
-ghost use Rattle.imap_session.specs.Machine.{State, answers, asks_utf8 as asks_utf8_of, authenticated_step, common_step, done, enable_step, folder_lines as lines_of_folder, folder_named, list_lines as lines_of_list, login_by, mailbox_step, not_authenticated_step, opened_words as words_of_opened, select_by, status_by, step};
+ghost use Rattle.imap_session.specs.Machine.{State, answers, asks_utf8 as asks_utf8_of, authenticated_step, common_step, done, enable_step, folder_lines as lines_of_folder, folder_named, lacks_date, list_lines as lines_of_list, login_by, mailbox_step, not_authenticated_step, opened_words as words_of_opened, select_by, status_by, step, takes_moment};
 ghost use Rattle.imap_session.specs.Replies.{part_octets};
-ghost use Rattle.imap_session.specs.Session.{KnowsNext, KnowsState, TakesStep, state_of, state_or_ended};
-ghost use Rattle.imap_session.specs.private.Messages.{selects, state_left};
+ghost use Rattle.imap_session.specs.Session.{IsSaid, KnowsNext, KnowsState, TakesStep, TakesStepAt, state_of, state_or_ended};
+ghost use Rattle.imap_session.specs.private.Messages.{selects_or_appends, state_left};
 
+use crate::appending::{Letter, append};
 use crate::folders::{create, find_named, folder_lines, list_lines, status_line};
-use crate::replies::{DONE, NO_SUCH_FOLDER, NOT_BUILT, OUT_OF_ORDER, answer, answer_text, say};
+use crate::replies::{DONE, NO_SUCH_FOLDER, OUT_OF_ORDER, answer, answer_text, say};
 use crate::selected::answer_selected;
 use crate::states::{Authenticated, Imap, ImapState, Kind, NotAuthenticated};
 use imap_grammar::{Command, StatusItem};
@@ -216,9 +217,9 @@ fn give_on_folders<V: Kind, W: Wire, J: Keeper, C: Clock>(
 ) -> Result<(), Fault>
     requires opens { IsOpen outside.old.desk }
     requires account { account < length outside.old.desk.store.kept.accounts }
-    requires other { selects command.now ≡ false }
-    ensures does { WithMeanings (λ meanings. (state : State) → Does (part_octets meanings) outside.old outside.new (fault_of result)
-        (mailbox_step meanings tag.now state V.mode account outside.old.desk.store command.now).acts) }
+    requires other { selects_or_appends command.now ≡ false }
+    ensures does { WithMeanings (λ meanings. (now : List ℕ) (state : State) → Does (part_octets meanings) outside.old outside.new (fault_of result)
+        (mailbox_step meanings now tag.now state V.mode account outside.old.desk.store command.now).acts) }
     ensures known { OnOk result ((session : ImapState) → KnowsState outside.old.desk.store session → KnowsState outside.new.desk.store session) }
     ensures keeps { Keeps outside.old outside.new (fault_of result) }
 {
@@ -231,7 +232,6 @@ fn give_on_folders<V: Kind, W: Wire, J: Keeper, C: Clock>(
         Command::Status { name, items } => {
             give_status::<V, W, J, C>(account, tag, name.as_slice(), items.as_slice(), outside)
         }
-        Command::Append { .. } => say(tag, NOT_BUILT, outside),
         _ => give_common(tag, command, outside),
     }
 }
@@ -247,8 +247,8 @@ pub fn answer_on_folders<V: Kind, W: Wire, J: Keeper, C: Clock>(
     requires opens { IsOpen outside.old.desk }
     requires known { KnowsState outside.old.desk.store session }
     requires account { account < length outside.old.desk.store.kept.accounts }
-    requires other { selects command.now ≡ false }
-    ensures takes { TakesStep outside.old outside.new result (λ meanings. mailbox_step meanings tag.now (state_of session) V.mode account outside.old.desk.store command.now) }
+    requires other { selects_or_appends command.now ≡ false }
+    ensures takes { (now : List ℕ) → TakesStep outside.old outside.new result (λ meanings. mailbox_step meanings now tag.now (state_of session) V.mode account outside.old.desk.store command.now) }
     ensures keeps { Keeps outside.old outside.new (fault_of result) }
 {
     give_on_folders::<V, W, J, C>(account, tag, command, outside)?;
@@ -294,13 +294,30 @@ fn answer_authenticated<V: Kind, W: Wire, J: Keeper, C: Clock>(
 ) -> Result<Option<ImapState>, Fault>
     requires opens { IsOpen outside.old.desk }
     requires known { imap.state.account < length outside.old.desk.store.kept.accounts }
-    ensures takes { TakesStep outside.old outside.new result (λ meanings. authenticated_step meanings tag.now V.mode imap.state.account outside.old.desk.store command.now) }
+    requires said { IsSaid command.now }
+    ensures takes { TakesStepAt outside.old outside.new result (lacks_date command.now) (λ meanings now. authenticated_step meanings now tag.now V.mode imap.state.account outside.old.desk.store command.now) }
     ensures keeps { Keeps outside.old outside.new (fault_of result) }
 {
     match command {
         Command::Enable { words } => enable(imap, tag, words.as_slice(), outside),
         Command::Select { name } => select(imap, tag, name.as_slice(), false, outside),
         Command::Examine { name } => select(imap, tag, name.as_slice(), true, outside),
+        Command::Append {
+            name,
+            flags,
+            date,
+            utf8,
+            octets,
+        } => {
+            let letter = Letter {
+                written: name.as_slice(),
+                flags: *flags,
+                date,
+                in_utf8: *utf8,
+                octets: octets.as_slice(),
+            };
+            append(imap, tag, &letter, outside)
+        }
         _ => {
             let account = imap.state.account;
             let session = V::in_authenticated(imap);
@@ -318,7 +335,8 @@ pub fn answer_command<W: Wire, J: Keeper, C: Clock>(
 ) -> Result<Option<ImapState>, Fault>
     requires opens { IsOpen outside.old.desk }
     requires known { KnowsState outside.old.desk.store session }
-    ensures takes { TakesStep outside.old outside.new result (λ meanings. step meanings (state_of session) outside.old.desk.store tag.now command.now) }
+    requires said { IsSaid command.now }
+    ensures takes { TakesStepAt outside.old outside.new result (takes_moment (state_of session) command.now) (λ meanings now. step meanings now (state_of session) outside.old.desk.store tag.now command.now) }
     ensures keeps { Keeps outside.old outside.new (fault_of result) }
 {
     match session {

@@ -1,53 +1,33 @@
 //! FETCH (RFC 3501, 6.4.5 and 7.4.2).
-ghost use Rattle.std.specs.Prelude.{◌≡◌, ◌<◌, ◌++◌, true, length, map, codes, decimal, IfOk, OnOk};
-ghost use Rattle.std.specs.List.{list_all, list_any};
+ghost use Rattle.std.specs.Prelude.{◌≡◌, ◌<◌, ◌++◌, ⊤, true, false, length, map, codes, decimal, IfOk, OnOk};
+ghost use Rattle.std.specs.List.{list_any};
 ghost use Rattle.std.specs.Option.{option_copied};
-ghost use Rattle.surrogate_rope.specs.Served.{IsShownOf, shown_octets};
-ghost use Rattle.surrogate_cache.specs.Served.{IsServed};
 ghost use Rattle.mail_store.specs.StoreState.{StoreState};
 ghost use Rattle.session_core.specs.Desks.{stored_octets};
-ghost use Rattle.session_core.specs.Doing.{Replies};
 ghost use Rattle.session_core.specs.Keeps.{Keeps, fault_of};
 ghost use Rattle.session_core.specs.Meanings.{WithMeanings};
-ghost use Rattle.imap_session.specs.Machine.{becomes_seen, fetch_one, fetch_reply, is_built as is_built_of, is_flags as is_flags_of, is_uid as is_uid_of, item_parts, literal_parts, parts_behind, reply, sets_seen as sets_seen_of, with_flags, with_uid};
-ghost use Rattle.imap_session.specs.Replies.{part_octets};
+ghost use Rattle.imap_session.specs.Items.{is_flags as is_flags_of, is_uid as is_uid_of, item_parts, sets_seen as sets_seen_of};
+ghost use Rattle.imap_session.specs.Machine.{becomes_seen, fetch_one, fetch_reply, parts_behind, reply, with_flags, with_uid};
+ghost use Rattle.imap_session.specs.Replies.{part_octets, reply_octets};
 ghost use Rattle.imap_session.specs.private.Fetched.{end_octets, space_octets, tells_flags_last, tells_uid_first, uid_first_octets};
 ghost use Rattle.imap_session.specs.private.Pending.{Carries};
 ghost use Rattle.imap_session.specs.private.Messages.{ShowsAlike};
-ghost use Rattle.imap_session.specs.private.Shown.{HasShown, shows};
+ghost use Rattle.imap_session.specs.private.Shown.{HasShown, asks_section, shows};
 
-use crate::messages::{EachMessage, change_flags, give_pending};
+use crate::messages::{EachMessage, change_flags};
+use crate::sections::{asked_by, push_number, put_section};
 use crate::states::Kind;
-use imap_grammar::{FetchItem, SectionPart, StoreOp};
+use crate::views::{put_envelope, put_structure};
+use imap_grammar::{FetchItem, StoreOp};
 use imap_mailboxes::{has_flag, push_flags};
 use kept_mail::Listed;
-use mail_wire::{Clock, Fault, Keeper, Memory, Octets, PIECE, Wire};
+use mail_wire::{Clock, Fault, Keeper, Memory, Octets, Wire};
 use session_core::Outside;
 use std::alloc::Global;
 use std::marker::PhantomData;
 use surrogate_rope::Shown;
 
 const SEEN: u8 = 1;
-
-/// Whether this stage tells the item.
-pub fn is_built(item: &FetchItem) -> bool
-    ensures { result ≡ is_built_of item.now }
-{
-    match item {
-        FetchItem::Flags
-        | FetchItem::Uid
-        | FetchItem::InternalDate
-        | FetchItem::Size
-        | FetchItem::Rfc822 => true,
-        FetchItem::Section {
-            path,
-            part: SectionPart::Whole,
-            partial: None,
-            ..
-        } => path.is_empty(),
-        _ => false,
-    }
-}
 
 fn is_uid(item: &FetchItem) -> bool
     ensures { result ≡ is_uid_of item.now }
@@ -66,6 +46,7 @@ fn sets_seen(item: &FetchItem) -> bool
 {
     match item {
         FetchItem::Rfc822 => true,
+        FetchItem::Rfc822Text => true,
         FetchItem::Section { peek, .. } => !*peek,
         _ => false,
     }
@@ -75,9 +56,9 @@ fn sets_seen(item: &FetchItem) -> bool
 fn needs_shown(item: &FetchItem) -> bool
     ensures { result ≡ shows item.now }
 {
-    matches!(
+    !matches!(
         item,
-        FetchItem::Size | FetchItem::Rfc822 | FetchItem::Section { .. }
+        FetchItem::Flags | FetchItem::Uid | FetchItem::InternalDate
     )
 }
 
@@ -132,58 +113,6 @@ fn shown_for<V: Kind, W: Wire, J: Keeper, C: Clock>(
     Ok(Some(outside.show::<V>(id)?))
 }
 
-// Gives all that is shown of a message of the store.
-fn give_shown<W: Wire, J: Keeper, C: Clock>(
-    id: u32,
-    shown: &Shown,
-    outside: &mut Outside<W, J, C>,
-) -> Result<(), Fault>
-    requires id { id < length outside.old.desk.store.kept.messages }
-    requires shown { IsShownOf (stored_octets outside.old.desk.store id) shown.now }
-    ensures replies { Replies outside.old outside.new (fault_of result) (shown_octets (stored_octets outside.old.desk.store id) shown.now) }
-    ensures keeps { Keeps outside.old outside.new (fault_of result) }
-{
-    let len = shown.size(outside.octets(id));
-    let mut piece = [0; PIECE];
-    let mut at = 0;
-    while at < len {
-        let count = shown.read_at(outside.octets(id), at, &mut piece);
-        outside.give(&piece[..count])?;
-        at += count;
-    }
-    Ok(())
-}
-
-// Puts the header of a literal last, behind the name of what was asked.
-fn push_header(alloc: Global, pending: &mut Octets, asked: &str, size: usize) -> Result<(), Memory>
-    ensures { OnOk result (pending.new ≡ pending.old ++ (asked.now ++ (codes " {" ++ (decimal size ++ codes "}\r\n")))) }
-{
-    let header = format!(in alloc; "{asked} {{{size}}}\r\n")?;
-    pending.push_slice(header.as_bytes())
-}
-
-// Gives the octets of a message as a literal, behind what is pending and the name of what was asked.
-fn give_literal<V: Kind, W: Wire, J: Keeper, C: Clock>(
-    asked: &str,
-    one: &Listed,
-    shown: &Shown,
-    pending: &mut Octets,
-    outside: &mut Outside<W, J, C>,
-) -> Result<(), Fault>
-    requires id { one.now.id < length outside.old.desk.store.kept.messages }
-    requires shown { IsShownOf (stored_octets outside.old.desk.store one.now.id) shown.now }
-    requires served { IsServed V.mode (stored_octets outside.old.desk.store one.now.id) (shown_octets (stored_octets outside.old.desk.store one.now.id) shown.now) }
-    ensures carries { WithMeanings (λ meanings. (store : StoreState) → ShowsAlike store outside.old.desk.store → Carries (part_octets meanings) outside.old outside.new (fault_of result)
-        pending.old pending.new (reply (literal_parts meanings V.mode store one.now asked.now))) }
-    ensures desk { OnOk result (outside.new.desk ≡ outside.old.desk) }
-    ensures keeps { Keeps outside.old outside.new (fault_of result) }
-{
-    let size = shown.size(outside.octets(one.id));
-    push_header(outside.alloc(), pending, asked, size)?;
-    give_pending(pending, outside)?;
-    give_shown(one.id, shown, outside)
-}
-
 // Puts a date last.
 fn push_date(pending: &mut Octets, date: &[u8]) -> Result<(), Memory>
     ensures { OnOk result (pending.new ≡ pending.old ++ (codes "INTERNALDATE \"" ++ (date.now ++ codes "\""))) }
@@ -193,20 +122,48 @@ fn push_date(pending: &mut Octets, date: &[u8]) -> Result<(), Memory>
     pending.push(b'"')
 }
 
-// Puts a number last, behind a word.
-fn push_number(alloc: Global, pending: &mut Octets, word: &str, number: usize) -> Result<(), Memory>
-    ensures { OnOk result (pending.new ≡ pending.old ++ (word.now ++ decimal number)) }
-{
-    let text = format!(in alloc; "{word}{number}")?;
-    pending.push_slice(text.as_bytes())
-}
-
 // Puts the beginning of a message's reply last.
 fn push_front(alloc: Global, pending: &mut Octets, number: u32) -> Result<(), Memory>
     ensures { OnOk result (pending.new ≡ pending.old ++ (codes "* " ++ (decimal number ++ codes " FETCH ("))) }
 {
     let front = format!(in alloc; "* {number} FETCH (")?;
     pending.push_slice(front.as_bytes())
+}
+
+// Puts what an item tells of a message last, where it asks no section.
+fn push_told<V: Kind, W: Wire, J: Keeper, C: Clock>(
+    item: &FetchItem,
+    one: &Listed,
+    shown: Option<&Shown>,
+    outside: &Outside<W, J, C>,
+    pending: &mut Octets,
+) -> Result<(), Memory>
+    requires id { one.now.id < length outside.now.desk.store.kept.messages }
+    requires other { asks_section item.now ≡ false }
+    requires shown { HasShown V.mode (stored_octets outside.now.desk.store one.now.id) (shows item.now) (option_copied shown) }
+    ensures { WithMeanings (λ meanings. (store : StoreState) → ShowsAlike store outside.now.desk.store
+        → OnOk result (pending.new ≡ pending.old ++ reply_octets meanings (item_parts meanings V.mode store one.now item.now))) }
+{
+    let alloc = outside.alloc();
+    match (item, shown) {
+        (FetchItem::Flags, _) => push_flags(pending, one.flags),
+        (FetchItem::Uid, _) => push_number(alloc, pending, "UID ", one.uid as usize),
+        (FetchItem::InternalDate, _) => push_date(pending, outside.date(one.id)),
+        (FetchItem::Size, Some(shown)) => {
+            let size = shown.size(outside.octets(one.id));
+            push_number(alloc, pending, "RFC822.SIZE ", size)
+        }
+        (FetchItem::Envelope, Some(shown)) => {
+            put_envelope(alloc, shown, outside.octets(one.id), pending)
+        }
+        (FetchItem::Body, Some(shown)) => {
+            put_structure(alloc, shown, outside.octets(one.id), false, pending)
+        }
+        (FetchItem::BodyStructure, Some(shown)) => {
+            put_structure(alloc, shown, outside.octets(one.id), true, pending)
+        }
+        _ => unreachable!(),
+    }
 }
 
 // Tells an item of a message. What is to be given may stay pending.
@@ -218,29 +175,18 @@ fn put_item<V: Kind, W: Wire, J: Keeper, C: Clock>(
     outside: &mut Outside<W, J, C>,
 ) -> Result<(), Fault>
     requires id { one.now.id < length outside.old.desk.store.kept.messages }
-    requires built { is_built_of item.now ≡ true }
     requires shown { HasShown V.mode (stored_octets outside.old.desk.store one.now.id) (shows item.now) (option_copied shown) }
     ensures carries { WithMeanings (λ meanings. (store : StoreState) → ShowsAlike store outside.old.desk.store → Carries (part_octets meanings) outside.old outside.new (fault_of result)
         pending.old pending.new (reply (item_parts meanings V.mode store one.now item.now))) }
     ensures desk { OnOk result (outside.new.desk ≡ outside.old.desk) }
     ensures keeps { Keeps outside.old outside.new (fault_of result) }
 {
-    let alloc = outside.alloc();
-    match (item, shown) {
-        (FetchItem::Flags, _) => Ok(push_flags(pending, one.flags)?),
-        (FetchItem::Uid, _) => Ok(push_number(alloc, pending, "UID ", one.uid as usize)?),
-        (FetchItem::InternalDate, _) => Ok(push_date(pending, outside.date(one.id))?),
-        (FetchItem::Size, Some(shown)) => {
-            let size = shown.size(outside.octets(one.id));
-            Ok(push_number(alloc, pending, "RFC822.SIZE ", size)?)
+    match (asked_by(outside.alloc(), item)?, shown) {
+        (None, _) => Ok(push_told::<V, W, J, C>(item, one, shown, outside, pending)?),
+        (Some(asked), Some(shown)) => {
+            put_section::<V, W, J, C>(&asked, one, shown, pending, outside)
         }
-        (FetchItem::Rfc822, Some(shown)) => {
-            give_literal::<V, W, J, C>("RFC822", one, shown, pending, outside)
-        }
-        (FetchItem::Section { .. }, Some(shown)) => {
-            give_literal::<V, W, J, C>("BODY[]", one, shown, pending, outside)
-        }
-        _ => unreachable!(),
+        (Some(_), None) => unreachable!(),
     }
 }
 
@@ -263,7 +209,6 @@ fn put_items<V: Kind, W: Wire, J: Keeper, C: Clock>(
     outside: &mut Outside<W, J, C>,
 ) -> Result<(), Fault>
     requires id { one.now.id < length outside.old.desk.store.kept.messages }
-    requires built { list_all is_built_of items.now ≡ true }
     ensures carries { WithMeanings (λ meanings. (store : StoreState) → ShowsAlike store outside.old.desk.store → Carries (part_octets meanings) outside.old outside.new (fault_of result)
         pending.old pending.new (reply (parts_behind behind_others (map (item_parts meanings V.mode store one.now) items.now)))) }
     ensures desk { OnOk result (outside.new.desk ≡ outside.old.desk) }
@@ -329,7 +274,6 @@ impl<'a, V: Kind> Fetching<'a, V> {
         outside: &mut Outside<W, J, C>,
     ) -> Result<(), Fault>
         requires id { one.now.id < length outside.old.desk.store.kept.messages }
-        requires built { list_all is_built_of self.now.items.now ≡ true }
         requires seen { flags_changed ≡ true → list_any sets_seen_of self.now.items.now ≡ true }
         ensures carries { WithMeanings (λ meanings. (store : StoreState) → ShowsAlike store outside.old.desk.store → Carries (part_octets meanings) outside.old outside.new (fault_of result)
             pending.old pending.new (reply (fetch_reply meanings V.mode store number one.now (with_flags flags_changed (with_uid self.now.by_uid self.now.items.now))))) }
@@ -348,7 +292,7 @@ impl<'a, V: Kind> Fetching<'a, V> {
 impl<'a, V: Kind> EachMessage for Fetching<'a, V> {
     ghost acts = { λ fetching meanings store one. fetch_one meanings V.mode store fetching.by_uid fetching.read_only fetching.items.now one };
 
-    ghost may_take = { λ fetching. list_all is_built_of fetching.items.now ≡ true };
+    ghost may_take = { λ fetching. ⊤ };
 
     fn take<W: Wire, J: Keeper, C: Clock>(
         &self,

@@ -11,7 +11,7 @@ ghost use Rattle.imap_session.specs.Machine.{create_by, folder_lines as lines_of
 ghost use Rattle.imap_session.specs.Replies.{part_octets, reply_octets};
 ghost use Rattle.imap_session.specs.private.Lines.{words_of_created};
 
-use crate::replies::{DONE, say};
+use crate::replies::{DONE, TOO_LARGE, say};
 use crate::states::Kind;
 use imap_grammar::StatusItem;
 use imap_mailboxes::{Pattern, has_flag, quote, read_name, shown_name};
@@ -198,7 +198,7 @@ fn created_words(created: Created) -> &'static [u8]
     match created {
         Created::Made => DONE,
         Created::Exists => b"NO exists",
-        Created::TooLarge => b"NO too large",
+        Created::TooLarge => TOO_LARGE,
     }
 }
 

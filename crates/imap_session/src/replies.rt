@@ -17,9 +17,9 @@ pub const NO_SUCH_FOLDER: &[u8] = b"NO no such folder";
 
 pub const NO_SUCH_MESSAGE: &[u8] = b"BAD no such message";
 
-pub const NOT_BUILT: &[u8] = b"NO not built";
-
 pub const READ_ONLY: &[u8] = b"NO read only";
+
+pub const TOO_LARGE: &[u8] = b"NO too large";
 
 /// Puts the line last that ends the replies of a command.
 pub fn push_tagged(text: &mut Octets, tag: &[u8], words: &[u8]) -> Result<(), Memory>

@@ -1,7 +1,8 @@
 //! The commands on messages of a folder that is selected.
-ghost use Rattle.std.specs.Prelude.{◌≡◌, ◌≢◌, ◌<◌, ◌^◌, false, length, IfOk, OnOk};
-ghost use Rattle.std.specs.List.{All, flat_map, list_all};
+ghost use Rattle.std.specs.Prelude.{◌≡◌, ◌≢◌, ◌<◌, ◌^◌, ℕ, List, Some, false, length, IfOk, IfSome, OnOk};
+ghost use Rattle.std.specs.List.{All, flat_map};
 ghost use Rattle.std.specs.List.Sorted.{IsStrictlyIncreasing};
+ghost use Rattle.journal_records.specs.Grammar.{IsDate};
 ghost use Rattle.kept_mail.specs.Kept.{listed};
 ghost use Rattle.mail_store.specs.StoreState.{StoreState};
 ghost use Rattle.mail_store.specs.Changing.{expunged};
@@ -11,17 +12,19 @@ ghost use Rattle.session_core.specs.Desks.{IsOpen};
 ghost use Rattle.session_core.specs.Doing.{Does, Makes};
 ghost use Rattle.session_core.specs.Keeps.{Keeps, fault_of};
 ghost use Rattle.session_core.specs.Meanings.{WithMeanings};
-ghost use Rattle.imap_session.specs.Machine.{State, authenticated, close_step, deleted_ids as ids_of_deleted, done, ends_with, expunge_step, fetch_step, for_each, is_built as is_built_of, numbered_at, selected as selected_in, selected_step, store_step};
+ghost use Rattle.imap_session.specs.Machine.{State, authenticated, close_step, date_or, deleted_ids as ids_of_deleted, done, ends_with, expunge_step, fetch_step, for_each, lacks_date, numbered_at, selected as selected_in, selected_step, store_step};
 ghost use Rattle.imap_session.specs.Replies.{part_octets};
-ghost use Rattle.imap_session.specs.Session.{KnowsFolder, KnowsNext, TakesStep, state_or_ended};
-ghost use Rattle.imap_session.specs.private.Messages.{KeepsListing, selects};
+ghost use Rattle.imap_session.specs.Session.{IsSaid, KnowsFolder, KnowsNext, TakesStep, TakesStepAt, state_or_ended};
+ghost use Rattle.imap_session.specs.private.Appending.{command_of, letter_step};
+ghost use Rattle.imap_session.specs.private.Messages.{KeepsListing, selects_or_appends};
 ghost use Rattle.imap_session.specs.private.Selected.{AreListed, KnowsSelected};
 
+use crate::appending::{Letter, append_within, date_of};
 use crate::commands::{answer_on_folders, select};
 use crate::expunging::{deleted_ids, expunge_lines};
-use crate::fetching::{Fetching, is_built};
+use crate::fetching::Fetching;
 use crate::messages::{EachMessage, take_each};
-use crate::replies::{DONE, NO_SUCH_MESSAGE, NOT_BUILT, READ_ONLY, answer, say};
+use crate::replies::{DONE, NO_SUCH_MESSAGE, READ_ONLY, answer, say};
 use crate::states::{Imap, ImapState, Kind, Selected};
 use crate::storing::Storing;
 use imap_grammar::{Command, FetchItem, Set};
@@ -81,13 +84,6 @@ fn answer_over<E: EachMessage, W: Wire, J: Keeper, C: Clock>(
     answer_each(each, &places, messages, tag, outside)
 }
 
-// Whether this stage tells each of these.
-fn are_built(items: &[FetchItem]) -> bool
-    ensures { result ≡ list_all is_built_of items.now }
-{
-    items.iter().all(is_built)
-}
-
 // FETCH and UID FETCH.
 fn fetch<V: Kind, W: Wire, J: Keeper, C: Clock>(
     selected: &mut Selected,
@@ -105,9 +101,6 @@ fn fetch<V: Kind, W: Wire, J: Keeper, C: Clock>(
     ensures same { selected.new ≡ record selected.old { messages = selected.new.messages } }
     ensures keeps { Keeps outside.old outside.new (fault_of result) }
 {
-    if !are_built(items) {
-        return say(tag, NOT_BUILT, outside);
-    }
     let fetching = Fetching::<V> {
         items,
         by_uid,
@@ -233,6 +226,27 @@ fn leave<V: Kind>(
     Ok(Some(V::in_authenticated(imap.unselect())))
 }
 
+// APPEND, behind which the folder is still selected.
+fn append_selected<V: Kind, W: Wire, J: Keeper, C: Clock>(
+    mut imap: Imap<Selected, V>,
+    tag: &[u8],
+    letter: &Letter,
+    outside: &mut Outside<W, J, C>,
+) -> Result<Option<ImapState>, Fault>
+    requires opens { IsOpen outside.old.desk }
+    requires known { KnowsSelected outside.old.desk.store imap.state }
+    requires flags { letter.now.flags < 32 }
+    requires dated { IfSome letter.now.date.now IsDate }
+    ensures takes { TakesStepAt outside.old outside.new result (lacks_date (command_of letter.now)) (λ meanings now.
+        letter_step meanings tag.now (selected_in V.mode imap.state.account imap.state.folder imap.state.read_only) (Some imap.state.folder) V.mode imap.state.account outside.old.desk.store letter.now
+        (date_or now letter.now.date.now)) }
+    ensures keeps { Keeps outside.old outside.new (fault_of result) }
+{
+    let date = date_of(letter.date, outside)?;
+    let done = append_within::<V, W, J, C>(&mut imap.state, tag, letter, date.as_slice(), outside);
+    stay(imap, done)
+}
+
 // A command behind which the folder is still selected, or one that ends the session.
 fn answer_within<V: Kind, W: Wire, J: Keeper, C: Clock>(
     mut imap: Imap<Selected, V>,
@@ -242,10 +256,10 @@ fn answer_within<V: Kind, W: Wire, J: Keeper, C: Clock>(
 ) -> Result<Option<ImapState>, Fault>
     requires opens { IsOpen outside.old.desk }
     requires known { KnowsSelected outside.old.desk.store imap.state }
-    requires other { selects command.now ≡ false }
+    requires other { selects_or_appends command.now ≡ false }
     requires stays { command.now ≢ command_is.Close }
-    ensures takes { TakesStep outside.old outside.new result (λ meanings.
-        selected_step meanings tag.now V.mode imap.state.account imap.state.folder imap.state.read_only outside.old.desk.store command.now) }
+    ensures takes { (now : List ℕ) → TakesStep outside.old outside.new result (λ meanings.
+        selected_step meanings now tag.now V.mode imap.state.account imap.state.folder imap.state.read_only outside.old.desk.store command.now) }
     ensures keeps { Keeps outside.old outside.new (fault_of result) }
 {
     match command {
@@ -295,8 +309,9 @@ pub fn answer_selected<V: Kind, W: Wire, J: Keeper, C: Clock>(
 ) -> Result<Option<ImapState>, Fault>
     requires opens { IsOpen outside.old.desk }
     requires known { KnowsFolder outside.old.desk.store imap.state.account imap.state.folder imap.state.messages.items }
-    ensures takes { TakesStep outside.old outside.new result (λ meanings.
-        selected_step meanings tag.now V.mode imap.state.account imap.state.folder imap.state.read_only outside.old.desk.store command.now) }
+    requires said { IsSaid command.now }
+    ensures takes { TakesStepAt outside.old outside.new result (lacks_date command.now) (λ meanings now.
+        selected_step meanings now tag.now V.mode imap.state.account imap.state.folder imap.state.read_only outside.old.desk.store command.now) }
     ensures keeps { Keeps outside.old outside.new (fault_of result) }
 {
     match command {
@@ -309,6 +324,22 @@ pub fn answer_selected<V: Kind, W: Wire, J: Keeper, C: Clock>(
         Command::Close => {
             let done = close(&imap.state, tag, outside);
             leave(imap, done)
+        }
+        Command::Append {
+            name,
+            flags,
+            date,
+            utf8,
+            octets,
+        } => {
+            let letter = Letter {
+                written: name.as_slice(),
+                flags: *flags,
+                date,
+                in_utf8: *utf8,
+                octets: octets.as_slice(),
+            };
+            append_selected(imap, tag, &letter, outside)
         }
         _ => answer_within(imap, tag, command, outside),
     }

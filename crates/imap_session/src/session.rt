@@ -8,11 +8,11 @@ ghost use Rattle.session_core.specs.Served.{met_of};
 ghost use Rattle.session_core.specs.Serving.{ServesBy};
 ghost use Rattle.imap_session.specs.ImapLaws.{begins_fit_by, fits_by, framed_by, goes_on_by, quiet_by, waits_by};
 ghost use Rattle.imap_session.specs.Machine.{mode_of};
-ghost use Rattle.imap_session.specs.Session.{ImapReady, ImapStands, KnowsState, TakesStep, due_step, imap_protocol, machine_next, state_of};
+ghost use Rattle.imap_session.specs.Session.{ImapReady, ImapStands, IsSaidIn, KnowsState, TakesStepAt, due_step, event_takes, imap_protocol, machine_next, state_of};
 ghost use Rattle.imap_session.specs.private.Lines.{bad_octets};
 
 use crate::commands::answer_command;
-use crate::replies::say;
+use crate::replies::{TOO_LARGE, say};
 use crate::states::{Imap, ImapState};
 use imap_grammar::{Event, Reader};
 use mail_wire::{Clock, Fault, Keeper, Octets, Wire};
@@ -77,7 +77,8 @@ fn answer_event<W: Wire, J: Keeper, C: Clock>(
 ) -> Result<Option<ImapState>, Fault>
     requires opens { IsOpen outside.old.desk }
     requires known { KnowsState outside.old.desk.store session }
-    ensures takes { TakesStep outside.old outside.new result (λ meanings. due_step meanings (state_of session) outside.old.desk.store event.now) }
+    requires said { IsSaidIn event.now }
+    ensures takes { TakesStepAt outside.old outside.new result (event_takes (state_of session) event.now) (λ meanings now. due_step meanings now (state_of session) outside.old.desk.store event.now) }
     ensures keeps { Keeps outside.old outside.new (fault_of result) }
 {
     match event {
@@ -87,7 +88,7 @@ fn answer_event<W: Wire, J: Keeper, C: Clock>(
             answer_command(session, tag.as_slice(), command, outside)
         }
         Event::Bad { tag, .. } => go_on(session, refuse(tag, outside)),
-        Event::TooLarge { tag } => { go_on(session, say(tag.as_slice(), b"NO too large", outside)) }
+        Event::TooLarge { tag } => { go_on(session, say(tag.as_slice(), TOO_LARGE, outside)) }
         Event::TooLong => {
             drop(session);
             end(outside.give(b"* BYE line too long\r\n"))

@@ -2,9 +2,13 @@
 #![tactic(auto)]
 
 #[cfg(test)]
+mod appending;
+#[cfg(test)]
 mod changing;
 #[cfg(test)]
 mod faults;
+#[cfg(test)]
+mod fetching;
 #[cfg(test)]
 mod order;
 #[cfg(test)]

@@ -1,11 +1,8 @@
 //! What legacy and enabled sessions are told of folders and shown of messages (RFC 3501, 5.1.3 and 6; RFC 6855, 3).
-use crate::serving::{CAFE, FIRST_SEEN, LOGIN, LOGOUT, Row, SELECT_ONE, journal_of, keeps, serves};
+use crate::serving::{
+    CAFE, ENABLE, FIRST_SEEN, LOGIN, LOGOUT, Row, SELECT_ONE, journal_of, keeps, serves,
+};
 use std::test::Fail;
-
-const ENABLE: Row = (
-    b"e ENABLE UTF8=ACCEPT\r\n",
-    b"* ENABLED UTF8=ACCEPT\r\ne OK done\r\n",
-);
 
 const EXAMINE_ONE: Row = (
     b"x EXAMINE inbox\r\n",

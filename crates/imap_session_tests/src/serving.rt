@@ -14,6 +14,11 @@ pub const LOGIN: Row = (b"a LOGIN ann@example.org pw\r\n", b"a OK done\r\n");
 
 pub const LOGOUT: Row = (b"z LOGOUT\r\n", b"* BYE bye\r\nz OK done\r\n");
 
+pub const ENABLE: Row = (
+    b"e ENABLE UTF8=ACCEPT\r\n",
+    b"* ENABLED UTF8=ACCEPT\r\ne OK done\r\n",
+);
+
 /// INBOX with one message.
 pub const SELECT_ONE: Row = (
     b"s SELECT INBOX\r\n",

@@ -5,7 +5,7 @@ use Rattle.std.specs.List.{list_any}
 use Rattle.kept_mail.specs.declared.kept.Listed.{Listed}
 use Rattle.imap_grammar.specs.declared.command.FetchItem.{FetchItem}
 use Rattle.imap_mailboxes.specs.Flags.{flags_text}
-use Rattle.imap_session.specs.Machine.{is_flags, is_uid}
+use Rattle.imap_session.specs.Items.{is_flags, is_uid}
 
 -- UID FETCH tells the UID first where it isn't asked
 abbrev pub tells_uid_first : (by_uid : Bool) → List FetchItem → Bool

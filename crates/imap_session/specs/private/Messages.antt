@@ -27,11 +27,12 @@ pub record KeepsListing (old new : StoreState) (were are : List Listed) : Type 0
   pub folders : length new.kept.folders ≡ length old.kept.folders
   pub listing : (folder : ℕ) → were ≡ listed old.kept folder → are ≡ listed new.kept folder
 
--- the command selects a folder
-abbrev pub selects : Command → Bool
-selects (command.Select written) = true
-selects (command.Examine written) = true
-selects other = false
+-- the command selects a folder, or puts a message into one
+abbrev pub selects_or_appends : Command → Bool
+selects_or_appends (command.Select written) = true
+selects_or_appends (command.Examine written) = true
+selects_or_appends (command.Append written flags date in_utf8 octets) = true
+selects_or_appends other = false
 
 -- the state behind a command that changes none, unless it ends the session
 abbrev pub state_left : State → Command → State

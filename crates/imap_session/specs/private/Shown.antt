@@ -8,10 +8,18 @@ use Rattle.imap_grammar.specs.declared.command.FetchItem.TheVariants as item
 
 -- the octets that are served tell the item
 abbrev pub shows : FetchItem → Bool
-shows item.Size = true
-shows item.Rfc822 = true
-shows (item.Section peek path part partial) = true
-shows other = false
+shows item.Flags = false
+shows item.Uid = false
+shows item.InternalDate = false
+shows other = true
+
+-- a section of them is the item's
+abbrev pub asks_section : FetchItem → Bool
+asks_section item.Rfc822 = true
+asks_section item.Rfc822Header = true
+asks_section item.Rfc822Text = true
+asks_section (item.Section peek path part partial) = true
+asks_section other = false
 
 -- of this message it is shown what the mode serves
 abbrev pub IsShownIn : Mode → List ℕ → Shown → Type 0

@@ -1,9 +1,13 @@
-use Rattle.imap_session.specs.Machine.{step}
+use Rattle.std.proofs.Common.{false, refl}
+use Rattle.imap_session.specs.Machine.{not_authenticated_step, step}
+use Rattle.imap_session.proofs.StepLemmas.{TakesAt-plain}
 use Rattle.imap_session.proofs.commands.answer_command.Goals as goal
 
 pub returns-in-NotAuthenticated-clause-takes : goal.returns-in-NotAuthenticated-clause-takes
 unfolding step
-returns-in-NotAuthenticated-clause-takes g c = rw c.in-NotAuthenticated.is c.answer_unauthenticated.ensures.takes
+returns-in-NotAuthenticated-clause-takes g c = rw c.in-NotAuthenticated.is
+    (TakesAt-plain c.args.outside.now c.answer_unauthenticated.new.outside c.answer_unauthenticated.result false
+    (λ meanings now. not_authenticated_step meanings c.args.tag.now c.args.outside.now.desk.store c.args.command.now) refl (λ now. c.answer_unauthenticated.ensures.takes))
 
 pub returns-in-Authenticated-clause-takes : goal.returns-in-Authenticated-clause-takes
 unfolding step

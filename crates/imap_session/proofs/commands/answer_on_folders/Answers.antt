@@ -6,9 +6,9 @@ use Rattle.imap_session.proofs.StepLemmas.{Takes-next}
 use Rattle.imap_session.proofs.commands.answer_on_folders.Goals as goal
 
 pub returns-clause-takes : goal.returns-clause-takes
-returns-clause-takes g c =
+returns-clause-takes g c now =
     let state = state_of c.args.session in
-    Takes-next c.args.outside.now c.give_on_folders.new.outside c.left_by.result (λ meanings. mailbox_step meanings c.args.tag.now state g.V.View.mode c.args.account c.args.outside.now.desk.store c.args.command.now)
-    (λ meanings are. c.in_ok-give_on_folders.ensures.does meanings are state)
-    (λ meanings are. c.left_by.ensures.state ∙ mailbox-left meanings c.args.tag.now state g.V.View.mode c.args.account c.args.outside.now.desk.store c.args.command.now c.requires.other)
+    Takes-next c.args.outside.now c.give_on_folders.new.outside c.left_by.result (λ meanings. mailbox_step meanings now c.args.tag.now state g.V.View.mode c.args.account c.args.outside.now.desk.store c.args.command.now)
+    (λ meanings are. c.in_ok-give_on_folders.ensures.does meanings are now state)
+    (λ meanings are. c.left_by.ensures.state ∙ mailbox-left meanings now c.args.tag.now state g.V.View.mode c.args.account c.args.outside.now.desk.store c.args.command.now c.requires.other)
     (c.left_by.ensures.known c.give_on_folders.new.outside.desk.store (c.in_ok-give_on_folders.ensures.known c.args.session c.requires.known))

@@ -1,11 +1,10 @@
-use Rattle.std.proofs.Common.{codes, subst}
+use Rattle.std.proofs.Common.{subst}
 use Rattle.session_core.specs.Keeps.{fault_of}
 use Rattle.surrogate_cache.specs.Served.{is_enabled}
 use Rattle.session_core.specs.Doing.{Does}
 use Rattle.imap_session.specs.Machine.{Step}
 use Rattle.imap_session.specs.Replies.{part_octets}
 use Rattle.imap_session.proofs.CommandLemmas.{created-known, mailbox-other, same-known}
-use Rattle.imap_session.proofs.StepLemmas.{says_given}
 use Rattle.imap_session.proofs.commands.give_on_folders.Goals as goal
 
 pub returns-in-Create-clause-known : goal.returns-in-Create-clause-known
@@ -13,16 +12,12 @@ returns-in-Create-clause-known g c =
     created-known c.args.outside.now c.create.new.outside c.create.result c.args.tag.now c.args.account (λ meanings. meanings.name_of (is_enabled g.V.View.mode) c.as_slice.result.now) c.create.ensures.does
 
 pub returns-in-List-clause-does : goal.returns-in-List-clause-does
-returns-in-List-clause-does g c = λ meanings are state. rw (c.in-List.is, ← c.as_slice-reference.ensures, ← c.as_slice-pattern.ensures) (c.give_list.ensures.does meanings state)
-
-pub returns-in-Append-clause-does : goal.returns-in-Append-clause-does
-returns-in-Append-clause-does g c = λ meanings are state. rw c.in-Append.is
-    (says_given meanings c.args.outside.now c.say.new.outside (fault_of c.say.result) c.args.tag.now (codes "NO not built") state c.say.ensures.replies)
+returns-in-List-clause-does g c = λ meanings are now state. rw (c.in-List.is, ← c.as_slice-reference.ensures, ← c.as_slice-pattern.ensures) (c.give_list.ensures.does meanings state)
 
 pub returns-in_default-clause-does : goal.returns-in_default-clause-does
-returns-in_default-clause-does g c = λ meanings are state.
+returns-in_default-clause-does g c = λ meanings are now state.
     subst (λ (step : Step). Does (part_octets meanings) c.args.outside.now c.give_common.new.outside (fault_of c.give_common.result) step.acts)
-    (mailbox-other meanings c.args.tag.now state g.V.View.mode c.args.account c.args.outside.now.desk.store c.args.command.now c.in_default.not-Create c.in_default.not-List c.in_default.not-Status c.in_default.not-Append
+    (mailbox-other meanings now c.args.tag.now state g.V.View.mode c.args.account c.args.outside.now.desk.store c.args.command.now c.in_default.not-Create c.in_default.not-List c.in_default.not-Status
     c.requires.other)
     (c.give_common.ensures.does meanings state)
 

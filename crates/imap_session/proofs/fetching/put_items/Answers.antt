@@ -1,14 +1,14 @@
 use Rattle.std.proofs.Common.{◌≡◌, ◌+◌, ◌<◌, List, [], length, map, take, None, Some, refl, sym, ap, subst, ◌∙◌, arith}
 use Rattle.std.specs.Option.{option_copied}
 use Rattle.std.proofs.lemmas.List.{take_all}
-use Rattle.std.proofs.lemmas.List.Sums.{AllPass-from_list_all}
 use Rattle.std.proofs.lemmas.Result.{err_from_is_err_and}
 use Rattle.mail_wire.specs.declared.outside.Fault.TheVariants as fault
 use Rattle.imap_grammar.specs.declared.command.FetchItem.{FetchItem}
 use Rattle.session_core.proofs.KeepsLemmas.{Keeps-nil, Keeps-then}
 use Rattle.session_core.specs.Desks.{stored_octets}
 use Rattle.session_core.specs.declared.desk.Desk.{Desk}
-use Rattle.imap_session.specs.Machine.{is_built, item_parts, parts_behind, reply}
+use Rattle.imap_session.specs.Items.{item_parts}
+use Rattle.imap_session.specs.Machine.{parts_behind, reply}
 use Rattle.imap_session.specs.Replies.{part_octets}
 use Rattle.imap_session.specs.private.Messages.{ShowsAlike}
 use Rattle.imap_session.specs.private.Pending.{Carries}
@@ -36,7 +36,6 @@ put_item-requires g c =
     let low : c.loop-item.item-index < length c.args.items.now = omega arith in
     record {
       id = rw c.loop-item.invariant.desk c.requires.id;
-      built = rw c.item-item.is (AllPass-from_list_all is_built c.args.items.now c.requires.built c.loop-item.item-index c.item-item.result low);
       shown = rw c.loop-item.invariant.desk (HasShown-at g.V.View.mode (stored_octets c.args.outside.now.desk.store c.args.one.now.id) c.args.items.now c.loop-item.item-index c.item-item.result (option_copied c.as_ref.result) low
           c.item-item.is (rw (← c.as_ref.ensures.value) at c.loop-item.invariant.shown));
     }

@@ -4,7 +4,8 @@ use Rattle.mail_store.specs.StoreState.{StoreState}
 use Rattle.session_core.specs.Desks.{stored_octets}
 use Rattle.session_core.specs.Keeps.{Keeps}
 use Rattle.session_core.specs.Meanings.{WithMeanings}
-use Rattle.imap_session.specs.Machine.{item_parts, parts_behind, reply}
+use Rattle.imap_session.specs.Items.{item_parts}
+use Rattle.imap_session.specs.Machine.{parts_behind, reply}
 use Rattle.imap_session.specs.Replies.{part_octets}
 use Rattle.imap_session.specs.private.Messages.{ShowsAlike}
 use Rattle.imap_session.specs.private.Pending.{Carries}

@@ -51,7 +51,8 @@ returns-clause-does g c = λ meanings are state.
 
 pub returns-clause-known : goal.returns-clause-known
 returns-clause-known g c =
+    let counts = counts_made c.args.outside.now c.take_deleted_out.new.outside (deleted_ids c.deref-2.result.now) c.in_ok-take_deleted_out.ensures.makes in
     on_ok c.answer.result (KnowsFolder c.answer.new.outside.desk.store c.args.selected.now.account c.args.selected.now.folder c.in_ok-selected.field-0.items)
-    (knows_anew c.args.outside.now c.take_deleted_out.new.outside c.answer.new.outside (deleted_ids c.deref-2.result.now) c.args.selected.now.account c.args.selected.now.folder
-    c.args.selected.now.messages.items c.in_ok-selected.field-0.items c.in_ok-take_deleted_out.ensures.makes c.answer.ensures.replies.leaves.desk c.requires.known
+    (knows_anew c.args.outside.now c.take_deleted_out.new.outside c.answer.new.outside c.args.selected.now.account c.args.selected.now.folder
+    c.args.selected.now.messages.items c.in_ok-selected.field-0.items counts c.answer.ensures.replies.leaves.desk c.requires.known
     (rw c.store.ensures at c.in_ok-selected.ensures.listing) c.in_ok-selected.ensures.few)

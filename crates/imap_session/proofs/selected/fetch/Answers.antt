@@ -1,15 +1,9 @@
-use Rattle.std.proofs.Common.{◌∙◌, sym}
 use Rattle.session_core.specs.Keeps.{fault_of}
-use Rattle.imap_session.proofs.SelectedLemmas.{fetch_refused, fetch_taken}
+use Rattle.imap_session.proofs.SelectedLemmas.{fetch_taken}
 use Rattle.imap_session.proofs.selected.fetch.Goals as goal
-
-pub returns-then-not-are_built-clause-does : goal.returns-then-not-are_built-clause-does
-returns-then-not-are_built-clause-does g c = λ meanings are state.
-    fetch_refused meanings c.args.outside.now c.say.new.outside (fault_of c.say.result) c.args.tag.now state g.V.View.mode c.args.selected.now.folder c.args.selected.now.read_only c.args.outside.now.desk.store
-    c.args.by_uid c.args.set.now c.args.items.now (sym c.are_built.ensures ∙ c.if-not-are_built.true) c.say.ensures.replies
 
 pub returns-clause-does : goal.returns-clause-does
 returns-clause-does g c = λ meanings are state.
     fetch_taken meanings c.args.outside.now c.answer_over.new.outside (fault_of c.answer_over.result) c.args.tag.now state g.V.View.mode c.args.selected.now.folder c.args.selected.now.read_only c.args.outside.now.desk.store
-    c.args.by_uid c.args.set.now c.args.items.now c.args.selected.now.messages.items (sym c.are_built.ensures ∙ c.if-not-are_built.false) c.requires.known.messages_are
+    c.args.by_uid c.args.set.now c.args.items.now c.args.selected.now.messages.items c.requires.known.messages_are
     (c.answer_over.ensures.does meanings are state)

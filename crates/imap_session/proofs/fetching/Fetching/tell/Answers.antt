@@ -1,7 +1,8 @@
 use Rattle.std.proofs.Common.{map, None, Some}
 use Rattle.std.proofs.lemmas.Result.{err_from_is_err_and}
 use Rattle.mail_wire.specs.declared.outside.Fault.TheVariants as fault
-use Rattle.imap_session.specs.Machine.{fetch_reply, item_parts, parts_behind, reply, with_flags, with_uid}
+use Rattle.imap_session.specs.Items.{item_parts}
+use Rattle.imap_session.specs.Machine.{fetch_reply, parts_behind, reply, with_flags, with_uid}
 use Rattle.imap_session.specs.Replies.{part_octets}
 use Rattle.imap_session.proofs.FetchLemmas.{Carries-fronted, tail_given, tail_parts}
 use Rattle.imap_session.proofs.PendingLemmas.{Carries-before, Carries-parts, Carries-stop, Carries-then}

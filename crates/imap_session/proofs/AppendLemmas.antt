@@ -1,0 +1,223 @@
+-- APPEND, as a letter is put into its folder.
+use Rattle.std.proofs.Common.{◌≡◌, ℕ, ◌<◌, ◌≤◌, ◌==◌, Bool, true, false, ◌&&◌, ◌||◌, not, List, [], ◌∷◌, ◌++◌, length, Option, None, Some, refl, sym, ap, ◌∙◌, subst, append_assoc, append-nil, ◌⊎◌, inl, inr, arith, codes}
+use Rattle.std.specs.Prelude.{decimal, map, IfSome, if◌then◌else◌}
+use Rattle.std.specs.List.{flat_map}
+use Rattle.std.proofs.lemmas.Bool.{and_parts, eq-eqb, eqb-true, false_from_ne_true, or_cases, or_right}
+use Rattle.std.proofs.lemmas.List.{map-append}
+use Rattle.std.proofs.lemmas.List.Concat.{flat_map-append}
+use Rattle.mail_wire.specs.Lines.{crlf, is_crlf}
+use Rattle.mail_wire.specs.declared.outside.Fault.{Fault}
+use Rattle.mail_wire.specs.declared.outside.Fault.TheVariants as fault
+use Rattle.mime_tree.specs.Completing.{IsCompleted, IsLeft}
+use Rattle.journal_records.specs.Grammar.{IsDate}
+use Rattle.journal_records.specs.declared.records.Record.{Record}
+use Rattle.kept_mail.specs.Kept.{Kept, after_all, listed}
+use Rattle.mail_store.specs.Changing.{append_refusal}
+use Rattle.mail_store.specs.Following.{records_of}
+use Rattle.mail_store.specs.StoreState.{StoreState}
+use Rattle.mail_store.specs.declared.changing.StoreFault.{StoreFault}
+use Rattle.surrogate_cache.specs.Served.{Mode, is_enabled}
+use Rattle.session_core.specs.Acts.{Act, acts_of, changes, gives}
+use Rattle.session_core.specs.Around.{Around}
+use Rattle.session_core.specs.Doing.{Does, DoesFirst, Makes, Replies}
+use Rattle.session_core.specs.Meanings.{Meanings, WithMeanings}
+use Rattle.session_core.proofs.DoingLemmas.{Does-changes, Does-unchanged, Replies-stop}
+use Rattle.session_core.proofs.MeaningLemmas.{meanings_given}
+use Rattle.session_core.proofs.MomentLemmas.{moment_date}
+use Rattle.imap_session.specs.Machine.{State, Step, append_in, append_octets, append_unless, appended, completed, exists_lines, folder_named, is_complete, tagged}
+use Rattle.imap_session.specs.Replies.{ReplyPart, part_octets, reply_octets}
+use Rattle.imap_session.specs.declared.appending.Letter.{Letter}
+use Rattle.imap_session.specs.declared.appending.Put.{Put}
+use Rattle.imap_session.specs.declared.appending.Put.TheVariants as put
+use Rattle.imap_session.specs.private.Appending.{IsDateFrom, letter_step, put_changes, put_lines, put_named, put_octets, put_of, put_unless, words_of_put}
+use Rattle.imap_session.specs.private.Lines.{tagged_octets}
+use Rattle.imap_session.proofs.LineLemmas.{tagged_reply}
+use Rattle.imap_session.proofs.SelectedLemmas.{HasCounts}
+
+-- ---- data that are completed
+
+crlf_of : (x y : ℕ) → is_crlf x y ≡ true → x ∷ y ∷ [] ≡ crlf
+crlf_of x y is =
+    let parts = and_parts (x == 13) (y == 10) is in
+    rw (eqb-true x 13 parts.0, eqb-true y 10 parts.1) refl
+
+longer : (x y : ℕ) (rest : List ℕ) → IsLeft (y ∷ rest) → IsLeft (x ∷ y ∷ rest)
+longer x y rest (inl (inl none)) = cc
+longer x y rest (inl (inr ended)) = inl (inr (x ∷ ended.0, ap (λ z. x ∷ z) ended.1))
+longer x y rest (inr cr) = inr (x ∷ cr.0, ap (λ z. x ∷ z) cr.1)
+
+is_left : (octets : List ℕ) → is_complete octets ≡ true → IsLeft octets
+unfolding is_complete
+is_left [] is = inl (inl refl)
+is_left (x ∷ []) is = inr ([], ap (λ z. z ∷ []) (eqb-true x 13 is))
+is_left (x ∷ y ∷ []) is = elim (or_cases (is_crlf x y) (y == 13) is) [
+  | inl both ↦ inl (inr ([], crlf_of x y both))
+  | inr cr ↦ inr (x ∷ [], ap (λ z. x ∷ z ∷ []) (eqb-true y 13 cr))
+]
+is_left (x ∷ y ∷ z ∷ rest) is = longer x y (z ∷ rest) (is_left (y ∷ z ∷ rest) is)
+
+ended_complete : (front : List ℕ) → is_complete (front ++ crlf) ≡ true
+unfolding is_complete
+ended_complete [] = refl
+ended_complete (x ∷ []) = refl
+ended_complete (x ∷ y ∷ []) = refl
+ended_complete (x ∷ y ∷ z ∷ front) = ended_complete (y ∷ z ∷ front)
+
+cr_complete : (front : List ℕ) → is_complete (front ++ 13 ∷ []) ≡ true
+unfolding is_complete
+cr_complete [] = refl
+cr_complete (x ∷ []) = or_right (is_crlf x 13) true refl
+cr_complete (x ∷ y ∷ []) = or_right (is_crlf y 13) true refl
+cr_complete (x ∷ y ∷ z ∷ front) = cr_complete (y ∷ z ∷ front)
+
+left_complete : (octets : List ℕ) → IsLeft octets → is_complete octets ≡ true
+unfolding is_complete
+left_complete octets (inl (inl none)) = rw none refl
+left_complete octets (inl (inr ended)) = rw ended.1 (ended_complete ended.0)
+left_complete octets (inr cr) = rw cr.1 (cr_complete cr.0)
+
+-- octets whose last line has its end are left as they are
+pub completed_left : (octets : List ℕ) → IsLeft octets → octets ≡ completed octets
+completed_left octets left = rw (left_complete octets left) refl
+
+-- completing makes these of them
+pub completed_is : (old new : List ℕ) → IsCompleted old new → new ≡ completed old
+completed_is old new (inl left) = left.1 ∙ completed_left old left.0
+completed_is old new (inr made) = rw (false_from_ne_true (is_complete old) (λ is. made.0 (is_left old is))) made.1
+
+-- ---- the date
+
+-- a date that is given is one, and so is that of a moment
+pub date_is : (reading : Option ℕ) (given : Option (List ℕ)) (date : List ℕ) → IsDateFrom reading given date → IfSome given IsDate → IsDate date
+date_is reading None date from dated = rw from.2 (moment_date from.1.seconds from.0.internal from.1.is.internal)
+date_is reading (Some given) date from dated = rw from dated
+
+-- ---- octets that are put
+
+-- the folder was found, and the session may put such data there
+pub put_found : (meanings : Meanings) (mode : Mode) (account : ℕ) (store : StoreState) (letter : Letter) (folder : ℕ) → Some folder ≡ folder_named meanings mode store account letter.written.now
+    → (letter.in_utf8 && not (is_enabled mode)) ≡ false
+    → put_octets (meanings.has_tree (completed letter.octets.now)) store folder (completed letter.octets.now) ≡ put_of meanings mode account store letter
+put_found meanings mode account store letter folder found may = rw (← found, may) refl
+
+-- the line of the folder that is selected
+pub exists_told : (meanings : Meanings) (kept : Kept) (opened folder count : ℕ) (line : List ℕ) → opened ≡ folder → count ≡ length (listed kept opened)
+    → line ≡ codes "* " ++ (decimal count ++ codes " EXISTS\r\n") → line ≡ reply_octets meanings (put_lines (Some opened) kept (put.In folder))
+exists_told meanings kept opened folder count line same count_is line_is =
+    let shown : reply_octets meanings (exists_lines (Some folder) kept folder) ≡ codes "* " ++ (decimal (length (listed kept folder)) ++ codes " EXISTS\r\n") =
+    rw (eq-eqb folder folder refl) (simp (append_assoc, append-nil)) in
+    rw same (line_is ∙ (ap (λ n. codes "* " ++ (decimal n ++ codes " EXISTS\r\n")) (rw same at count_is) ∙ sym shown))
+
+-- where no folder is selected nothing is told beside
+pub none_told : (meanings : Meanings) (kept : Kept) (came : Put) → [] ≡ reply_octets meanings (put_lines None kept came)
+none_told meanings kept (put.In folder) = refl
+none_told meanings kept put.NoFolder = refl
+none_told meanings kept put.NotEnabled = refl
+none_told meanings kept put.NoMessage = refl
+none_told meanings kept put.TooLarge = refl
+
+module _ (meanings : Meanings) (a : Around) (tag : List ℕ) (state : State) (opened : Option ℕ) (mode : Mode) (account : ℕ) (letter : Letter) (date : List ℕ) where
+  abbrev last : Put → List ReplyPart
+  last came = tagged tag (words_of_put came) ∷ []
+
+  abbrev made : Put → List (List Record)
+  made came = put_changes letter.flags date (completed letter.octets.now) came
+
+  -- what is told before the last line
+  abbrev told : Put → List ReplyPart
+  told came = put_lines opened (after_all a.desk.store.kept (records_of (made came))) came
+
+  abbrev put_acts : Put → List (Act ReplyPart)
+  put_acts came = acts_of (made came) (told came ++ last came)
+
+  acts_if : (b : Bool) (x y : Step) (p q : Put) → x.acts ≡ put_acts p → y.acts ≡ put_acts q → (if b then x else y).acts ≡ put_acts (if b then p else q)
+  acts_if true x y p q one two = one
+  acts_if false x y p q one two = two
+
+  unless_acts : (folder : ℕ) (refused : Option StoreFault)
+      → (append_unless tag state opened a.desk.store.kept folder (appended folder letter.flags date (completed letter.octets.now)) refused).acts ≡ put_acts (put_unless folder refused)
+  unless_acts folder None = ap (λ (z : List (Act ReplyPart)). changes (appended folder letter.flags date (completed letter.octets.now) ∷ []) ∷ z) (sym (map-append gives (told (put.In folder)) (last (put.In folder))))
+  unless_acts folder (Some other) = refl
+
+  named_acts : (found : Option ℕ)
+      → (append_in meanings tag state opened mode a.desk.store letter.flags date letter.in_utf8 letter.octets.now found).acts ≡ put_acts (put_named meanings mode a.desk.store letter.in_utf8 letter.octets.now found)
+  named_acts None = refl
+  named_acts (Some folder) =
+      let octets = completed letter.octets.now in
+      acts_if (letter.in_utf8 && not (is_enabled mode)) _ _ _ _ refl (acts_if (meanings.has_tree octets) _ _ _ _ (unless_acts folder (append_refusal a.desk.store octets)) refl)
+
+  letter_acts : (letter_step meanings tag state opened mode account a.desk.store letter date).acts ≡ put_acts (put_of meanings mode account a.desk.store letter)
+  letter_acts = named_acts _
+
+  -- it was put into its folder or refused, and then that was told
+  pub letter_told : (b c : Around) (met : Option Fault) (came : Put) (lines : List ℕ) → came ≡ put_of meanings mode account a.desk.store letter → lines ≡ reply_octets meanings (put_lines opened b.desk.store.kept came)
+      → Makes a b None (made (put_of meanings mode account a.desk.store letter)) → Replies b c met (lines ++ tagged_octets tag (words_of_put came))
+      → Does (part_octets meanings) a c met (letter_step meanings tag state opened mode account a.desk.store letter date).acts
+  letter_told b c met came lines came_is lines_are makes replies =
+      let spelled = part_octets meanings in
+      let makes : Makes a b None (made came) = rw came_is makes in
+      let kept : b.desk.store.kept ≡ after_all a.desk.store.kept (records_of (made came)) = ap (λ (store : StoreState). store.kept) makes.changes.store in
+      let are : lines ≡ reply_octets meanings (told came) = lines_are ∙ ap (λ kept. reply_octets meanings (put_lines opened kept came)) kept in
+      let whole : lines ++ tagged_octets tag (words_of_put came) ≡ flat_map spelled (told came ++ last came) =
+      ap (λ z. z ++ tagged_octets tag (words_of_put came)) are
+      ∙ (ap (λ z. reply_octets meanings (told came) ++ z) (sym (tagged_reply meanings tag (words_of_put came))) ∙ sym (flat_map-append spelled (told came) (last came))) in
+      subst (λ (acts : List (Act ReplyPart)). Does spelled a c met acts) (ap put_acts came_is ∙ sym letter_acts)
+      (Does-changes spelled a b c met (made came) (told came ++ last came) makes (subst (λ octets. Replies b c met octets) whole replies))
+
+  -- or memory was wanted before that was told
+  pub letter_untold : (b : Around) → Makes a b None (made (put_of meanings mode account a.desk.store letter))
+      → DoesFirst (part_octets meanings) a b fault.Memory (letter_step meanings tag state opened mode account a.desk.store letter date).acts
+  letter_untold b makes =
+      let came = put_of meanings mode account a.desk.store letter in
+      let lines = reply_octets meanings (put_lines opened b.desk.store.kept came) in
+      letter_told b b (Some fault.Memory) came lines refl refl makes (Replies-stop b fault.Memory (lines ++ tagged_octets tag (words_of_put came)) (λ bad. cc))
+
+  -- or a fault came before
+  pub letter_broken : (b : Around) (met : Fault) → Makes a b (Some met) (made (put_of meanings mode account a.desk.store letter))
+      → DoesFirst (part_octets meanings) a b met (letter_step meanings tag state opened mode account a.desk.store letter date).acts
+  letter_broken b met makes =
+      let came = put_of meanings mode account a.desk.store letter in
+      subst (λ (acts : List (Act ReplyPart)). DoesFirst (part_octets meanings) a b met acts) (sym letter_acts) (Does-unchanged (part_octets meanings) a b met (made came) (told came ++ last came) makes)
+
+-- ---- the state
+
+state_both : (b : Bool) (state : State) (x y : Step) → state ≡ x.state → state ≡ y.state → state ≡ (if b then x else y).state
+state_both true state x y one two = one
+state_both false state x y one two = two
+
+unless_state : (tag : List ℕ) (state : State) (opened : Option ℕ) (kept : Kept) (folder : ℕ) (one : Record) (refused : Option StoreFault) → state ≡ (append_unless tag state opened kept folder one refused).state
+unless_state tag state opened kept folder one None = refl
+unless_state tag state opened kept folder one (Some other) = refl
+
+named_state : (meanings : Meanings) (tag : List ℕ) (state : State) (opened : Option ℕ) (mode : Mode) (store : StoreState) (flags : ℕ) (date : List ℕ) (in_utf8 : Bool) (octets : List ℕ) (found : Option ℕ)
+    → state ≡ (append_in meanings tag state opened mode store flags date in_utf8 octets found).state
+named_state meanings tag state opened mode store flags date in_utf8 octets None = refl
+named_state meanings tag state opened mode store flags date in_utf8 octets (Some folder) =
+    state_both (in_utf8 && not (is_enabled mode)) state _ _ refl
+    (state_both (meanings.has_tree (completed octets)) state _ _ (unless_state tag state opened store.kept folder _ (append_refusal store (completed octets))) refl)
+
+-- APPEND leaves the state
+pub letter_state : (meanings : Meanings) (tag : List ℕ) (state : State) (opened : Option ℕ) (mode : Mode) (account : ℕ) (store : StoreState) (letter : Letter) (date : List ℕ)
+    → state ≡ (letter_step meanings tag state opened mode account store letter date).state
+letter_state meanings tag state opened mode account store letter date = named_state meanings tag state opened mode store letter.flags date letter.in_utf8 letter.octets.now _
+
+-- ---- the store behind it
+
+counts_after : (kept : Kept) (flags : ℕ) (date octets : List ℕ) (came : Put)
+    → (length (after_all kept (records_of (put_changes flags date octets came))).accounts ≡ length kept.accounts) × (length (after_all kept (records_of (put_changes flags date octets came))).folders ≡ length kept.folders)
+counts_after kept flags date octets (put.In folder) = (refl, refl)
+counts_after kept flags date octets put.NoFolder = (refl, refl)
+counts_after kept flags date octets put.NotEnabled = (refl, refl)
+counts_after kept flags date octets put.NoMessage = (refl, refl)
+counts_after kept flags date octets put.TooLarge = (refl, refl)
+
+-- it has the accounts and the folders that it had
+pub letter_counts : (a b : Around) (flags : ℕ) (date octets : List ℕ) (came : Meanings → Put) → WithMeanings (λ meanings. Makes a b None (put_changes flags date octets (came meanings)))
+    → HasCounts a.desk.store b.desk.store
+letter_counts a b flags date octets came makes =
+    let store = (makes meanings_given.0 meanings_given.1).changes.store in
+    let counts = counts_after a.desk.store.kept flags date octets (came meanings_given.0) in
+    record {
+      accounts = ap (λ (store : StoreState). length store.kept.accounts) store ∙ counts.0;
+      folders = ap (λ (store : StoreState). length store.kept.folders) store ∙ counts.1;
+    }

@@ -1,0 +1,282 @@
+-- What is served of a message, and ranges of it as literals.
+use Rattle.std.proofs.Common.{◌≡◌, ℕ, Bool, ◌+◌, ◌-◌, ◌<◌, ◌≤◌, min, List, [], ◌∷◌, ◌++◌, length, take, drop, Option, None, Some, refl, sym, ap, subst, ◌∙◌, append-nil, append_assoc, arith}
+use Rattle.std.specs.Prelude.{codes, IfSome}
+use Rattle.std.specs.Fmt.{decimal}
+use Rattle.std.specs.List.{flat_map}
+use Rattle.std.proofs.lemmas.List.{drop-drop, drop-take, length-drop, length-take-le, take-append-drop, take-append-le, take-take, take_all}
+use Rattle.std.proofs.Math.Seq.{take-append-add}
+use Rattle.mail_wire.specs.Moves.{Gives, GivesPrefix}
+use Rattle.mail_wire.specs.Telling.{Telling}
+use Rattle.mail_wire.specs.declared.outside.Fault.{Fault}
+use Rattle.mail_wire.specs.declared.values.Span.{Span}
+use Rattle.mail_wire.proofs.Moving.{Gives-prefix, Gives-trans, GivesPrefix-more}
+use Rattle.mime_tree.specs.Outlines.{Outline, outlines_of}
+use Rattle.mime_tree.specs.Sections.{section}
+use Rattle.mime_tree.specs.declared.sections.Part.{Part}
+use Rattle.mime_tree.specs.declared.sections.Part.TheVariants as place
+use Rattle.kept_mail.specs.declared.kept.Listed.{Listed}
+use Rattle.mail_store.specs.StoreState.{StoreState}
+use Rattle.surrogate_rope.specs.Ropes.{octets_of}
+use Rattle.surrogate_rope.specs.Served.{IsShownOf, shown_octets, shown_outlines}
+use Rattle.surrogate_rope.specs.declared.shown.Shown.{Shown}
+use Rattle.surrogate_rope.specs.declared.shown.Shown.TheVariants.{Whole, Rope}
+use Rattle.surrogate_cache.specs.Served.{Mode, served_by}
+use Rattle.surrogate_cache.proofs.ServedLemmas.{IsServed-by}
+use Rattle.session_core.specs.Acts.{Act, gives}
+use Rattle.session_core.specs.Around.{Around}
+use Rattle.session_core.specs.Desks.{stored_octets}
+use Rattle.session_core.specs.Doing.{Replies}
+use Rattle.session_core.specs.Meanings.{Meanings, AreMeanings}
+use Rattle.imap_views.specs.Structures.{HasStructure}
+use Rattle.imap_views.specs.Views.{GivesOutlines, IsStructureOf, View, envelope, fields, structure}
+use Rattle.imap_views.proofs.SectionPlaces.{shown_section_within}
+use Rattle.imap_session.specs.Items.{header_octets, literal_head, octets_at, partial_octets, partial_span, section_at, served_of, size_of, span_parts, view_parts, whole_header}
+use Rattle.imap_session.specs.Machine.{reply}
+use Rattle.imap_session.specs.Replies.{ReplyPart, part_octets, reply_octets, shown, text, viewed}
+use Rattle.imap_session.specs.declared.sections.Asked.{Asked}
+use Rattle.imap_session.specs.declared.sections.Chosen.{Chosen}
+use Rattle.imap_session.specs.declared.sections.Wanted.{Wanted}
+use Rattle.imap_session.specs.declared.sections.Wanted.TheVariants as want
+use Rattle.imap_session.specs.private.Asking.{AddsFields, asked_parts, head_octets, wanted_parts, wanted_place}
+use Rattle.imap_session.specs.private.Pending.{Carries}
+use Rattle.imap_session.specs.private.Shown.{IsShownIn}
+use Rattle.imap_session.specs.private.Viewing.{AddsView, header_shown, octets_in}
+use Rattle.imap_session.proofs.FetchLemmas.{Carries-text}
+use Rattle.imap_session.proofs.SectionLemmas.{nothing_wanted}
+use Rattle.imap_session.proofs.PendingLemmas.{Carries-before, Carries-parts, Carries-replies, Carries-then}
+
+-- ---- what is served
+
+outlines_shown : (outlines : List ℕ → List Outline) → GivesOutlines outlines → (msg : List ℕ) (seen : Shown) → IsShownOf msg seen → outlines (shown_octets msg seen) ≡ shown_outlines seen
+outlines_shown outlines given msg (Whole tree) is = sym (given msg tree.entities is)
+outlines_shown outlines given msg (Rope rope) is = sym (is.outlines ∙ given (octets_of msg rope) is.others is.made_tree)
+
+-- these octets are served of a message, and these are the entities in them
+pub record IsServing (meanings : Meanings) (mode : Mode) (store : StoreState) (one : Listed) (octets : List ℕ) (outlines : List Outline) : Type 0 where
+  pub octets_are : served_of meanings mode store one ≡ octets
+  pub outlines_are : meanings.outlines octets ≡ outlines
+
+pub serving : (meanings : Meanings) → AreMeanings meanings → (mode : Mode) (store : StoreState) (one : Listed) (msg : List ℕ) (seen : Shown) → msg ≡ stored_octets store one.id → IsShownIn mode msg seen
+    → IsServing meanings mode store one (shown_octets msg seen) (shown_outlines seen)
+serving meanings are mode store one msg seen msg_is is = record {
+  octets_are = ap (served_by meanings.surrogate mode) (sym msg_is) ∙ sym (IsServed-by meanings.surrogate are.surrogates mode msg (shown_octets msg seen) is.1);
+  outlines_are = outlines_shown meanings.outlines are.entities msg seen is.0;
+}
+
+pub serving_section : (meanings : Meanings) (mode : Mode) (store : StoreState) (one : Listed) (octets : List ℕ) (outlines : List Outline) → IsServing meanings mode store one octets outlines
+    → (path : List ℕ) (what : Part) → section_at meanings mode store one path what ≡ section outlines path what
+serving_section meanings mode store one octets outlines is path what =
+    ap (λ (l : List Outline). section l path what) (ap meanings.outlines is.octets_are ∙ is.outlines_are)
+
+pub serving_octets : (meanings : Meanings) (mode : Mode) (store : StoreState) (one : Listed) (octets : List ℕ) (outlines : List Outline) → IsServing meanings mode store one octets outlines
+    → (span : Span) → octets_at meanings mode store one span ≡ take span.len (drop span.at octets)
+serving_octets meanings mode store one octets outlines is span = ap (λ (l : List ℕ). take span.len (drop span.at l)) is.octets_are
+
+header_in : (meanings : Meanings) (mode : Mode) (store : StoreState) (one : Listed) (octets : List ℕ) (outlines : List Outline) → IsServing meanings mode store one octets outlines
+    → (span : Option Span) → header_octets meanings mode store one span ≡ octets_in octets span
+header_in meanings mode store one octets outlines is None = refl
+header_in meanings mode store one octets outlines is (Some span) = serving_octets meanings mode store one octets outlines is span
+
+serving_header : (meanings : Meanings) (mode : Mode) (store : StoreState) (one : Listed) (msg : List ℕ) (seen : Shown) → IsServing meanings mode store one (shown_octets msg seen) (shown_outlines seen)
+    → whole_header meanings mode store one ≡ header_shown msg seen
+serving_header meanings mode store one msg seen is =
+    ap (header_octets meanings mode store one) (serving_section meanings mode store one (shown_octets msg seen) (shown_outlines seen) is [] place.Header)
+    ∙ header_in meanings mode store one (shown_octets msg seen) (shown_outlines seen) is (section (shown_outlines seen) [] place.Header)
+
+-- where a section stands that was found in what is shown
+pub section_found : (meanings : Meanings) → AreMeanings meanings → (mode : Mode) (store : StoreState) (one : Listed) (msg : List ℕ) (seen : Shown) (path : List ℕ) (what : Part) (found : Option Span) → msg ≡ stored_octets store one.id
+    → IsShownIn mode msg seen → found ≡ section (shown_outlines seen) path what → section_at meanings mode store one path what ≡ found
+section_found meanings are mode store one msg seen path what found msg_is is found_is =
+    serving_section meanings mode store one (shown_octets msg seen) (shown_outlines seen) (serving meanings are mode store one msg seen msg_is is) path what ∙ sym found_is
+
+-- ---- sections of what is shown
+
+pub found_within : (msg : List ℕ) (seen : Shown) (path : List ℕ) (what : Part) (found : Option Span) → IsShownOf msg seen → found ≡ section (shown_outlines seen) path what
+    → IfSome found (λ span. span.at + span.len ≤ length (shown_octets msg seen))
+found_within msg seen path what None is found_is = tt
+found_within msg seen path what (Some span) is found_is = shown_section_within msg seen path what span is (sym found_is)
+
+-- what stands within so many octets has places below that number
+pub found_below : (found : Option Span) (size end : ℕ) → size < end → IfSome found (λ span. span.at + span.len ≤ size) → IfSome found (λ span. span.at + span.len < end)
+found_below None size end few within = tt
+found_below (Some span) size end few within = omega arith
+
+-- ---- views
+
+-- the structure of what is shown is that of its octets
+pub structure_shown : (msg : List ℕ) (seen : Shown) (extended : Bool) (told : List ℕ) → IsShownOf msg seen
+    → HasStructure (record { octets = shown_octets msg seen; outlines = shown_outlines seen; extended = extended }) told → IsStructureOf extended (shown_octets msg seen) told
+structure_shown msg (Whole tree) extended told is has = record { entities = tree.entities; tree = is; structure = has }
+structure_shown msg (Rope rope) extended told is has =
+    record {
+      entities = is.others;
+      tree = is.made_tree;
+      structure = subst (λ (l : List Outline). HasStructure (record { octets = octets_of msg rope; outlines = l; extended = extended }) told) is.outlines has;
+    }
+
+view_given : (meanings : Meanings) → AreMeanings meanings → (mode : Mode) (word : List ℕ) (view : View) (octets served old new : List ℕ) → served ≡ octets → AddsView word view octets old new
+    → new ≡ old ++ reply_octets meanings (text word ∷ viewed mode (meanings.view_of view served) ∷ [])
+view_given meanings are mode word view octets served old new same adds =
+    let view_is : adds.text ≡ meanings.view_of view served = are.views view octets adds.text adds.is_view ∙ ap (meanings.view_of view) (sym same) in
+    adds.new_is ∙ ap (λ (l : List ℕ). old ++ (word ++ l)) (view_is ∙ sym (append-nil (meanings.view_of view served)))
+
+pub size_given : (meanings : Meanings) → AreMeanings meanings → (mode : Mode) (store : StoreState) (one : Listed) (msg : List ℕ) (seen : Shown) (size : ℕ) (old new : List ℕ)
+    → msg ≡ stored_octets store one.id → IsShownIn mode msg seen → size ≡ length (shown_octets msg seen) → new ≡ old ++ (codes "RFC822.SIZE " ++ decimal size)
+    → new ≡ old ++ reply_octets meanings (text (codes "RFC822.SIZE " ++ decimal (size_of meanings mode store one)) ∷ [])
+size_given meanings are mode store one msg seen size old new msg_is is size_is new_is =
+    let served = serving meanings are mode store one msg seen msg_is is in
+    new_is ∙ (ap (λ (n : ℕ). old ++ (codes "RFC822.SIZE " ++ decimal n)) (size_is ∙ sym (ap length served.octets_are))
+    ∙ ap (λ (l : List ℕ). old ++ l) (sym (append-nil (codes "RFC822.SIZE " ++ decimal (size_of meanings mode store one)))))
+
+pub envelope_given : (meanings : Meanings) → AreMeanings meanings → (mode : Mode) (store : StoreState) (one : Listed) (msg : List ℕ) (seen : Shown) (old new : List ℕ)
+    → msg ≡ stored_octets store one.id → IsShownIn mode msg seen → AddsView (codes "ENVELOPE ") envelope (header_shown msg seen) old new
+    → new ≡ old ++ reply_octets meanings (text (codes "ENVELOPE ") ∷ viewed mode (meanings.view_of envelope (whole_header meanings mode store one)) ∷ [])
+envelope_given meanings are mode store one msg seen old new msg_is is adds =
+    view_given meanings are mode (codes "ENVELOPE ") envelope (header_shown msg seen) (whole_header meanings mode store one) old new
+    (serving_header meanings mode store one msg seen (serving meanings are mode store one msg seen msg_is is)) adds
+
+pub structure_given : (meanings : Meanings) → AreMeanings meanings → (mode : Mode) (store : StoreState) (one : Listed) (msg : List ℕ) (seen : Shown) (word : List ℕ) (extended : Bool) (old new : List ℕ)
+    → msg ≡ stored_octets store one.id → IsShownIn mode msg seen → AddsView word (structure extended) (shown_octets msg seen) old new
+    → new ≡ old ++ reply_octets meanings (text word ∷ viewed mode (meanings.view_of (structure extended) (served_of meanings mode store one)) ∷ [])
+structure_given meanings are mode store one msg seen word extended old new msg_is is adds =
+    view_given meanings are mode word (structure extended) (shown_octets msg seen) (served_of meanings mode store one) old new
+    (serving meanings are mode store one msg seen msg_is is).octets_are adds
+
+-- ---- a range, a piece after another
+
+-- one number of octets more
+take_two : (octets : List ℕ) (at n : ℕ) → at ≤ length octets → take (at + n) octets ≡ take at octets ++ take n (drop at octets)
+take_two octets at n low =
+    let front = take at octets in
+    ap (λ (k : ℕ). take (k + n) octets) (sym (length-take-le at octets low)) ∙ (ap (take (length front + n)) (sym (take-append-drop at octets)) ∙ take-append-add front (drop at octets) n)
+
+-- of what is read, which fills the front of the buffer, so many octets are of the range
+pub record ReadsOn (octets buffer old : List ℕ) (from len at read n : ℕ) : Type 0 where
+  pub count : read ≡ min (length old) (length octets - (from + at))
+  pub filled : buffer ≡ take read (drop (from + at) octets) ++ drop read old
+  pub taken : n ≡ min read (len - at)
+  pub within : from + len ≤ length octets
+  pub low : at ≤ len
+
+range_of : (octets : List ℕ) (from len : ℕ) → List ℕ
+range_of octets from len = take len (drop from octets)
+
+range_length : (octets : List ℕ) (from len : ℕ) → from + len ≤ length octets → length (take len (drop from octets)) ≡ len
+range_length octets from len within = let rest = length-drop from octets in length-take-le len (drop from octets) (omega arith)
+
+-- what of a range stands behind a place
+range_on : (octets : List ℕ) (from len at n : ℕ) → at + n ≤ len → take n (drop at (take len (drop from octets))) ≡ take n (drop (from + at) octets)
+range_on octets from len at n low =
+    let rest : len ≡ at + (len - at) = omega arith in
+    ap (λ (k : ℕ). take n (drop at (take k (drop from octets)))) rest
+    ∙ (ap (take n) (drop-take at (len - at) (drop from octets)) ∙ (take-take n (len - at) (drop at (drop from octets)) (omega arith) ∙ ap (take n) (drop-drop at from octets)))
+
+read_front : (octets buffer old : List ℕ) (from len at read n : ℕ) → ReadsOn octets buffer old from len at read n → take n buffer ≡ take n (drop at (take len (drop from octets)))
+read_front octets buffer old from len at read n reads =
+    let behind = drop (from + at) octets in
+    let count = reads.count in
+    let taken = reads.taken in
+    let low = reads.low in
+    let within = reads.within in
+    let rest : length behind ≡ length octets - (from + at) = length-drop (from + at) octets in
+    let size : length (take read behind) ≡ read = length-take-le read behind (omega arith) in
+    ap (take n) reads.filled
+    ∙ (take-append-le n (take read behind) (drop read old) (omega arith) ∙ (take-take n read behind (omega arith) ∙ sym (range_on octets from len at n (omega arith))))
+
+range_two : (octets buffer old : List ℕ) (from len at read n : ℕ) → ReadsOn octets buffer old from len at read n
+    → take at (take len (drop from octets)) ++ take n buffer ≡ take (at + n) (take len (drop from octets))
+range_two octets buffer old from len at read n reads =
+    let low = reads.low in
+    let size = range_length octets from len reads.within in
+    ap (λ (l : List ℕ). take at (take len (drop from octets)) ++ l) (read_front octets buffer old from len at read n reads)
+    ∙ sym (take_two (take len (drop from octets)) at n (omega arith))
+
+pub gives_more : (a b c : Telling) (octets buffer old : List ℕ) (from len at read n : ℕ) → ReadsOn octets buffer old from len at read n
+    → Gives a b (take at (take len (drop from octets))) → Gives b c (take n buffer) → Gives a c (take (at + n) (take len (drop from octets)))
+gives_more a b c octets buffer old from len at read n reads front gave =
+    subst (Gives a c) (range_two octets buffer old from len at read n reads) (Gives-trans a b c (take at (take len (drop from octets))) (take n buffer) front gave)
+
+pub gives_first : (a b c : Telling) (octets buffer old : List ℕ) (from len at read n : ℕ) → ReadsOn octets buffer old from len at read n
+    → Gives a b (take at (take len (drop from octets))) → GivesPrefix b c (take n buffer) → GivesPrefix a c (take len (drop from octets))
+gives_first a b c octets buffer old from len at read n reads front gave =
+    let range = take len (drop from octets) in
+    let so_far = subst (GivesPrefix a c) (range_two octets buffer old from len at read n reads) (Gives-prefix a b c (take at range) (take n buffer) front gave) in
+    subst (GivesPrefix a c) (take-append-drop (at + n) range) (GivesPrefix-more a c (take (at + n) range) (drop (at + n) range) so_far)
+
+pub gives_all : (a b : Telling) (octets : List ℕ) (from len at : ℕ) → from + len ≤ length octets → len ≤ at → Gives a b (take at (take len (drop from octets))) → Gives a b (take len (drop from octets))
+gives_all a b octets from len at within past gave =
+    let size = range_length octets from len within in
+    subst (Gives a b) (take_all at (take len (drop from octets)) (omega arith)) gave
+
+-- ---- a literal
+
+span_is : (meanings : Meanings) → AreMeanings meanings → (mode : Mode) (msg : List ℕ) (seen : Shown) (span : Span) → IsShownIn mode msg seen
+    → take span.len (drop span.at (shown_octets msg seen)) ≡ flat_map (part_octets meanings) (shown msg mode span.at span.len ∷ [])
+span_is meanings are mode msg seen span is =
+    ap (λ (l : List ℕ). take span.len (drop span.at l)) (IsServed-by meanings.surrogate are.surrogates mode msg (shown_octets msg seen) is.1)
+    ∙ sym (append-nil (take span.len (drop span.at (served_by meanings.surrogate mode msg))))
+
+parts_of_msg : (mode : Mode) (store : StoreState) (one : Listed) (asked msg : List ℕ) (span : Span) → msg ≡ stored_octets store one.id
+    → literal_head asked span.len ∷ shown msg mode span.at span.len ∷ [] ≡ span_parts mode store one asked span
+parts_of_msg mode store one asked msg span msg_is = ap (λ (m : List ℕ). literal_head asked span.len ∷ shown m mode span.at span.len ∷ []) msg_is
+
+Carries-head : (meanings : Meanings) (a : Around) (asked owed had : List ℕ) (size : ℕ) → had ≡ owed ++ head_octets asked size → Carries (part_octets meanings) a a None owed had (reply (literal_head asked size ∷ []))
+Carries-head meanings a asked owed had size is =
+    Carries-parts (part_octets meanings) a owed had (literal_head asked size ∷ []) (is ∙ ap (λ (l : List ℕ). owed ++ l) (sym (append-nil (head_octets asked size))))
+
+-- the header stays pending and is given, and then the octets are
+pub Carries-literal : (meanings : Meanings) → AreMeanings meanings → (mode : Mode) (store : StoreState) (one : Listed) (asked msg : List ℕ) (seen : Shown) (span : Span) (a b c : Around) (met : Option Fault) (owed had : List ℕ)
+    → msg ≡ stored_octets store one.id → IsShownIn mode msg seen → had ≡ owed ++ head_octets asked span.len
+    → Carries (part_octets meanings) a b None had [] [] → Replies b c met (take span.len (drop span.at (shown_octets msg seen))) → Carries (part_octets meanings) a c met owed [] (reply (span_parts mode store one asked span))
+Carries-literal meanings are mode store one asked msg seen span a b c met owed had msg_is is had_is given replies =
+    let octets = shown msg mode span.at span.len ∷ [] in
+    subst (λ (parts : List ReplyPart). Carries (part_octets meanings) a c met owed [] (reply parts)) (parts_of_msg mode store one asked msg span msg_is)
+    (Carries-then (part_octets meanings) a a c met owed had [] (reply (literal_head asked span.len ∷ [])) (reply octets) (Carries-head meanings a asked owed had span.len had_is)
+    (Carries-then (part_octets meanings) a b c met had [] [] [] (reply octets) given
+    (Carries-replies (part_octets meanings) b c met octets (subst (λ (l : List ℕ). Replies b c met l) (span_is meanings are mode msg seen span is) replies))))
+
+-- a fault before the octets
+pub Carries-headed : (meanings : Meanings) (mode : Mode) (store : StoreState) (one : Listed) (asked msg : List ℕ) (span : Span) (a b : Around) (met : Fault) (owed had mid owes : List ℕ)
+    → msg ≡ stored_octets store one.id → had ≡ owed ++ head_octets asked span.len
+    → Carries (part_octets meanings) a b (Some met) had mid [] → Carries (part_octets meanings) a b (Some met) owed owes (reply (span_parts mode store one asked span))
+Carries-headed meanings mode store one asked msg span a b met owed had mid owes msg_is had_is given =
+    let octets = shown msg mode span.at span.len ∷ [] in
+    subst (λ (parts : List ReplyPart). Carries (part_octets meanings) a b (Some met) owed owes (reply parts)) (parts_of_msg mode store one asked msg span msg_is)
+    (Carries-then (part_octets meanings) a a b (Some met) owed had owes (reply (literal_head asked span.len ∷ [])) (reply octets) (Carries-head meanings a asked owed had span.len had_is)
+    (Carries-before (part_octets meanings) a b met had mid owes [] (reply octets) given))
+
+-- ---- what is told of a section
+
+-- there is none
+pub Carries-nothing : (meanings : Meanings) (mode : Mode) (store : StoreState) (one : Listed) (asked : Asked) (a : Around) (owed owes : List ℕ) → section_at meanings mode store one asked.path.now (wanted_place asked.wanted) ≡ None
+    → owes ≡ owed ++ (asked.name ++ codes " NIL") → Carries (part_octets meanings) a a None owed owes (reply (asked_parts meanings mode store one asked))
+Carries-nothing meanings mode store one asked a owed owes none put =
+    let parts : text (asked.name ++ codes " NIL") ∷ [] ≡ asked_parts meanings mode store one asked =
+    sym (ap (wanted_parts meanings mode store one asked.name asked.partial asked.wanted) none ∙ nothing_wanted meanings mode store one asked.name asked.partial asked.wanted) in
+    subst (λ (l : List ReplyPart). Carries (part_octets meanings) a a None owed owes (reply l)) parts (Carries-text meanings a owed owes (asked.name ++ codes " NIL") put)
+
+-- octets of it
+pub octets_told : (meanings : Meanings) (mode : Mode) (store : StoreState) (one : Listed) (asked : Asked) (what : Part) (span part : Span) (named : List ℕ) → asked.wanted ≡ want.Octets what
+    → section_at meanings mode store one asked.path.now (wanted_place asked.wanted) ≡ Some span → part ≡ partial_span asked.partial span → named ≡ asked.name
+    → span_parts mode store one named part ≡ asked_parts meanings mode store one asked
+octets_told meanings mode store one asked what span part named wanted found part_is named_is =
+    rw (part_is, named_is) (sym (ap (wanted_parts meanings mode store one asked.name asked.partial asked.wanted) found
+    ∙ ap (λ (w : Wanted). wanted_parts meanings mode store one asked.name asked.partial w (Some span)) wanted))
+
+view_told : (meanings : Meanings) (mode : Mode) (asked octets owed owes : List ℕ) → owes ≡ owed ++ (head_octets asked (length octets) ++ octets) → owes ≡ owed ++ flat_map (part_octets meanings) (view_parts mode asked octets)
+view_told meanings mode asked octets owed owes is = is ∙ ap (λ (l : List ℕ). owed ++ (head_octets asked (length octets) ++ l)) (sym (append-nil octets))
+
+-- fields of it
+pub Carries-fields : (meanings : Meanings) → AreMeanings meanings → (mode : Mode) (store : StoreState) (one : Listed) (asked : Asked) (chosen : Chosen) (span : Span) (header : List ℕ) (a : Around) (owed owes : List ℕ)
+    → asked.wanted ≡ want.Fields chosen → section_at meanings mode store one asked.path.now (wanted_place asked.wanted) ≡ Some span → header ≡ octets_at meanings mode store one span → AddsFields asked chosen header owed owes
+    → Carries (part_octets meanings) a a None owed owes (reply (asked_parts meanings mode store one asked))
+Carries-fields meanings are mode store one asked chosen span header a owed owes wanted found header_is adds =
+    let view = fields chosen.names.now chosen.negated in
+    let told : adds.text ≡ meanings.view_of view (octets_at meanings mode store one span) = are.views view header adds.text adds.are_chosen ∙ ap (meanings.view_of view) header_is in
+    let parts : view_parts mode asked.name (partial_octets asked.partial adds.text) ≡ asked_parts meanings mode store one asked =
+    ap (λ (l : List ℕ). view_parts mode asked.name (partial_octets asked.partial l)) told
+    ∙ sym (ap (wanted_parts meanings mode store one asked.name asked.partial asked.wanted) found
+    ∙ ap (λ (w : Wanted). wanted_parts meanings mode store one asked.name asked.partial w (Some span)) wanted) in
+    subst (λ (l : List ReplyPart). Carries (part_octets meanings) a a None owed owes (reply l)) parts
+    (Carries-parts (part_octets meanings) a owed owes (view_parts mode asked.name (partial_octets asked.partial adds.text))
+    (view_told meanings mode asked.name (partial_octets asked.partial adds.text) owed owes adds.new_is))

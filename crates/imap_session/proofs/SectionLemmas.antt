@@ -1,0 +1,141 @@
+-- Names of sections, and what an item asks.
+use Rattle.std.proofs.Common.{◌≡◌, ℕ, ◌+◌, ◌-◌, ◌<◌, ◌≤◌, min, Bool, true, false, List, [], ◌∷◌, ◌++◌, length, get_or, map, take, drop, Option, None, Some, refl, sym, ap, subst, ◌∙◌, append-nil, append_assoc, arith, ne_eqb}
+use Rattle.std.specs.Prelude.{codes, ◌&&◌, ◌==◌, not, slice_range}
+use Rattle.std.specs.Fmt.{decimal}
+use Rattle.std.specs.List.{join_with_byte}
+use Rattle.std.proofs.lemmas.List.{drop_min, length-drop, length-take-le, map_more, take_all, take_min}
+use Rattle.mail_wire.specs.declared.values.Span.{Span}
+use Rattle.mime_tree.specs.declared.sections.Part.{Part}
+use Rattle.kept_mail.specs.declared.kept.Listed.{Listed}
+use Rattle.mail_store.specs.StoreState.{StoreState}
+use Rattle.surrogate_cache.specs.Served.{Mode}
+use Rattle.session_core.specs.Meanings.{Meanings}
+use Rattle.imap_grammar.specs.declared.command.FetchItem.{FetchItem}
+use Rattle.imap_grammar.specs.declared.command.FetchItem.TheVariants as item
+use Rattle.imap_grammar.specs.declared.command.SectionPart.{SectionPart}
+use Rattle.imap_grammar.specs.declared.command.SectionPart.TheVariants as part
+use Rattle.imap_views.specs.Chosen.{AreChosen}
+use Rattle.imap_views.specs.Strings.{AddsText}
+use Rattle.imap_session.specs.Items.{item_parts, part_words, partial_octets, partial_span, partial_text, section_at, section_name, section_parts, shown_parts}
+use Rattle.imap_session.specs.Replies.{ReplyPart, text}
+use Rattle.imap_session.specs.declared.sections.Asked.{Asked}
+use Rattle.imap_session.specs.declared.sections.Chosen.{Chosen}
+use Rattle.imap_session.specs.declared.sections.Wanted.{Wanted}
+use Rattle.imap_session.specs.declared.sections.Wanted.TheVariants as want
+use Rattle.imap_session.specs.private.Asking.{AddsFields, IsAsked, IsOfMessage, IsWanted, apart_octets, asked_parts, head_octets, names_all, wanted_parts}
+use Rattle.imap_session.proofs.FetchLemmas.{behind-push, stands_behind}
+
+-- ---- texts with an octet between any two
+
+joined_push : (c : ℕ) (xs : List (List ℕ)) (x : List ℕ) → join_with_byte c (xs ++ x ∷ []) ≡ join_with_byte c xs ++ (apart_octets c (stands_behind false xs) ++ x)
+joined_push c [] x = refl
+joined_push c (y ∷ []) x = refl
+joined_push c (y ∷ z ∷ xs) x = ap (λ (rest : List ℕ). y ++ c ∷ rest) (joined_push c (z ∷ xs) x) ∙ sym (append_assoc y (c ∷ join_with_byte c (z ∷ xs)) (c ∷ x))
+
+some_mapped : {X : Type 0} (f : X → List ℕ) (xs : List X) → stands_behind false (map f xs) ≡ stands_behind false xs
+some_mapped f [] = refl
+some_mapped f (x ∷ xs) = refl
+
+-- one more
+pub joined_more : {X : Type 0} (c : ℕ) (f : X → List ℕ) (items : List X) (at : ℕ) (d : X) (apart : Bool) (old had spaced new : List ℕ) → at < length items
+    → apart ≡ stands_behind false (take at items) → had ≡ old ++ join_with_byte c (map f (take at items)) → spaced ≡ had ++ apart_octets c apart → new ≡ spaced ++ f (get_or items at d)
+    → new ≡ old ++ join_with_byte c (map f (take (at + 1) items))
+joined_more c f items at d apart old had spaced new low behind had_is spaced_is new_is =
+    let front = map f (take at items) in
+    let last = f (get_or items at d) in
+    let more : join_with_byte c (map f (take (at + 1) items)) ≡ join_with_byte c front ++ (apart_octets c apart ++ last) =
+    ap (join_with_byte c) (map_more f items at d low)
+    ∙ (joined_push c front last ∙ ap (λ (b : Bool). join_with_byte c front ++ (apart_octets c b ++ last)) (some_mapped f (take at items) ∙ sym behind)) in
+    rw (new_is, spaced_is, had_is, more) (simp append_assoc)
+
+pub joined_all : {X : Type 0} (c : ℕ) (f : X → List ℕ) (items : List X) (at : ℕ) (old made : List ℕ) → length items ≤ at → made ≡ old ++ join_with_byte c (map f (take at items))
+    → made ≡ old ++ join_with_byte c (map f items)
+joined_all {X = X} c f items at old made past is = is ∙ ap (λ (l : List X). old ++ join_with_byte c (map f l)) (take_all at items past)
+
+-- ---- the name of a section
+
+joined_word : (path : List ℕ) (word : List ℕ) → join_with_byte 46 (map decimal path ++ word ∷ []) ≡ join_with_byte 46 (map decimal path) ++ (apart_octets 46 (not (length path == 0)) ++ word)
+joined_word [] word = refl
+joined_word (n ∷ path) word =
+    joined_push 46 (map decimal (n ∷ path)) word
+    ∙ ap (λ (b : Bool). join_with_byte 46 (map decimal (n ∷ path)) ++ (apart_octets 46 (not b) ++ word)) (sym (ne_eqb (length (n ∷ path)) 0 (λ is. omega (arith, is))))
+
+-- the words of the part behind the path
+joined_words : (path : List ℕ) (what : SectionPart)
+    → join_with_byte 46 (map decimal path ++ part_words what) ≡ join_with_byte 46 (map decimal path) ++ (apart_octets 46 (not (names_all what) && not (length path == 0)) ++ join_with_byte 46 (part_words what))
+joined_words path part.Whole = ap (join_with_byte 46) (append-nil (map decimal path)) ∙ sym (append-nil (join_with_byte 46 (map decimal path)))
+joined_words path part.Header = joined_word path (codes "HEADER")
+joined_words path (part.Fields names negated) = joined_word path _
+joined_words path part.Text = joined_word path (codes "TEXT")
+joined_words path part.Mime = joined_word path (codes "MIME")
+
+-- the name is put together a piece after another
+pub name_made : (path : List ℕ) (what : SectionPart) (partial : Option (ℕ × ℕ)) (apart : Bool) (begun numbered spaced worded closed name : List ℕ) → begun ≡ codes "BODY[" → numbered ≡ begun ++ join_with_byte 46 (map decimal path)
+    → apart ≡ (not (names_all what) && not (length path == 0)) → spaced ≡ numbered ++ apart_octets 46 apart → worded ≡ spaced ++ join_with_byte 46 (part_words what) → closed ≡ worded ++ codes "]"
+    → name ≡ closed ++ partial_text partial → name ≡ section_name path what partial
+name_made path what partial apart begun numbered spaced worded closed name begun_is numbered_is apart_is spaced_is worded_is closed_is name_is =
+    rw (name_is, closed_is, worded_is, spaced_is, apart_is, numbered_is, begun_is, joined_words path what) (simp append_assoc)
+
+-- ---- what is asked
+
+-- a section that a path and a part name
+pub section_asked : (meanings : Meanings) (mode : Mode) (store : StoreState) (one : Listed) (what : SectionPart) (asked : Asked) → IsWanted what asked.wanted
+    → section_parts meanings mode store one asked.name asked.path.now what asked.partial ≡ asked_parts meanings mode store one asked
+section_asked meanings mode store one what asked is = rw is.at (is.parts meanings mode store one asked.name asked.partial _)
+
+-- octets of the whole message
+pub message_asked : (meanings : Meanings) (mode : Mode) (store : StoreState) (one : Listed) (called : List ℕ) (what : Part) (asked : Asked) → IsOfMessage called what asked
+    → shown_parts mode store one called None (section_at meanings mode store one [] what) ≡ asked_parts meanings mode store one asked
+message_asked meanings mode store one called what asked is = rw (is.wanted, is.partial, is.path, is.name) refl
+
+-- where there is no such section
+pub nothing_wanted : (meanings : Meanings) (mode : Mode) (store : StoreState) (one : Listed) (asked : List ℕ) (partial : Option (ℕ × ℕ)) (wanted : Wanted)
+    → wanted_parts meanings mode store one asked partial wanted None ≡ text (asked ++ codes " NIL") ∷ []
+nothing_wanted meanings mode store one asked partial (want.Octets what) = refl
+nothing_wanted meanings mode store one asked partial (want.Fields chosen) = refl
+
+-- ---- a part of a section
+
+-- it stands within the section
+pub partial_within : (partial : Option (ℕ × ℕ)) (span : Span) (end : ℕ) → span.at + span.len ≤ end → (partial_span partial span).at + (partial_span partial span).len ≤ end
+partial_within None span end within = within
+partial_within (Some asked) span end within = omega arith
+
+-- of octets that stand alone
+pub partial_alone : (partial : Option (ℕ × ℕ)) (octets : List ℕ) (whole : Span) → whole.at ≡ 0 → whole.len ≡ length octets
+    → partial_octets partial octets ≡ take (partial_span partial whole).len (drop (partial_span partial whole).at octets)
+partial_alone None octets whole at len = rw (at, len) (sym (take_all (length octets) octets (omega arith)))
+partial_alone (Some asked) octets whole at len =
+    let place : whole.at + min asked.0 whole.len ≡ min asked.0 (length octets) = omega arith in
+    rw (place, len) (sym (ap (λ (l : List ℕ). take (min asked.1 (length octets - asked.0)) l) (drop_min asked.0 octets)
+    ∙ (ap (λ (n : ℕ). take (min asked.1 n) (drop asked.0 octets)) (sym (length-drop asked.0 octets)) ∙ take_min asked.1 (drop asked.0 octets))))
+
+-- the part of the fields that was asked is put last as a literal
+part_added : (asked : Asked) (chosen : Chosen) (header told : List ℕ) (whole : Span) (old headed new : List ℕ) → AddsText (AreChosen header chosen.names.now chosen.negated) [] told → whole.at ≡ 0 → whole.len ≡ length told
+    → headed ≡ old ++ head_octets asked.name (partial_span asked.partial whole).len
+    → new ≡ headed ++ slice_range told (partial_span asked.partial whole).at ((partial_span asked.partial whole).at + (partial_span asked.partial whole).len) → AddsFields asked chosen header old new
+part_added asked chosen header told whole old headed new are at len headed_is new_is =
+    let span = partial_span asked.partial whole in
+    let within : span.at + span.len ≤ length told = partial_within asked.partial whole (length told) (omega arith) in
+    let part : partial_octets asked.partial told ≡ take span.len (drop span.at told) = partial_alone asked.partial told whole at len in
+    let rest = length-drop span.at told in
+    let size : length (take span.len (drop span.at told)) ≡ span.len = length-take-le span.len (drop span.at told) (omega arith) in
+    let slice : slice_range told span.at (span.at + span.len) ≡ take span.len (drop span.at told) = ap (λ (n : ℕ). take n (drop span.at told)) (add_sub span.at span.len) in
+    record {
+      text = told;
+      are_chosen = subst (AreChosen header chosen.names.now chosen.negated) (sym are.2) are.1;
+      new_is = new_is ∙ (ap (λ (l : List ℕ). l ++ slice_range told span.at (span.at + span.len)) headed_is
+          ∙ (append_assoc old (head_octets asked.name span.len) (slice_range told span.at (span.at + span.len))
+          ∙ (ap (λ (l : List ℕ). old ++ (head_octets asked.name span.len ++ l)) slice
+          ∙ (ap (λ (n : ℕ). old ++ (head_octets asked.name n ++ take span.len (drop span.at told))) (sym size)
+          ∙ ap (λ (l : List ℕ). old ++ (head_octets asked.name (length l) ++ l)) (sym part)))));
+    }
+  where
+    add_sub : (a b : ℕ) → (a + b) - a ≡ b
+    add_sub a b = omega arith
+
+pub fields_added : (asked : Asked) (chosen : Chosen) (header told : List ℕ) (whole span : Span) (named read old headed new : List ℕ) → AddsText (AreChosen header chosen.names.now chosen.negated) [] told → whole.at ≡ 0
+    → whole.len ≡ length told → span ≡ partial_span asked.partial whole → named ≡ asked.name → read ≡ told → headed ≡ old ++ head_octets named span.len → new ≡ headed ++ slice_range read span.at (span.at + span.len)
+    → AddsFields asked chosen header old new
+fields_added asked chosen header told whole span named read old headed new are at len span_is named_is read_is headed_is new_is =
+    part_added asked chosen header told whole old headed new are at len (rw (named_is, span_is) at headed_is) (rw (read_is, span_is) at new_is)

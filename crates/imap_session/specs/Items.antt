@@ -1,0 +1,156 @@
+-- What FETCH tells of its items (RFC 3501, 6.4.5 and 7.4.2): sizes, sections and views are those of what the session is served of a message.
+use Rattle.std.specs.Prelude.{ℕ, Bool, true, false, not, ◌+◌, ◌-◌, ◌++◌, List, [], ◌∷◌, Option, None, Some, length, codes, map, min, take, drop, if◌then◌else◌}
+use Rattle.std.specs.Fmt.{decimal}
+use Rattle.std.specs.List.{join_with_byte, list_all}
+use Rattle.std.specs.Str.{str_to_ascii_uppercase}
+use Rattle.mail_wire.specs.declared.values.Span.{Span}
+use Rattle.mime_tree.specs.Sections.{section}
+use Rattle.mime_tree.specs.declared.sections.Part.{Part}
+use Rattle.mime_tree.specs.declared.sections.Part.TheVariants as place
+use Rattle.kept_mail.specs.declared.kept.Listed.{Listed}
+use Rattle.mail_store.specs.StoreState.{StoreState}
+use Rattle.surrogate_cache.specs.Served.{Mode, served_by}
+use Rattle.session_core.specs.Desks.{stored_date, stored_octets}
+use Rattle.session_core.specs.Meanings.{Meanings}
+use Rattle.imap_words.specs.Tokens.{is_atom_char}
+use Rattle.imap_grammar.specs.declared.command.FetchItem.{FetchItem}
+use Rattle.imap_grammar.specs.declared.command.FetchItem.TheVariants as item
+use Rattle.imap_grammar.specs.declared.command.SectionPart.{SectionPart}
+use Rattle.imap_grammar.specs.declared.command.SectionPart.TheVariants as part
+use Rattle.imap_mailboxes.specs.Flags.{flags_text}
+use Rattle.imap_mailboxes.specs.Names.{quoted}
+use Rattle.imap_views.specs.Views.{View, envelope, fields, structure}
+use Rattle.imap_session.specs.Replies.{ReplyPart, text, shown, viewed}
+
+-- ---- what is served
+
+abbrev pub served_of : Meanings → Mode → StoreState → Listed → List ℕ
+served_of meanings mode store one = served_by meanings.surrogate mode (stored_octets store one.id)
+
+-- how many octets a session is served of a message
+abbrev pub size_of : Meanings → Mode → StoreState → Listed → ℕ
+size_of meanings mode store one = length (served_of meanings mode store one)
+
+-- where a section stands in them, if there is one
+abbrev pub section_at : Meanings → Mode → StoreState → Listed → (path : List ℕ) → Part → Option Span
+section_at meanings mode store one path what = section (meanings.outlines (served_of meanings mode store one)) path what
+
+abbrev pub octets_at : Meanings → Mode → StoreState → Listed → Span → List ℕ
+octets_at meanings mode store one span = take span.len (drop span.at (served_of meanings mode store one))
+
+-- the header block of the whole message, with its empty line
+abbrev pub header_octets : Meanings → Mode → StoreState → Listed → Option Span → List ℕ
+header_octets meanings mode store one None = []
+header_octets meanings mode store one (Some span) = octets_at meanings mode store one span
+
+abbrev pub whole_header : Meanings → Mode → StoreState → Listed → List ℕ
+whole_header meanings mode store one = header_octets meanings mode store one (section_at meanings mode store one [] place.Header)
+
+-- ---- names of sections
+
+-- a field's name in upper case: an atom, or else a quoted string
+abbrev pub name_text : List ℕ → List ℕ
+name_text upper = if list_all is_atom_char upper then upper else quoted upper
+
+abbrev pub field_name : List ℕ → List ℕ
+field_name name = name_text (str_to_ascii_uppercase name)
+
+abbrev pub fields_word : (negated : Bool) → List ℕ
+fields_word negated = if negated then codes "HEADER.FIELDS.NOT (" else codes "HEADER.FIELDS ("
+
+-- the words of a part
+abbrev pub part_words : SectionPart → List (List ℕ)
+part_words part.Whole = []
+part_words part.Header = codes "HEADER" ∷ []
+part_words (part.Fields names negated) = (fields_word negated ++ (join_with_byte 32 (map field_name names) ++ codes ")")) ∷ []
+part_words part.Text = codes "TEXT" ∷ []
+part_words part.Mime = codes "MIME" ∷ []
+
+-- from which octet on a part of the section is asked
+abbrev pub partial_text : Option (ℕ × ℕ) → List ℕ
+partial_text None = []
+partial_text (Some asked) = codes "<" ++ (decimal asked.0 ++ codes ">")
+
+-- the name of a section in a reply: its path and its words with a dot between any two
+abbrev pub section_name : (path : List ℕ) → SectionPart → Option (ℕ × ℕ) → List ℕ
+section_name path what partial = codes "BODY[" ++ (join_with_byte 46 (map decimal path ++ part_words what) ++ (codes "]" ++ partial_text partial))
+
+-- ---- octets as literals
+
+-- the header of a literal, behind the name of what was asked (RFC 3501, 4.3)
+abbrev pub literal_head : (asked : List ℕ) → (size : ℕ) → ReplyPart
+literal_head asked size = text (asked ++ (codes " {" ++ (decimal size ++ codes "}\r\n")))
+
+-- of a section: all of it, or from an octet on so many at most
+abbrev pub partial_span : Option (ℕ × ℕ) → Span → Span
+partial_span None span = span
+partial_span (Some asked) span = record { at = span.at + min asked.0 span.len; len = min asked.1 (span.len - asked.0) }
+
+abbrev pub partial_octets : Option (ℕ × ℕ) → List ℕ → List ℕ
+partial_octets None octets = octets
+partial_octets (Some asked) octets = take asked.1 (drop asked.0 octets)
+
+-- octets of what is served
+abbrev pub span_parts : Mode → StoreState → Listed → (asked : List ℕ) → Span → List ReplyPart
+span_parts mode store one asked span = literal_head asked span.len ∷ shown (stored_octets store one.id) mode span.at span.len ∷ []
+
+-- a section, or NIL where there is none
+abbrev pub shown_parts : Mode → StoreState → Listed → (asked : List ℕ) → Option (ℕ × ℕ) → Option Span → List ReplyPart
+shown_parts mode store one asked partial None = text (asked ++ codes " NIL") ∷ []
+shown_parts mode store one asked partial (Some span) = span_parts mode store one asked (partial_span partial span)
+
+-- a view, as a literal
+abbrev pub view_parts : Mode → (asked octets : List ℕ) → List ReplyPart
+view_parts mode asked octets = literal_head asked (length octets) ∷ viewed mode octets ∷ []
+
+-- chosen fields of a header, or NIL where there is none
+abbrev pub fields_parts : Meanings → Mode → StoreState → Listed → (asked : List ℕ) → Option (ℕ × ℕ) → View → Option Span → List ReplyPart
+fields_parts meanings mode store one asked partial view None = text (asked ++ codes " NIL") ∷ []
+fields_parts meanings mode store one asked partial view (Some span) =
+    view_parts mode asked (partial_octets partial (meanings.view_of view (octets_at meanings mode store one span)))
+
+-- which part of an entity a section's words name; fields are those of its header
+abbrev pub place_of : SectionPart → Part
+place_of part.Whole = place.Whole
+place_of part.Header = place.Header
+place_of (part.Fields names negated) = place.Header
+place_of part.Text = place.Text
+place_of part.Mime = place.Mime
+
+abbrev pub found_parts : Meanings → Mode → StoreState → Listed → (asked : List ℕ) → Option (ℕ × ℕ) → SectionPart → Option Span → List ReplyPart
+found_parts meanings mode store one asked partial (part.Fields names negated) span = fields_parts meanings mode store one asked partial (fields names negated) span
+found_parts meanings mode store one asked partial other span = shown_parts mode store one asked partial span
+
+abbrev pub section_parts : Meanings → Mode → StoreState → Listed → (asked path : List ℕ) → SectionPart → Option (ℕ × ℕ) → List ReplyPart
+section_parts meanings mode store one asked path what partial =
+    found_parts meanings mode store one asked partial what (section_at meanings mode store one path (place_of what))
+
+-- ---- items
+
+abbrev pub item_parts : Meanings → Mode → StoreState → Listed → FetchItem → List ReplyPart
+item_parts meanings mode store one item.Flags = text (flags_text one.flags) ∷ []
+item_parts meanings mode store one item.Uid = text (codes "UID " ++ decimal one.uid) ∷ []
+item_parts meanings mode store one item.InternalDate = text (codes "INTERNALDATE \"" ++ (stored_date store one.id ++ codes "\"")) ∷ []
+item_parts meanings mode store one item.Size = text (codes "RFC822.SIZE " ++ decimal (size_of meanings mode store one)) ∷ []
+item_parts meanings mode store one item.Rfc822 = section_parts meanings mode store one (codes "RFC822") [] part.Whole None
+item_parts meanings mode store one item.Rfc822Header = section_parts meanings mode store one (codes "RFC822.HEADER") [] part.Header None
+item_parts meanings mode store one item.Rfc822Text = section_parts meanings mode store one (codes "RFC822.TEXT") [] part.Text None
+item_parts meanings mode store one item.Envelope = text (codes "ENVELOPE ") ∷ viewed mode (meanings.view_of envelope (whole_header meanings mode store one)) ∷ []
+item_parts meanings mode store one item.Body = text (codes "BODY ") ∷ viewed mode (meanings.view_of (structure false) (served_of meanings mode store one)) ∷ []
+item_parts meanings mode store one item.BodyStructure = text (codes "BODYSTRUCTURE ") ∷ viewed mode (meanings.view_of (structure true) (served_of meanings mode store one)) ∷ []
+item_parts meanings mode store one (item.Section peek path what partial) = section_parts meanings mode store one (section_name path what partial) path what partial
+
+abbrev pub is_uid : FetchItem → Bool
+is_uid item.Uid = true
+is_uid other = false
+
+abbrev pub is_flags : FetchItem → Bool
+is_flags item.Flags = true
+is_flags other = false
+
+-- octets of the content that are shown without `PEEK` are seen
+abbrev pub sets_seen : FetchItem → Bool
+sets_seen item.Rfc822 = true
+sets_seen item.Rfc822Text = true
+sets_seen (item.Section peek path what partial) = not peek
+sets_seen other = false

@@ -1,0 +1,121 @@
+-- What a legacy session is shown of a message has ASCII headers, and so its views are ASCII.
+use Rattle.std.proofs.Common.{◌≡◌, ℕ, zero, suc, ◌+◌, List, [], ◌∷◌, Bool, true, Option, Some, None, slice_get, take, drop, refl, sym, ◌∙◌, ap, subst}
+use Rattle.std.specs.List.{AllByRecursion, list_all}
+use Rattle.std.specs.Prelude.{option_and_then, option_map, slice_range}
+use Rattle.std.proofs.lemmas.Option.{same_Some}
+use Rattle.mail_wire.specs.Octets.{is_ascii}
+use Rattle.mail_wire.specs.declared.values.Span.{Span}
+use Rattle.mail_wire.proofs.AllLemmas.{pass-append}
+use Rattle.mime_tree.specs.Outlines.{Outline, outlines_of}
+use Rattle.mime_tree.specs.Sections.{child_of, header_of, named_by, part_at, part_of, part_of_all, section}
+use Rattle.mime_tree.specs.Tree.{raws_of}
+use Rattle.mime_tree.specs.declared.entity.Entity.{Entity}
+use Rattle.mime_tree.specs.declared.entity.Shape.{Shape}
+use Rattle.mime_tree.specs.declared.entity.Shape.TheVariants.{Leaf, Multipart, Message}
+use Rattle.mime_tree.specs.declared.sections.Part.TheVariants.{Header}
+use Rattle.surrogate_rope.specs.Layout.{HasAsciiBlocks}
+use Rattle.surrogate_rope.specs.declared.shown.Shown.TheVariants.{Whole}
+use Rattle.session_core.specs.Meanings.{Meanings, AreMeanings}
+use Rattle.imap_views.specs.Fields.{HasSomeBlock}
+use Rattle.imap_views.specs.Views.{envelope, fields, structure}
+use Rattle.imap_views.proofs.AsciiFields.{joined_ascii}
+use Rattle.imap_views.proofs.AsciiStructures.{structure_ascii}
+use Rattle.imap_views.proofs.AsciiViews.{chosen_ascii, has_envelope_ascii}
+use Rattle.imap_views.proofs.GivenEnvelopes.{chosen_given, envelope_given}
+use Rattle.imap_views.proofs.GivenStructures.{structure_given}
+use Rattle.imap_views.proofs.SectionPlaces.{tree_has_header, tree_header_has_block}
+use Rattle.imap_views.proofs.TreeHeaders.{HasHeader, tree_headers}
+
+-- ---- sections that are headers
+
+-- the span is the header of an entity
+record IsHeaderOfOne (outlines : List Outline) (span : Span) : Type 0 where
+  number : ℕ
+  outline : Outline
+  is_outline : slice_get outlines number ≡ Some outline
+  span_is : span ≡ header_of outline
+
+header_at : (outlines : List Outline) (number : ℕ) (span : Span) (found : Option Outline) → slice_get outlines number ≡ found → option_map header_of found ≡ Some span → IsHeaderOfOne outlines span
+header_at outlines number span None at is = absurd cc
+header_at outlines number span (Some outline) at is = record { number = number; outline = outline; is_outline = at; span_is = sym (same_Some _ _ is) }
+
+-- of the message that an entity holds
+header_in : (outlines : List Outline) (number : ℕ) (span : Span) (shape : Shape) → option_map header_of (child_of outlines number shape) ≡ Some span → IsHeaderOfOne outlines span
+header_in outlines number span Message is = header_at outlines (number + 1) span _ refl is
+header_in outlines number span Multipart is = absurd cc
+header_in outlines number span Leaf is = absurd cc
+
+header_by : (outlines : List Outline) (number : ℕ) (span : Span) (found : Option Outline) → option_and_then (part_of outlines number Header) found ≡ Some span → IsHeaderOfOne outlines span
+header_by outlines number span None is = absurd cc
+header_by outlines number span (Some outline) is = header_in outlines number span outline.shape is
+
+header_behind : (outlines : List Outline) (span : Span) (found : Option ℕ) → option_and_then (part_at outlines Header) found ≡ Some span → IsHeaderOfOne outlines span
+header_behind outlines span None is = absurd cc
+header_behind outlines span (Some number) is = header_by outlines number span (slice_get outlines number) is
+
+-- the header of the whole message
+header_first : (outlines : List Outline) (span : Span) (found : Option Outline) → slice_get outlines 0 ≡ found → option_and_then (part_of_all Header) found ≡ Some span → IsHeaderOfOne outlines span
+header_first outlines span None at is = absurd cc
+header_first outlines span (Some outline) at is = record { number = 0; outline = outline; is_outline = at; span_is = sym (same_Some _ _ is) }
+
+header_named : (outlines : List Outline) (path : List ℕ) (span : Span) → section outlines path Header ≡ Some span → IsHeaderOfOne outlines span
+header_named outlines [] span is = header_first outlines span _ refl is
+header_named outlines (n ∷ path) span is = header_behind outlines span (named_by outlines (n ∷ path)) is
+
+-- each header is ASCII, where its fields are
+entity_ascii : (octets : List ℕ) (entities : List Entity) → AllByRecursion (HasHeader octets) entities
+    → AllByRecursion (λ (entity : Entity). AllByRecursion (λ raw. list_all is_ascii raw ≡ true) (raws_of octets entity.block)) entities
+    → (number : ℕ) (outline : Outline) → slice_get (outlines_of entities) number ≡ Some outline → list_all is_ascii (slice_range octets outline.at outline.body) ≡ true
+entity_ascii octets [] have raws number outline is = absurd cc
+entity_ascii octets (entity ∷ entities) have raws zero outline is =
+    let fields = joined_ascii octets entity.block.fields raws.0 in
+    let end = have.0.end_ascii in
+    let header : list_all is_ascii (slice_range octets entity.at entity.body) ≡ true = rw (have.0.whole) (search (pass-append, fields, end)) in
+    subst (λ (one : Outline). list_all is_ascii (slice_range octets one.at one.body) ≡ true) (same_Some _ _ is) header
+entity_ascii octets (entity ∷ entities) have raws (suc number) outline is = entity_ascii octets entities have.1 raws.1 number outline is
+
+-- ---- what a legacy session is shown
+
+-- an ASCII header with a block
+pub record IsAsciiHeader (header : List ℕ) : Type 0 where
+  pub block : HasSomeBlock header
+  pub ascii : list_all is_ascii header ≡ true
+
+module _ (meanings : Meanings) (are : AreMeanings meanings) (octets : List ℕ) (blocks : HasAsciiBlocks octets) where
+  outlines_are : outlines_of blocks.entities ≡ meanings.outlines octets
+  outlines_are = are.entities octets blocks.entities blocks.tree
+
+  -- what a section names that is a header
+  pub ascii_header : (path : List ℕ) (span : Span) → section (meanings.outlines octets) path Header ≡ Some span → IsAsciiHeader (take span.len (drop span.at octets))
+  ascii_header path span is =
+      let found : section (outlines_of blocks.entities) path Header ≡ Some span = ap (λ outlines. section outlines path Header) outlines_are ∙ is in
+      let named = header_named (outlines_of blocks.entities) path span found in
+      let header = entity_ascii octets blocks.entities (tree_headers octets blocks.entities blocks.tree) blocks.ascii named.number named.outline named.is_outline in
+      record {
+        block = tree_header_has_block octets blocks.entities blocks.tree path span found;
+        ascii = subst (λ (one : Span). list_all is_ascii (take one.len (drop one.at octets)) ≡ true) (sym named.span_is) header;
+      }
+
+  -- the whole message has one
+  pub first_header : (span : Span) × (section (meanings.outlines octets) [] Header ≡ Some span)
+  first_header =
+      let header = tree_has_header octets blocks.entities blocks.tree in
+      (header.0, ap (λ outlines. section outlines [] Header) (sym outlines_are) ∙ header.1)
+
+  pub ascii_structure : (extended : Bool) → list_all is_ascii (meanings.view_of (structure extended) octets) ≡ true
+  ascii_structure extended =
+      let given = structure_given extended octets blocks.entities blocks.tree in
+      let is = given.1 in
+      let same = are.views (structure extended) octets given.0 is in
+      subst (λ text. list_all is_ascii text ≡ true) same (structure_ascii octets (Whole (record { entities = is.entities })) extended given.0 is.tree blocks is.structure)
+
+pub ascii_envelope : (meanings : Meanings) → AreMeanings meanings → (header : List ℕ) → IsAsciiHeader header → list_all is_ascii (meanings.view_of envelope header) ≡ true
+ascii_envelope meanings are header is =
+    let given = envelope_given header is.block in
+    subst (λ text. list_all is_ascii text ≡ true) (are.views envelope header given.0 given.1) (has_envelope_ascii header given.0 given.1 is.ascii)
+
+pub ascii_fields : (meanings : Meanings) → AreMeanings meanings → (header : List ℕ) (names : List (List ℕ)) (negated : Bool) → IsAsciiHeader header
+    → list_all is_ascii (meanings.view_of (fields names negated) header) ≡ true
+ascii_fields meanings are header names negated is =
+    let given = chosen_given header names negated is.block in
+    subst (λ text. list_all is_ascii text ≡ true) (are.views (fields names negated) header given.0 given.1) (chosen_ascii header names negated given.0 given.1 is.ascii)

@@ -1,0 +1,65 @@
+-- What comes of APPEND.
+use Rattle.std.specs.Prelude.{◌≡◌, ℕ, Bool, ◌&&◌, not, List, [], ◌∷◌, codes, Option, None, Some, if◌then◌else◌}
+use Rattle.journal_records.specs.declared.records.Record.{Record}
+use Rattle.kept_mail.specs.Kept.{Kept}
+use Rattle.mail_store.specs.Changing.{append_refusal}
+use Rattle.mail_store.specs.StoreState.{StoreState}
+use Rattle.mail_store.specs.declared.changing.StoreFault.{StoreFault}
+use Rattle.surrogate_cache.specs.Served.{Mode, is_enabled}
+use Rattle.session_core.specs.Meanings.{Meanings}
+use Rattle.session_core.specs.Moments.{Moment, IsTold}
+use Rattle.imap_grammar.specs.declared.command.Command.{Command}
+use Rattle.imap_grammar.specs.declared.command.Command.TheVariants as command
+use Rattle.imap_session.specs.Machine.{State, Step, append_in, appended, completed, done, exists_lines, folder_named}
+use Rattle.imap_session.specs.Replies.{ReplyPart}
+use Rattle.imap_session.specs.declared.appending.Letter.{Letter}
+use Rattle.imap_session.specs.declared.appending.Put.{Put}
+use Rattle.imap_session.specs.declared.appending.Put.TheVariants as put
+
+-- the command that says it
+abbrev pub command_of : Letter → Command
+command_of letter = command.Append letter.written.now letter.flags letter.date.now letter.in_utf8 letter.octets.now
+
+-- its step, with this date
+abbrev pub letter_step : Meanings → (tag : List ℕ) → State → (opened : Option ℕ) → Mode → (account : ℕ) → StoreState → Letter → (date : List ℕ) → Step
+letter_step meanings tag state opened mode account store letter date =
+    append_in meanings tag state opened mode store letter.flags date letter.in_utf8 letter.octets.now (folder_named meanings mode store account letter.written.now)
+
+-- where octets are put, or why they aren't
+abbrev pub put_unless : (folder : ℕ) → Option StoreFault → Put
+put_unless folder None = put.In folder
+put_unless folder (Some other) = put.TooLarge
+
+abbrev pub put_octets : (has_tree : Bool) → StoreState → (folder : ℕ) → (octets : List ℕ) → Put
+put_octets has_tree store folder octets = if has_tree then put_unless folder (append_refusal store octets) else put.NoMessage
+
+abbrev pub put_named : Meanings → Mode → StoreState → (in_utf8 : Bool) → (octets : List ℕ) → Option ℕ → Put
+put_named meanings mode store in_utf8 octets None = put.NoFolder
+put_named meanings mode store in_utf8 octets (Some folder) =
+    if in_utf8 && not (is_enabled mode) then put.NotEnabled else put_octets (meanings.has_tree (completed octets)) store folder (completed octets)
+
+abbrev pub put_of : Meanings → Mode → (account : ℕ) → StoreState → Letter → Put
+put_of meanings mode account store letter = put_named meanings mode store letter.in_utf8 letter.octets.now (folder_named meanings mode store account letter.written.now)
+
+-- the change, if there is one
+abbrev pub put_changes : (flags : ℕ) → (date octets : List ℕ) → Put → List (List Record)
+put_changes flags date octets (put.In folder) = (appended folder flags date octets ∷ []) ∷ []
+put_changes flags date octets other = []
+
+-- what is told beside, where the store has this then
+abbrev pub put_lines : (opened : Option ℕ) → Kept → Put → List ReplyPart
+put_lines opened kept (put.In folder) = exists_lines opened kept folder
+put_lines opened kept other = []
+
+-- and what is answered
+abbrev pub words_of_put : Put → List ℕ
+words_of_put (put.In folder) = done
+words_of_put put.NoFolder = codes "NO no such folder"
+words_of_put put.NotEnabled = codes "NO not enabled"
+words_of_put put.NoMessage = codes "NO not a message"
+words_of_put put.TooLarge = codes "NO too large"
+
+-- the date is the given one, or that of a moment that the clock told, which may tell a fixed reading
+abbrev pub IsDateFrom : (reading : Option ℕ) → (given : Option (List ℕ)) → (date : List ℕ) → Type 0
+IsDateFrom reading None date = (moment : Moment) × IsTold reading moment × (date ≡ moment.internal)
+IsDateFrom reading (Some given) date = date ≡ given

@@ -1,0 +1,79 @@
+-- Sections that are asked of a message.
+use Rattle.std.specs.Prelude.{◌≡◌, ℕ, Bool, true, false, List, [], ◌∷◌, ◌++◌, Option, None, Some, length, codes}
+use Rattle.std.specs.Fmt.{decimal}
+use Rattle.mail_wire.specs.declared.values.Span.{Span}
+use Rattle.mime_tree.specs.declared.sections.Part.{Part}
+use Rattle.mime_tree.specs.declared.sections.Part.TheVariants as place
+use Rattle.kept_mail.specs.declared.kept.Listed.{Listed}
+use Rattle.mail_store.specs.StoreState.{StoreState}
+use Rattle.surrogate_cache.specs.Served.{Mode}
+use Rattle.session_core.specs.Meanings.{Meanings}
+use Rattle.imap_grammar.specs.declared.command.FetchItem.{FetchItem}
+use Rattle.imap_grammar.specs.declared.command.SectionPart.{SectionPart}
+use Rattle.imap_grammar.specs.declared.command.SectionPart.TheVariants as part
+use Rattle.imap_views.specs.Chosen.{AreChosen}
+use Rattle.imap_views.specs.Views.{fields}
+use Rattle.imap_session.specs.Items.{fields_parts, found_parts, item_parts, partial_octets, place_of, section_at, shown_parts}
+use Rattle.imap_session.specs.Replies.{ReplyPart}
+use Rattle.imap_session.specs.declared.sections.Asked.{Asked}
+use Rattle.imap_session.specs.declared.sections.Chosen.{Chosen}
+use Rattle.imap_session.specs.declared.sections.Wanted.{Wanted}
+use Rattle.imap_session.specs.declared.sections.Wanted.TheVariants as want
+use Rattle.imap_session.specs.private.Shown.{asks_section, shows}
+
+-- an octet where something stands before what comes next
+abbrev pub apart_octets : (octet : ℕ) → (apart : Bool) → List ℕ
+apart_octets octet false = []
+apart_octets octet true = octet ∷ []
+
+-- a part that is asked whole has no word
+abbrev pub names_all : SectionPart → Bool
+names_all part.Whole = true
+names_all other = false
+
+-- the header of a literal
+abbrev pub head_octets : (asked : List ℕ) → (size : ℕ) → List ℕ
+head_octets asked size = asked ++ (codes " {" ++ (decimal size ++ codes "}\r\n"))
+
+-- ---- what is asked
+
+-- the part of an entity from which what is wanted is taken
+abbrev pub wanted_place : Wanted → Part
+wanted_place (want.Octets what) = what
+wanted_place (want.Fields chosen) = place.Header
+
+-- what is told of it, where the section stands there or nowhere
+abbrev pub wanted_parts : Meanings → Mode → StoreState → Listed → (asked : List ℕ) → Option (ℕ × ℕ) → Wanted → Option Span → List ReplyPart
+wanted_parts meanings mode store one asked partial (want.Octets what) span = shown_parts mode store one asked partial span
+wanted_parts meanings mode store one asked partial (want.Fields chosen) span = fields_parts meanings mode store one asked partial (fields chosen.names.now chosen.negated) span
+
+abbrev pub asked_parts : Meanings → Mode → StoreState → Listed → Asked → List ReplyPart
+asked_parts meanings mode store one asked =
+    wanted_parts meanings mode store one asked.name asked.partial asked.wanted (section_at meanings mode store one asked.path.now (wanted_place asked.wanted))
+
+-- what the words of a section want
+pub record IsWanted (what : SectionPart) (wanted : Wanted) : Type 0 where
+  pub at : place_of what ≡ wanted_place wanted
+  pub parts : (meanings : Meanings) (mode : Mode) (store : StoreState) (one : Listed) (asked : List ℕ) (partial : Option (ℕ × ℕ)) (span : Option Span)
+      → found_parts meanings mode store one asked partial what span ≡ wanted_parts meanings mode store one asked partial wanted span
+
+-- octets of the whole message, under this name
+pub record IsOfMessage (called : List ℕ) (what : Part) (asked : Asked) : Type 0 where
+  pub name : asked.name ≡ called
+  pub path : asked.path.now ≡ []
+  pub wanted : asked.wanted ≡ want.Octets what
+  pub partial : asked.partial ≡ None
+
+-- the item asks this section, or none
+abbrev pub IsAsked : FetchItem → Option Asked → Type 0
+IsAsked item None = asks_section item ≡ false
+IsAsked item (Some asked) =
+    (shows item ≡ true) × ((meanings : Meanings) (mode : Mode) (store : StoreState) (one : Listed) → item_parts meanings mode store one item ≡ asked_parts meanings mode store one asked)
+
+-- ---- fields
+
+-- The fields that were chosen were put last as a literal, or the part of them that was asked.
+pub record AddsFields (asked : Asked) (chosen : Chosen) (header old new : List ℕ) : Type 0 where
+  pub text : List ℕ
+  pub are_chosen : AreChosen header chosen.names.now chosen.negated text
+  pub new_is : new ≡ old ++ (head_octets asked.name (length (partial_octets asked.partial text)) ++ partial_octets asked.partial text)

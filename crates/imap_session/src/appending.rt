@@ -1,0 +1,212 @@
+//! APPEND (RFC 3501, 6.3.11; RFC 6855, 4).
+ghost use Rattle.std.specs.Prelude.{◌≡◌, ◌<◌, None, Some, length, IfOk, IfSome, OnOk};
+ghost use Rattle.journal_records.specs.Grammar.{IsDate};
+ghost use Rattle.kept_mail.specs.Kept.{Kept, listed};
+ghost use Rattle.session_core.specs.Desks.{IsOpen};
+ghost use Rattle.session_core.specs.Doing.{Does, Makes};
+ghost use Rattle.session_core.specs.Keeps.{Keeps, fault_of};
+ghost use Rattle.session_core.specs.Meanings.{Meanings, WithMeanings};
+ghost use Rattle.imap_session.specs.Machine.{State, authenticated, completed, date_or, lacks_date};
+ghost use Rattle.imap_session.specs.Replies.{part_octets, reply_octets};
+ghost use Rattle.imap_session.specs.Session.{TakesStepAt};
+ghost use Rattle.imap_session.specs.private.Appending.{IsDateFrom, command_of, letter_step, put_changes, put_lines, put_octets as put_octets_of, put_of, words_of_put};
+ghost use Rattle.imap_session.specs.private.Selected.{KnowsSelected};
+
+use crate::folders::find_named;
+use crate::replies::{DONE, NO_SUCH_FOLDER, TOO_LARGE, answer, say};
+use crate::states::{Authenticated, Imap, ImapState, Kind, Selected};
+use journal_records::is_stored;
+use mail_wire::{Clock, Fault, Keeper, Memory, Octets, Wire, is_ended};
+use mime_tree::complete;
+use session_core::{Delivered, Outside};
+use std::alloc::Global;
+
+/// What APPEND says: the name of a folder as it was written, and a message.
+#[derive(Drop)]
+pub struct Letter<'a> {
+    pub written: &'a [u8],
+    pub flags: u8,
+    pub date: &'a Option<Octets>,
+    /// The octets came in the form with `UTF8`.
+    pub in_utf8: bool,
+    pub octets: &'a [u8],
+}
+
+/// The folder that a message was put into, or why it wasn't.
+#[derive(Clone, Copy, Debug, PartialEq, Eq)]
+pub enum Put {
+    In(u32),
+    NoFolder,
+    /// UTF-8 is for sessions that enabled it.
+    NotEnabled,
+    /// The octets have no tree of entities.
+    NoMessage,
+    TooLarge,
+}
+
+/// The date that is given, or else that of this moment.
+pub fn date_of<W: Wire, J: Keeper, C: Clock>(
+    given: &Option<Octets>,
+    outside: &mut Outside<W, J, C>,
+) -> Result<Octets, Memory>
+    ensures from { IfOk result (IsDateFrom outside.old.clock given.now) }
+    ensures same { outside.new ≡ outside.old }
+{
+    match given {
+        Some(date) => Octets::from_slice(outside.alloc(), date.as_slice()),
+        None => {
+            let stamp = outside.now()?;
+            Ok(stamp.internal)
+        }
+    }
+}
+
+// Puts octets last in a folder, unless they are refused.
+fn put_octets<W: Wire, J: Keeper, C: Clock>(
+    folder: u32,
+    flags: u8,
+    date: &[u8],
+    octets: &[u8],
+    outside: &mut Outside<W, J, C>,
+) -> Result<Put, Fault>
+    requires opens { IsOpen outside.old.desk }
+    requires folder { folder < length outside.old.desk.store.kept.folders }
+    requires flags { flags < 32 }
+    requires dated { IsDate date.now }
+    ensures put { IfOk result (λ put. WithMeanings (λ meanings. put ≡ put_octets_of (meanings.has_tree octets.now) outside.old.desk.store folder octets.now)) }
+    ensures makes { WithMeanings (λ meanings. Makes outside.old outside.new (fault_of result)
+        (put_changes flags date.now octets.now (put_octets_of (meanings.has_tree octets.now) outside.old.desk.store folder octets.now))) }
+    ensures keeps { Keeps outside.old outside.new (fault_of result) }
+{
+    if !is_stored(outside.alloc(), octets)? {
+        return Ok(Put::NoMessage);
+    }
+    match outside.append(folder, flags, date, octets)? {
+        Delivered::Stored => Ok(Put::In(folder)),
+        Delivered::TooLarge => Ok(Put::TooLarge),
+    }
+}
+
+// Puts the octets of a letter last in a folder, with CRLF at their end, unless they are refused.
+fn put_completed<W: Wire, J: Keeper, C: Clock>(
+    folder: u32,
+    letter: &Letter,
+    date: &[u8],
+    outside: &mut Outside<W, J, C>,
+) -> Result<Put, Fault>
+    requires opens { IsOpen outside.old.desk }
+    requires folder { folder < length outside.old.desk.store.kept.folders }
+    requires flags { letter.now.flags < 32 }
+    requires dated { IsDate date.now }
+    ensures put { IfOk result (λ put. WithMeanings (λ meanings.
+        put ≡ put_octets_of (meanings.has_tree (completed letter.now.octets.now)) outside.old.desk.store folder (completed letter.now.octets.now))) }
+    ensures makes { WithMeanings (λ meanings. Makes outside.old outside.new (fault_of result) (put_changes letter.now.flags date.now (completed letter.now.octets.now)
+        (put_octets_of (meanings.has_tree (completed letter.now.octets.now)) outside.old.desk.store folder (completed letter.now.octets.now)))) }
+    ensures keeps { Keeps outside.old outside.new (fault_of result) }
+{
+    if is_ended(letter.octets) {
+        return put_octets(folder, letter.flags, date, letter.octets, outside);
+    }
+    let mut octets = Octets::from_slice(outside.alloc(), letter.octets)?;
+    complete(&mut octets)?;
+    put_octets(folder, letter.flags, date, octets.as_slice(), outside)
+}
+
+// Puts a letter with this date last in the folder that it names, unless it is refused.
+fn put_letter<V: Kind, W: Wire, J: Keeper, C: Clock>(
+    account: u32,
+    letter: &Letter,
+    date: &[u8],
+    outside: &mut Outside<W, J, C>,
+) -> Result<Put, Fault>
+    requires opens { IsOpen outside.old.desk }
+    requires flags { letter.now.flags < 32 }
+    requires dated { IsDate date.now }
+    ensures put { IfOk result (λ put. WithMeanings (λ meanings. put ≡ put_of meanings V.mode account outside.old.desk.store letter.now)) }
+    ensures makes { WithMeanings (λ meanings. Makes outside.old outside.new (fault_of result)
+        (put_changes letter.now.flags date.now (completed letter.now.octets.now) (put_of meanings V.mode account outside.old.desk.store letter.now))) }
+    ensures keeps { Keeps outside.old outside.new (fault_of result) }
+{
+    let found = find_named::<V>(outside.alloc(), outside.store(), account, letter.written)?;
+    let Some(folder) = found else {
+        return Ok(Put::NoFolder);
+    };
+    if letter.in_utf8 && !V::enabled() {
+        return Ok(Put::NotEnabled);
+    }
+    put_completed(folder, letter, date, outside)
+}
+
+// What APPEND answers.
+fn put_words(put: Put) -> &'static [u8]
+    ensures { result.now ≡ words_of_put put }
+{
+    match put {
+        Put::In(_) => DONE,
+        Put::NoFolder => NO_SUCH_FOLDER,
+        Put::NotEnabled => b"NO not enabled",
+        Put::NoMessage => b"NO not a message",
+        Put::TooLarge => TOO_LARGE,
+    }
+}
+
+// The line that tells how many messages the selected folder has, where one was put into it.
+fn exists_line(alloc: Global, put: Put, opened: u32, count: usize) -> Result<Octets, Memory>
+    ensures { IfOk result (λ line. (meanings : Meanings) (kept : Kept) → count ≡ length (listed kept opened) → line ≡ reply_octets meanings (put_lines (Some opened) kept put)) }
+{
+    let Put::In(folder) = put else {
+        return Ok(Octets::new(alloc));
+    };
+    if opened != folder {
+        return Ok(Octets::new(alloc));
+    }
+    let line = format!(in alloc; "* {count} EXISTS\r\n")?;
+    Ok(Octets::from_vec(line.into_bytes()))
+}
+
+/// APPEND where no folder is selected.
+pub fn append<V: Kind, W: Wire, J: Keeper, C: Clock>(
+    imap: Imap<Authenticated, V>,
+    tag: &[u8],
+    letter: &Letter,
+    outside: &mut Outside<W, J, C>,
+) -> Result<Option<ImapState>, Fault>
+    requires opens { IsOpen outside.old.desk }
+    requires known { imap.state.account < length outside.old.desk.store.kept.accounts }
+    requires flags { letter.now.flags < 32 }
+    requires dated { IfSome letter.now.date.now IsDate }
+    ensures takes { TakesStepAt outside.old outside.new result (lacks_date (command_of letter.now)) (λ meanings now.
+        letter_step meanings tag.now (authenticated V.mode imap.state.account) None V.mode imap.state.account outside.old.desk.store letter.now (date_or now letter.now.date.now)) }
+    ensures keeps { Keeps outside.old outside.new (fault_of result) }
+{
+    let date = date_of(letter.date, outside)?;
+    let account = imap.state.account;
+    let put = put_letter::<V, W, J, C>(account, letter, date.as_slice(), outside)?;
+    say(tag, put_words(put), outside)?;
+    Ok(Some(V::in_authenticated(imap)))
+}
+
+/// APPEND with this date where a folder is selected, whose messages are listed anew.
+pub fn append_within<V: Kind, W: Wire, J: Keeper, C: Clock>(
+    selected: &mut Selected,
+    tag: &[u8],
+    letter: &Letter,
+    date: &[u8],
+    outside: &mut Outside<W, J, C>,
+) -> Result<(), Fault>
+    requires opens { IsOpen outside.old.desk }
+    requires known { KnowsSelected outside.old.desk.store selected.old }
+    requires flags { letter.now.flags < 32 }
+    requires dated { IsDate date.now }
+    ensures does { WithMeanings (λ meanings. (state : State) → Does (part_octets meanings) outside.old outside.new (fault_of result)
+        (letter_step meanings tag.now state (Some selected.old.folder) V.mode selected.old.account outside.old.desk.store letter.now date.now).acts) }
+    ensures known { OnOk result (KnowsSelected outside.new.desk.store selected.new) }
+    ensures same { selected.new ≡ record selected.old { messages = selected.new.messages } }
+    ensures keeps { Keeps outside.old outside.new (fault_of result) }
+{
+    let put = put_letter::<V, W, J, C>(selected.account, letter, date, outside)?;
+    selected.messages = outside.store().list(selected.folder)?;
+    let count = selected.messages.len();
+    let lines = exists_line(outside.alloc(), put, selected.folder, count)?;
+    answer(lines, tag, put_words(put), outside)
+}

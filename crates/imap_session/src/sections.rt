@@ -1,0 +1,396 @@
+//! Sections of a message (RFC 3501, 6.4.5): their names in a reply, and the literals that follow these.
+ghost use Rattle.std.specs.Prelude.{◌≡◌, ◌<◌, ◌≤◌, ◌+◌, ◌^◌, ◌++◌, ◌&&◌, ◌==◌, not, length, map, take, drop, codes, decimal, IfOk, IfSome, OnOk};
+ghost use Rattle.std.specs.List.{join_with_byte, list_all};
+ghost use Rattle.imap_words.specs.Tokens.{is_atom_char};
+ghost use Rattle.mime_tree.specs.Sections.{section};
+ghost use Rattle.surrogate_rope.specs.Served.{IsShownOf, shown_octets, shown_outlines};
+ghost use Rattle.mail_store.specs.StoreState.{StoreState};
+ghost use Rattle.session_core.specs.Desks.{stored_octets};
+ghost use Rattle.session_core.specs.Doing.{Replies};
+ghost use Rattle.session_core.specs.Keeps.{Keeps, fault_of};
+ghost use Rattle.session_core.specs.Meanings.{WithMeanings};
+ghost use Rattle.imap_session.specs.Items.{field_name, fields_word as word_of_fields, part_words, partial_span as span_of_partial, partial_text, section_name as name_of_section, span_parts};
+ghost use Rattle.imap_session.specs.Machine.{reply};
+ghost use Rattle.imap_session.specs.Replies.{part_octets};
+ghost use Rattle.imap_session.specs.private.Asking.{IsAsked, IsOfMessage, IsWanted, apart_octets, asked_parts, head_octets, names_all, wanted_place};
+ghost use Rattle.imap_session.specs.private.Messages.{ShowsAlike};
+ghost use Rattle.imap_session.specs.private.Pending.{Carries};
+ghost use Rattle.imap_session.specs.private.Shown.{IsShownIn};
+
+use crate::messages::give_pending;
+use crate::states::Kind;
+use crate::views::put_fields;
+use imap_grammar::{FetchItem, SectionPart};
+use imap_mailboxes::quote;
+use imap_views::read_range;
+use imap_words::{Kind as Run, passes};
+use kept_mail::Listed;
+use mail_wire::{Clock, Fault, Keeper, Memory, Octets, PIECE, Span, Wire};
+use mime_tree::Part;
+use session_core::Outside;
+use std::alloc::Global;
+use surrogate_rope::Shown;
+
+// ---- names
+
+/// Puts a number last, behind a word.
+pub fn push_number(
+    alloc: Global,
+    made: &mut Octets,
+    word: &str,
+    number: usize,
+) -> Result<(), Memory>
+    ensures { OnOk result (made.new ≡ made.old ++ (word.now ++ decimal number)) }
+{
+    let text = format!(in alloc; "{word}{number}")?;
+    made.push_slice(text.as_bytes())
+}
+
+// Puts an octet last where something stands before what comes next.
+fn push_apart(made: &mut Octets, octet: u8, apart: bool) -> Result<(), Memory>
+    ensures { OnOk result (made.new ≡ made.old ++ apart_octets octet apart) }
+{
+    if apart {
+        made.push(octet)?;
+    }
+    Ok(())
+}
+
+fn push_path(alloc: Global, name: &mut Octets, path: &[u32]) -> Result<(), Memory>
+    ensures { OnOk result (name.new ≡ name.old ++ join_with_byte 46 (map decimal path.now)) }
+{
+    let mut apart = false;
+    for number in path {
+        push_apart(name, b'.', apart)?;
+        push_number(alloc, name, "", *number as usize)?;
+        apart = true;
+    }
+    Ok(())
+}
+
+fn is_atom(octets: &[u8]) -> bool
+    ensures { result ≡ list_all is_atom_char octets.now }
+{
+    octets.iter().all(|octet| passes(Run::Atom, *octet))
+}
+
+// Puts a field's name last, in upper case.
+fn push_field_name(alloc: Global, name: &mut Octets, field: &[u8]) -> Result<(), Memory>
+    ensures { OnOk result (name.new ≡ name.old ++ field_name field.now) }
+{
+    let upper = field.to_ascii_uppercase(alloc)?;
+    if is_atom(&upper) {
+        return name.push_slice(&upper);
+    }
+    name.push_slice(quote(alloc, &upper)?.as_slice())
+}
+
+fn push_field_names(alloc: Global, name: &mut Octets, fields: &[Octets]) -> Result<(), Memory>
+    ensures { OnOk result (name.new ≡ name.old ++ join_with_byte 32 (map field_name fields.now)) }
+{
+    let mut apart = false;
+    for field in fields {
+        push_apart(name, b' ', apart)?;
+        push_field_name(alloc, name, field.as_slice())?;
+        apart = true;
+    }
+    Ok(())
+}
+
+fn fields_word(negated: bool) -> &'static [u8]
+    ensures { result.now ≡ word_of_fields negated }
+{
+    if negated {
+        b"HEADER.FIELDS.NOT ("
+    } else {
+        b"HEADER.FIELDS ("
+    }
+}
+
+// Puts the words last that ask for fields of a header.
+fn push_fields(
+    alloc: Global,
+    name: &mut Octets,
+    fields: &[Octets],
+    negated: bool,
+) -> Result<(), Memory>
+    ensures { OnOk result (name.new ≡ name.old ++ (word_of_fields negated ++ (join_with_byte 32 (map field_name fields.now) ++ codes ")"))) }
+{
+    name.push_slice(fields_word(negated))?;
+    push_field_names(alloc, name, fields)?;
+    name.push(b')')
+}
+
+// Puts the word of a part last, of which a part that is asked whole has none.
+fn push_word(alloc: Global, name: &mut Octets, part: &SectionPart) -> Result<(), Memory>
+    ensures { OnOk result (name.new ≡ name.old ++ join_with_byte 46 (part_words part.now)) }
+{
+    match part {
+        SectionPart::Whole => Ok(()),
+        SectionPart::Header => name.push_slice(b"HEADER"),
+        SectionPart::Fields { names, negated } => {
+            push_fields(alloc, name, names.as_slice(), *negated)
+        }
+        SectionPart::Text => name.push_slice(b"TEXT"),
+        SectionPart::Mime => name.push_slice(b"MIME"),
+    }
+}
+
+fn is_whole(part: &SectionPart) -> bool
+    ensures { result ≡ names_all part.now }
+{
+    matches!(part, SectionPart::Whole)
+}
+
+// Whether a part has a word behind a path.
+fn stands_apart(path: &[u32], part: &SectionPart) -> bool
+    ensures { result ≡ (not (names_all part.now) && not (length path.now == 0)) }
+{
+    !is_whole(part) && !path.is_empty()
+}
+
+// Puts the octet last from which on a part of the section is asked.
+fn push_partial(alloc: Global, name: &mut Octets, partial: Option<(u32, u32)>) -> Result<(), Memory>
+    ensures { OnOk result (name.new ≡ name.old ++ partial_text partial) }
+{
+    let Some((from, _)) = partial else {
+        return Ok(());
+    };
+    let text = format!(in alloc; "<{from}>")?;
+    name.push_slice(text.as_bytes())
+}
+
+// The name of a section in a reply.
+fn section_name(
+    alloc: Global,
+    path: &[u32],
+    part: &SectionPart,
+    partial: Option<(u32, u32)>,
+) -> Result<Octets, Memory>
+    ensures { IfOk result (λ name. name ≡ name_of_section path.now part.now partial) }
+{
+    let mut name = Octets::from_slice(alloc, b"BODY[")?;
+    push_path(alloc, &mut name, path)?;
+    push_apart(&mut name, b'.', stands_apart(path, part))?;
+    push_word(alloc, &mut name, part)?;
+    name.push(b']')?;
+    push_partial(alloc, &mut name, partial)?;
+    Ok(name)
+}
+
+// ---- what is asked
+
+/// Fields of a header: those of these names, or where it is negated all others.
+#[derive(Clone, Copy)]
+pub struct Chosen<'a> {
+    pub names: &'a [Octets],
+    pub negated: bool,
+}
+
+/// What is asked of an entity.
+#[derive(Clone, Copy)]
+pub enum Wanted<'a> {
+    Octets(Part),
+    Fields(Chosen<'a>),
+}
+
+/// A section that is asked, and its name in the reply.
+#[derive(Drop)]
+pub struct Asked<'a> {
+    pub name: Octets,
+    pub path: &'a [u32],
+    pub wanted: Wanted<'a>,
+    /// From this octet on, at most so many.
+    pub partial: Option<(u32, u32)>,
+}
+
+fn wanted_of(part: &SectionPart) -> Wanted<'_>
+    ensures { IsWanted part.now result }
+{
+    match part {
+        SectionPart::Whole => Wanted::Octets(Part::Whole),
+        SectionPart::Header => Wanted::Octets(Part::Header),
+        SectionPart::Fields { names, negated } => Wanted::Fields(Chosen {
+            names: names.as_slice(),
+            negated: *negated,
+        }),
+        SectionPart::Text => Wanted::Octets(Part::Text),
+        SectionPart::Mime => Wanted::Octets(Part::Mime),
+    }
+}
+
+// Octets of the whole message, under a name of their own.
+fn of_message(alloc: Global, name: &[u8], part: Part) -> Result<Asked<'static>, Memory>
+    ensures { IfOk result (IsOfMessage name.now part) }
+{
+    Ok(Asked {
+        name: Octets::from_slice(alloc, name)?,
+        path: &[],
+        wanted: Wanted::Octets(part),
+        partial: None,
+    })
+}
+
+/// The section that an item asks, if it asks one.
+pub fn asked_by(alloc: Global, item: &FetchItem) -> Result<Option<Asked<'_>>, Memory>
+    ensures { IfOk result (IsAsked item.now) }
+{
+    match item {
+        FetchItem::Rfc822 => Ok(Some(of_message(alloc, b"RFC822", Part::Whole)?)),
+        FetchItem::Rfc822Header => Ok(Some(of_message(alloc, b"RFC822.HEADER", Part::Header)?)),
+        FetchItem::Rfc822Text => Ok(Some(of_message(alloc, b"RFC822.TEXT", Part::Text)?)),
+        FetchItem::Section {
+            path,
+            part,
+            partial,
+            ..
+        } => Ok(Some(Asked {
+            name: section_name(alloc, path.as_slice(), part, *partial)?,
+            path: path.as_slice(),
+            wanted: wanted_of(part),
+            partial: *partial,
+        })),
+        _ => Ok(None),
+    }
+}
+
+// ---- octets as literals
+
+/// Which octets of a section are asked.
+pub fn partial_span(partial: Option<(u32, u32)>, span: Span) -> Span
+    requires { span.at + span.len < 2 ^ 64 }
+    ensures { result ≡ span_of_partial partial span }
+{
+    let Some((from, count)) = partial else {
+        return span;
+    };
+    let from = from as usize;
+    Span {
+        at: span.at + from.min(span.len),
+        len: (count as usize).min(span.len.saturating_sub(from)),
+    }
+}
+
+/// Puts the header of a literal last, behind the name of what was asked.
+pub fn push_head(
+    alloc: Global,
+    pending: &mut Octets,
+    asked: &[u8],
+    size: usize,
+) -> Result<(), Memory>
+    ensures { OnOk result (pending.new ≡ pending.old ++ head_octets asked.now size) }
+{
+    pending.push_slice(asked)?;
+    let head = format!(in alloc; " {{{size}}}\r\n")?;
+    pending.push_slice(head.as_bytes())
+}
+
+// Puts the answer last where there is no such section.
+fn push_nil(pending: &mut Octets, asked: &[u8]) -> Result<(), Memory>
+    ensures { OnOk result (pending.new ≡ pending.old ++ (asked.now ++ codes " NIL")) }
+{
+    pending.push_slice(asked)?;
+    pending.push_slice(b" NIL")
+}
+
+// Gives a range of what is shown of a message of the store.
+fn give_range<W: Wire, J: Keeper, C: Clock>(
+    id: u32,
+    shown: &Shown,
+    span: Span,
+    outside: &mut Outside<W, J, C>,
+) -> Result<(), Fault>
+    requires id { id < length outside.old.desk.store.kept.messages }
+    requires shown { IsShownOf (stored_octets outside.old.desk.store id) shown.now }
+    requires within { span.at + span.len ≤ length (shown_octets (stored_octets outside.old.desk.store id) shown.now) }
+    requires fits { span.at + span.len < 2 ^ 64 }
+    ensures replies { Replies outside.old outside.new (fault_of result) (take span.len (drop span.at (shown_octets (stored_octets outside.old.desk.store id) shown.now))) }
+    ensures keeps { Keeps outside.old outside.new (fault_of result) }
+{
+    let mut piece = [0; PIECE];
+    let mut at = 0;
+    while at < span.len {
+        let read = shown.read_at(outside.octets(id), span.at + at, &mut piece);
+        let count = read.min(span.len - at);
+        outside.give(&piece[..count])?;
+        at += count;
+    }
+    Ok(())
+}
+
+// Gives a range of what is shown of a message as a literal, behind what is pending and the name of what was asked.
+fn give_span<V: Kind, W: Wire, J: Keeper, C: Clock>(
+    asked: &[u8],
+    span: Span,
+    one: &Listed,
+    shown: &Shown,
+    pending: &mut Octets,
+    outside: &mut Outside<W, J, C>,
+) -> Result<(), Fault>
+    requires id { one.now.id < length outside.old.desk.store.kept.messages }
+    requires shown { IsShownIn V.mode (stored_octets outside.old.desk.store one.now.id) shown.now }
+    requires within { span.at + span.len ≤ length (shown_octets (stored_octets outside.old.desk.store one.now.id) shown.now) }
+    requires fits { span.at + span.len < 2 ^ 64 }
+    ensures carries { WithMeanings (λ meanings. (store : StoreState) → ShowsAlike store outside.old.desk.store → Carries (part_octets meanings) outside.old outside.new (fault_of result)
+        pending.old pending.new (reply (span_parts V.mode store one.now asked.now span))) }
+    ensures desk { OnOk result (outside.new.desk ≡ outside.old.desk) }
+    ensures keeps { Keeps outside.old outside.new (fault_of result) }
+{
+    push_head(outside.alloc(), pending, asked, span.len)?;
+    give_pending(pending, outside)?;
+    give_range(one.id, shown, span, outside)
+}
+
+// ---- sections
+
+// The part of an entity from which what is wanted is taken.
+fn place_of(wanted: Wanted<'_>) -> Part
+    ensures { result ≡ wanted_place wanted.entry }
+{
+    match wanted {
+        Wanted::Octets(part) => part,
+        Wanted::Fields(_) => Part::Header,
+    }
+}
+
+// Where a section stands in what is shown, if there is one.
+fn find(asked: &Asked<'_>, shown: &Shown, msg: &[u8]) -> Option<Span>
+    requires { IsShownOf msg.now shown.now }
+    ensures found { result ≡ section (shown_outlines shown.now) asked.now.path.now (wanted_place asked.now.wanted) }
+    ensures within { IfSome result (λ span. span.at + span.len ≤ length (shown_octets msg.now shown.now)) }
+    ensures fits { IfSome result (λ span. span.at + span.len < 2 ^ 64) }
+{
+    // Its places are numbers, as it stands within a size.
+    let _size = shown.size(msg);
+    shown.section(asked.path, place_of(asked.wanted))
+}
+
+/// Tells a section of what is shown of a message, or that there is none. What is to be given may stay pending.
+pub fn put_section<V: Kind, W: Wire, J: Keeper, C: Clock>(
+    asked: &Asked<'_>,
+    one: &Listed,
+    shown: &Shown,
+    pending: &mut Octets,
+    outside: &mut Outside<W, J, C>,
+) -> Result<(), Fault>
+    requires id { one.now.id < length outside.old.desk.store.kept.messages }
+    requires shown { IsShownIn V.mode (stored_octets outside.old.desk.store one.now.id) shown.now }
+    ensures carries { WithMeanings (λ meanings. (store : StoreState) → ShowsAlike store outside.old.desk.store → Carries (part_octets meanings) outside.old outside.new (fault_of result)
+        pending.old pending.new (reply (asked_parts meanings V.mode store one.now asked.now))) }
+    ensures desk { OnOk result (outside.new.desk ≡ outside.old.desk) }
+    ensures keeps { Keeps outside.old outside.new (fault_of result) }
+{
+    let Some(span) = find(asked, shown, outside.octets(one.id)) else {
+        return Ok(push_nil(pending, asked.name.as_slice())?);
+    };
+    match asked.wanted {
+        Wanted::Octets(_) => {
+            let span = partial_span(asked.partial, span);
+            give_span::<V, W, J, C>(asked.name.as_slice(), span, one, shown, pending, outside)
+        }
+        Wanted::Fields(chosen) => {
+            let header = read_range(outside.alloc(), shown, outside.octets(one.id), span)?;
+            Ok(put_fields(outside.alloc(), asked, chosen, header.as_slice(), pending)?)
+        }
+    }
+}
