@@ -184,6 +184,13 @@ def same_boundary(size):
     yield from nested(["b"] * 32, size)
 
 
+def nested_messages(size):
+    """32 messages in one another around lines of so many octets."""
+    for _ in range(32):
+        yield "Subject: été\r\nContent-Type: message/rfc822\r\n\r\n".encode()
+    yield from ascii_body(size)
+
+
 def dashed_lines(count):
     """So many lines that begin with two hyphens, inside of 32 multiparts."""
     for number in range(32):

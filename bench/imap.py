@@ -4,6 +4,8 @@ from mailboxes import ADDRESS, PASSWORD
 from mailboxes import hear as hear_reply
 
 WORD, GOODBYE, ALL = "imap", "a LOGOUT", "FETCH 1:* BODY.PEEK[]"
+# what mail programs ask to show a list
+LISTED, CHOSEN = "FETCH 1:* (RFC822.SIZE ENVELOPE BODYSTRUCTURE)", "FETCH 1:* BODY.PEEK[HEADER.FIELDS (FROM SUBJECT DATE)]"
 LOGIN = [f"a LOGIN {ADDRESS} {PASSWORD}"]
 MODES = {"legacy": LOGIN, "enabled": [*LOGIN, "a ENABLE UTF8=ACCEPT"]}
 
@@ -20,7 +22,7 @@ counted.
 
 def commands_of(count):
     """The sessions by name."""
-    commands = ["FETCH 1:* (FLAGS UID RFC822.SIZE)", ALL]
+    commands = ["FETCH 1:* (FLAGS UID RFC822.SIZE)", LISTED, CHOSEN, ALL]
     return {"SELECT": ["a SELECT INBOX"], **{it: ["a SELECT INBOX", f"a {it}"] for it in commands}}
 
 

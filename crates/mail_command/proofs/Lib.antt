@@ -1,9 +1,14 @@
 pub mod TakingLemmas
 pub mod WordsLemmas
+pub mod ApartLemmas
 pub mod CommandLemmas
 pub mod RopeLemmas
+pub mod FigureLemmas
 pub mod OutcomeLemmas
 pub mod RunLemmas
+pub mod AccountLemmas
+pub mod MadeLemmas
+pub mod GeneratingLemmas
 pub mod BegunLemmas
 pub mod CourseLemmas
 pub mod SessionLemmas

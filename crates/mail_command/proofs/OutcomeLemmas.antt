@@ -1,5 +1,5 @@
 -- A command comes to one outcome.
-use Rattle.std.proofs.Common.{◌≡◌, ℕ, ◌≤◌, List, ◌++◌, length, codes, refl, sym, ap, ◌∙◌, arith, length-append, subst, ◌⊎◌, inl, inr}
+use Rattle.std.proofs.Common.{◌≡◌, ℕ, ◌≤◌, List, ◌++◌, length, codes, sym, ap, ◌∙◌, arith, length-append, subst, ◌⊎◌, inl, inr}
 use Rattle.std.specs.Prelude.{◌≢◌, IfOk, Result, Ok, Err}
 use Rattle.mail_wire.specs.declared.values.Memory.{Memory}
 use Rattle.mime_tree.specs.declared.entity.Entity.{Entity}
@@ -13,7 +13,12 @@ use Rattle.mime_tree.proofs.OneTreeFault.{one_tree_fault}
 use Rattle.surrogate_rope.specs.Layout.{HasSurrogate}
 use Rattle.surrogate_rope.specs.Ropes.{RopeValue, IsRopeOf, octets_of}
 use Rattle.mail_command.specs.declared.lines.Reply.{Reply}
-use Rattle.mail_command.specs.Outcome.{message_max, refusal_line, fault_line, DowngradeOutcome, TooLarge, Refused, Downgraded}
+use Rattle.mail_command.specs.declared.figures.Figures.{Figures}
+use Rattle.mail_command.specs.declared.tasks.Task.{Task}
+use Rattle.mail_command.specs.declared.tasks.Task.TheVariants.{Downgrade, Check}
+use Rattle.mail_command.specs.Checking.{HasFigures, figures_text}
+use Rattle.mail_command.specs.Outcome.{message_max, refusal_line, fault_line, IsGivenBy, Outcome, TooLarge, Refused, Done}
+use Rattle.mail_command.proofs.FigureLemmas.{told_once}
 use Rattle.surrogate_rope.proofs.SurrogateBlocks.{one_surrogate, rope_surrogate}
 
 -- the last line of a message is ended in one way
@@ -34,9 +39,21 @@ one_line : (octets one two : List ℕ) (fault other : TreeFault) → IsCompleted
 one_line octets one two fault other is also found found' some some' =
     ap fault_line (one_tree_fault one fault other found (subst (λ msg. IsTreeFault msg other) (one_completed octets two one also is) found') some some')
 
--- one surrogate
-same_given : (octets one two made other : List ℕ) → IsCompleted octets one → IsCompleted octets two → HasSurrogate one made → HasSurrogate two other → made ≡ other
-same_given octets one two made other is also surrogate surrogate' = one_surrogate one made other surrogate (subst (λ msg. HasSurrogate msg other) (one_completed octets two one also is) surrogate')
+-- what is given of a message
+given_once : (task : Task) (msg made other : List ℕ) → IsGivenBy task msg made → IsGivenBy task msg other → made ≡ other
+given_once Downgrade msg made other is also = one_surrogate msg made other is also
+given_once Check msg made other is also = told_once msg made other is also
+
+same_given : (task : Task) (octets one two made other : List ℕ) → IsCompleted octets one → IsCompleted octets two → IsGivenBy task one made → IsGivenBy task two other → made ≡ other
+same_given task octets one two made other is also given given' = given_once task one made other given (subst (λ msg. IsGivenBy task msg other) (one_completed octets two one also is) given')
+
+-- of a message
+given_tree : (task : Task) (msg given : List ℕ) → IsGivenBy task msg given → (entities : List Entity) × HasTree msg entities
+given_tree Downgrade msg given is = (is.entities, is.tree)
+given_tree Check msg given is = (is.has.surrogate.entities, is.has.surrogate.tree)
+
+none_given : (task : Task) (octets one two given : List ℕ) (fault : TreeFault) → IsCompleted octets one → IsCompleted octets two → IsTreeFault one fault → fault ≢ NoMemory → IsGivenBy task two given → ⊥
+none_given task octets one two given fault is also found some of = let tree = given_tree task two given of in none_refused octets one two fault tree.0 is also found some tree.1
 
 -- two outcomes are the same
 pub record IsSame (status other : ℕ) (given others : List ℕ) : Type 0 where
@@ -46,20 +63,18 @@ pub record IsSame (status other : ℕ) (given others : List ℕ) : Type 0 where
 same_as : (n : ℕ) (xs : List ℕ) (status other : ℕ) (given others : List ℕ) → status ≡ n → other ≡ n → given ≡ xs → others ≡ xs → IsSame status other given others
 same_as n xs status other given others s o g h = record { status_is = s ∙ sym o; given_is = g ∙ sym h }
 
-pub downgrade_once : (octets : List ℕ) (status other : ℕ) (given others : List ℕ) → DowngradeOutcome octets status given → DowngradeOutcome octets other others → IsSame status other given others
-downgrade_once octets status other given others (TooLarge past s g) (TooLarge past' o h) = same_as 7 (refusal_line message_max (codes "too large")) status other given others s o g h
-downgrade_once octets status other given others (TooLarge past s g) (Refused msg fault fits is found some o h) = absurd (omega arith)
-downgrade_once octets status other given others (TooLarge past s g) (Downgraded msg fits is surrogate o) = absurd (omega arith)
-downgrade_once octets status other given others (Refused msg fault fits is found some s g) (TooLarge past o h) = absurd (omega arith)
-downgrade_once octets status other given others (Refused msg fault fits is found some s g) (Refused msg' fault' fits' is' found' some' o h) =
+pub outcome_once : (task : Task) (octets : List ℕ) (status other : ℕ) (given others : List ℕ) → Outcome task octets status given → Outcome task octets other others → IsSame status other given others
+outcome_once task octets status other given others (TooLarge past s g) (TooLarge past' o h) = same_as 7 (refusal_line message_max (codes "too large")) status other given others s o g h
+outcome_once task octets status other given others (TooLarge past s g) (Refused msg fault fits is found some o h) = absurd (omega arith)
+outcome_once task octets status other given others (TooLarge past s g) (Done msg fits is of o) = absurd (omega arith)
+outcome_once task octets status other given others (Refused msg fault fits is found some s g) (TooLarge past o h) = absurd (omega arith)
+outcome_once task octets status other given others (Refused msg fault fits is found some s g) (Refused msg' fault' fits' is' found' some' o h) =
     same_as 7 (fault_line fault) status other given others s o g (h ∙ sym (one_line octets msg msg' fault fault' is is' found found' some some'))
-downgrade_once octets status other given others (Refused msg fault fits is found some s g) (Downgraded msg' fits' is' surrogate o) =
-    absurd (none_refused octets msg msg' fault surrogate.entities is is' found some surrogate.tree)
-downgrade_once octets status other given others (Downgraded msg fits is surrogate s) (TooLarge past o h) = absurd (omega arith)
-downgrade_once octets status other given others (Downgraded msg fits is surrogate s) (Refused msg' fault fits' is' found some o h) =
-    absurd (none_refused octets msg' msg fault surrogate.entities is' is found some surrogate.tree)
-downgrade_once octets status other given others (Downgraded msg fits is surrogate s) (Downgraded msg' fits' is' surrogate' o) =
-    record { status_is = s ∙ sym o; given_is = same_given octets msg msg' given others is is' surrogate surrogate' }
+outcome_once task octets status other given others (Refused msg fault fits is found some s g) (Done msg' fits' is' of o) = absurd (none_given task octets msg msg' others fault is is' found some of)
+outcome_once task octets status other given others (Done msg fits is of s) (TooLarge past o h) = absurd (omega arith)
+outcome_once task octets status other given others (Done msg fits is of s) (Refused msg' fault fits' is' found some o h) = absurd (none_given task octets msg' msg given fault is' is found some of)
+outcome_once task octets status other given others (Done msg fits is of s) (Done msg' fits' is' of' o) =
+    record { status_is = s ∙ sym o; given_is = same_given task octets msg msg' given others is is' of of' }
 
 -- What was taken is all of the octets, or more than a message may have.
 pub record IsEnough (octets taken : List ℕ) : Type 0 where
@@ -68,27 +83,33 @@ pub record IsEnough (octets taken : List ℕ) : Type 0 where
   pub whole : length taken ≤ message_max → octets ≡ taken
 
 -- the outcome of what was taken is that of all the octets
-pub downgrade_whole : (octets taken : List ℕ) (status : ℕ) (given : List ℕ) → IsEnough octets taken → DowngradeOutcome taken status given → DowngradeOutcome octets status given
-downgrade_whole octets taken status given enough (TooLarge past s g) =
+pub outcome_whole : (task : Task) (octets taken : List ℕ) (status : ℕ) (given : List ℕ) → IsEnough octets taken → Outcome task taken status given → Outcome task octets status given
+outcome_whole task octets taken status given enough (TooLarge past s g) =
     let len = ap length enough.begins in
     TooLarge (omega (arith, length-append taken enough.more)) s g
-downgrade_whole octets taken status given enough (Refused msg fault fits is found some s g) =
-    let P : List ℕ → Type 0 = λ os. DowngradeOutcome os status given in subst P (sym (enough.whole fits)) (Refused msg fault fits is found some s g)
-downgrade_whole octets taken status given enough (Downgraded msg fits is surrogate s) =
-    let P : List ℕ → Type 0 = λ os. DowngradeOutcome os status given in subst P (sym (enough.whole fits)) (Downgraded msg fits is surrogate s)
+outcome_whole task octets taken status given enough (Refused msg fault fits is found some s g) =
+    let P : List ℕ → Type 0 = λ os. Outcome task os status given in subst P (sym (enough.whole fits)) (Refused msg fault fits is found some s g)
+outcome_whole task octets taken status given enough (Done msg fits is of s) =
+    let P : List ℕ → Type 0 = λ os. Outcome task os status given in subst P (sym (enough.whole fits)) (Done msg fits is of s)
 
 -- no outcome is that of a command that was broken off
-pub downgrade_fine : (octets : List ℕ) (status : ℕ) (given : List ℕ) → DowngradeOutcome octets status given → (status ≡ 7) ⊎ (status ≡ 0)
-downgrade_fine octets status given (TooLarge past s g) = inl s
-downgrade_fine octets status given (Refused msg fault fits is found some s g) = inl s
-downgrade_fine octets status given (Downgraded msg fits is surrogate s) = inr s
+pub outcome_fine : (task : Task) (octets : List ℕ) (status : ℕ) (given : List ℕ) → Outcome task octets status given → (status ≡ 7) ⊎ (status ≡ 0)
+outcome_fine task octets status given (TooLarge past s g) = inl s
+outcome_fine task octets status given (Refused msg fault fits is found some s g) = inl s
+outcome_fine task octets status given (Done msg fits is of s) = inr s
 
 -- the reply that tells a fault
-pub refused_by : (octets msg : List ℕ) (fault : TreeFault) (result : Result Reply Memory) → length octets ≤ message_max → IsCompleted octets msg → IsTreeFault msg fault
-    → IfOk result (λ reply. (fault ≢ NoMemory) × (reply.status ≡ 7) × (reply.given ≡ fault_line fault)) → IfOk result (λ reply. DowngradeOutcome octets reply.status reply.given)
-refused_by octets msg fault (Ok reply) fits is found told = Refused msg fault fits is found told.0 told.1 told.2
-refused_by octets msg fault (Err memory) fits is found told = tt
+pub refused_by : (task : Task) (octets msg : List ℕ) (fault : TreeFault) (result : Result Reply Memory) → length octets ≤ message_max → IsCompleted octets msg → IsTreeFault msg fault
+    → IfOk result (λ reply. (fault ≢ NoMemory) × (reply.status ≡ 7) × (reply.given ≡ fault_line fault)) → IfOk result (λ reply. Outcome task octets reply.status reply.given)
+refused_by task octets msg fault (Ok reply) fits is found told = Refused msg fault fits is found told.0 told.1 told.2
+refused_by task octets msg fault (Err memory) fits is found told = tt
 
 -- the octets of a rope are the surrogate
-pub downgraded_by : (octets msg given : List ℕ) (rope : RopeValue) → length octets ≤ message_max → IsCompleted octets msg → IsRopeOf msg rope → given ≡ octets_of msg rope → DowngradeOutcome octets 0 given
-downgraded_by octets msg given rope fits is made given_is = Downgraded msg fits is (subst (HasSurrogate msg) (sym given_is) (rope_surrogate msg rope made)) refl
+pub surrogate_given : (msg : List ℕ) (rope : RopeValue) (result : Result (List ℕ) Memory) → IsRopeOf msg rope → IfOk result (λ octets. octets ≡ octets_of msg rope) → IfOk result (IsGivenBy Downgrade msg)
+surrogate_given msg rope (Ok octets) made given = subst (HasSurrogate msg) (sym given) (rope_surrogate msg rope made)
+surrogate_given msg rope (Err memory) made given = tt
+
+-- the text of the figures
+pub figures_given : (msg : List ℕ) (figures : Figures) (result : Result (List ℕ) Memory) → HasFigures msg figures → IfOk result (λ text. text ≡ figures_text figures) → IfOk result (IsGivenBy Check msg)
+figures_given msg figures (Ok text) has told = record { figures = figures; has = has; text_is = told }
+figures_given msg figures (Err memory) has told = tt

@@ -11,16 +11,17 @@ use Rattle.mail_wire.specs.Moves.{Moves, Gives, GivesPrefix}
 use Rattle.mail_wire.proofs.Moving.{Moves-trans, taken_of-append, given_of-append, AreGiven-taken_of, Gives-nil}
 use Rattle.mail_wire.proofs.LawfulLemmas.{IsLawful-give}
 use Rattle.mail_command.specs.Taking.{AreTaken, Takes, TakesUpTo}
-use Rattle.mail_command.specs.Outcome.{message_max, DowngradeOutcome}
+use Rattle.mail_command.specs.declared.tasks.Task.{Task}
+use Rattle.mail_command.specs.Outcome.{message_max, Outcome}
 use Rattle.mail_wire.specs.declared.traffic.TheConstants.{PIECE}
 use Rattle.session_core.specs.Serving.{IsPrefixOf}
 use Rattle.setup_command.specs.Running.{IsBrokenOff}
-use Rattle.mail_command.specs.Running.{AnswersAll, BreaksOff, IsExact, RunsDowngrade}
+use Rattle.mail_command.specs.Running.{AnswersAll, BreaksOff, IsExact, RunsTask}
 use Rattle.setup_command.specs.Statuses.{status_of}
 use Rattle.mail_wire.specs.declared.outside.Fault.{Fault}
 use Rattle.mail_wire.specs.declared.outside.Fault.TheVariants as fault
 use Rattle.mail_command.proofs.TakingLemmas.{AreTaken-given_of}
-use Rattle.mail_command.proofs.OutcomeLemmas.{IsEnough, downgrade_once, downgrade_whole}
+use Rattle.mail_command.proofs.OutcomeLemmas.{IsEnough, outcome_once, outcome_whole}
 
 -- before each take nothing was given
 AreTaken-front : (xs ys : List Entry) → AreTaken (xs ++ ys) → AreTaken xs
@@ -64,16 +65,16 @@ some_of None P each = tt
 some_of (Some l) P each = each l
 
 -- a prefix of one outcome is one of each, since there is one
-prefix_of_each : (octets : List ℕ) (status : ℕ) (given whole : List ℕ) → DowngradeOutcome octets status whole → IsPrefixOf given whole
-    → (other : ℕ) (others : List ℕ) → DowngradeOutcome octets other others → IsPrefixOf given others
-prefix_of_each octets status given whole outcome begins other others also =
-    let same = downgrade_once octets status other whole others outcome also in
+prefix_of_each : (task : Task) (octets : List ℕ) (status : ℕ) (given whole : List ℕ) → Outcome task octets status whole → IsPrefixOf given whole
+    → (other : ℕ) (others : List ℕ) → Outcome task octets other others → IsPrefixOf given others
+prefix_of_each task octets status given whole outcome begins other others also =
+    let same = outcome_once task octets status other whole others outcome also in
     subst (IsPrefixOf given) same.given_is begins
 
 -- a prefix of the outcome of what was taken was given
-breaks_by : (a c : Telling) (taken given : List ℕ) → TakesAndGives a c taken given → length taken ≤ message_max + PIECE → ((status : ℕ) (whole : List ℕ) → DowngradeOutcome taken status whole → IsPrefixOf given whole)
-    → IfSome a.left (λ octets. (status : ℕ) (whole : List ℕ) → DowngradeOutcome octets status whole → IsPrefixOf given whole) → BreaksOff a c
-breaks_by a c taken given both few begun whole = record {
+breaks_by : (task : Task) (a c : Telling) (taken given : List ℕ) → TakesAndGives a c taken given → length taken ≤ message_max + PIECE → ((status : ℕ) (whole : List ℕ) → Outcome task taken status whole → IsPrefixOf given whole)
+    → IfSome a.left (λ octets. (status : ℕ) (whole : List ℕ) → Outcome task octets status whole → IsPrefixOf given whole) → BreaksOff task a c
+breaks_by task a c taken given both few begun whole = record {
   entries = both.entries;
   moves = both.moves;
   quiet = both.quiet;
@@ -90,8 +91,8 @@ all_of : (octets taken : List ℕ) → IsEnough octets taken → length octets �
 all_of octets taken all fits = let len = ap length all.begins in sym (all.whole (omega (arith, length-append taken all.more)))
 
 -- a message was taken, and its outcome given
-pub downgrades : (a b c : Telling) (taken given : List ℕ) (status : ℕ) → TakesUpTo message_max a b taken → DowngradeOutcome taken status given → Gives b c given → AnswersAll a c status
-downgrades a b c taken given status takes outcome gives =
+pub answers_all : (task : Task) (a b c : Telling) (taken given : List ℕ) (status : ℕ) → TakesUpTo message_max a b taken → Outcome task taken status given → Gives b c given → AnswersAll task a c status
+answers_all task a b c taken given status takes outcome gives =
     let both = takes_and_gives a b c taken given takes.takes gives in
     record {
       entries = both.entries;
@@ -99,47 +100,47 @@ downgrades a b c taken given status takes outcome gives =
       quiet = both.quiet;
       few = rw both.taken_is takes.few;
       outcome = rw (both.taken_is, both.given_is) outcome;
-      whole = rw both.given_is (IfSome_then a.left {P = λ octets. IsEnough octets taken} (enough a b taken takes) (λ octets all. downgrade_whole octets taken status given all outcome));
+      whole = rw both.given_is (IfSome_then a.left {P = λ octets. IsEnough octets taken} (enough a b taken takes) (λ octets all. outcome_whole task octets taken status given all outcome));
       all_taken = rw both.taken_is (IfSome_then a.left {P = λ octets. IsEnough octets taken} (enough a b taken takes) (λ octets all fits. all_of octets taken all fits));
     }
 
 -- a message was taken, and its outcome given in part
-pub downgrades_partly : (a b c : Telling) (taken given : List ℕ) (status : ℕ) → TakesUpTo message_max a b taken → DowngradeOutcome taken status given → GivesPrefix b c given
-    → BreaksOff a c
-downgrades_partly a b c taken given status takes outcome gives =
+pub answers_partly : (task : Task) (a b c : Telling) (taken given : List ℕ) (status : ℕ) → TakesUpTo message_max a b taken → Outcome task taken status given → GivesPrefix b c given
+    → BreaksOff task a c
+answers_partly task a b c taken given status takes outcome gives =
     let begins : IsPrefixOf gives.given given = (gives.missing, sym gives.whole) in
-    breaks_by a c taken gives.given (takes_and_gives a b c taken gives.given takes.takes gives.gives) takes.few (prefix_of_each taken status gives.given given outcome begins)
+    breaks_by task a c taken gives.given (takes_and_gives a b c taken gives.given takes.takes gives.gives) takes.few (prefix_of_each task taken status gives.given given outcome begins)
     (IfSome_then a.left {P = λ octets. IsEnough octets taken} (enough a b taken takes)
-    (λ octets all. prefix_of_each octets status gives.given given (downgrade_whole octets taken status given all outcome) begins))
+    (λ octets all. prefix_of_each task octets status gives.given given (outcome_whole task octets taken status given all outcome) begins))
 
 -- nothing was given yet
-pub takes_partly : (a b : Telling) (taken : List ℕ) → Takes a b taken → length taken ≤ message_max + PIECE → BreaksOff a b
-takes_partly a b taken takes few =
-    breaks_by a b taken [] (takes_and_gives a b b taken [] takes (Gives-nil b)) few (λ status whole outcome. (whole, refl))
-    (some_of a.left (λ octets. (status : ℕ) (whole : List ℕ) → DowngradeOutcome octets status whole → IsPrefixOf [] whole) (λ octets status whole outcome. (whole, refl)))
+pub takes_partly : (task : Task) (a b : Telling) (taken : List ℕ) → Takes a b taken → length taken ≤ message_max + PIECE → BreaksOff task a b
+takes_partly task a b taken takes few =
+    breaks_by task a b taken [] (takes_and_gives a b b taken [] takes (Gives-nil b)) few (λ status whole outcome. (whole, refl))
+    (some_of a.left (λ octets. (status : ℕ) (whole : List ℕ) → Outcome task octets status whole → IsPrefixOf [] whole) (λ octets status whole outcome. (whole, refl)))
 
 -- the answer is the status of each outcome that the octets have
-pub exact_by : (a c : Telling) (status : ℕ) → AnswersAll a c status → IsExact a status
-exact_by a c status answers =
-    IfSome_then a.left {P = λ octets. DowngradeOutcome octets status (given_of answers.entries)} answers.whole
-    (λ octets outcome other others also. inl (downgrade_once octets status other (given_of answers.entries) others outcome also).status_is)
+pub exact_by : (task : Task) (a c : Telling) (status : ℕ) → AnswersAll task a c status → IsExact task a status
+exact_by task a c status answers =
+    IfSome_then a.left {P = λ octets. Outcome task octets status (given_of answers.entries)} answers.whole
+    (λ octets outcome other others also. inl (outcome_once task octets status other (given_of answers.entries) others outcome also).status_is)
 
--- `downgrade`, by the answer of the function that runs it
-pub runs_downgrade : (a b : Telling) (result : Result ℕ Fault) → IfOk result (AnswersAll a b) → IfOk result (λ status. ¬ IsBrokenOff status) → OnErr result (BreaksOff a b)
-    → (result ≡ Err fault.Keeper → ⊥) → RunsDowngrade a b (status_of result)
-runs_downgrade a b (Ok status) answers fine breaks keeper = record {
+-- a task, by the answer of the function that runs it
+pub runs_task : (task : Task) (a b : Telling) (result : Result ℕ Fault) → IfOk result (AnswersAll task a b) → IfOk result (λ status. ¬ IsBrokenOff status) → OnErr result (BreaksOff task a b)
+    → (result ≡ Err fault.Keeper → ⊥) → RunsTask task a b (status_of result)
+runs_task task a b (Ok status) answers fine breaks keeper = record {
   answers = λ _. answers;
   broken_off = λ is. absurd (fine is);
-  exact = exact_by a b status answers;
+  exact = exact_by task a b status answers;
 }
-runs_downgrade a b (Err fault.Wire) answers fine breaks keeper = record {
+runs_task task a b (Err fault.Wire) answers fine breaks keeper = record {
   answers = λ not. absurd (not (inl refl));
   broken_off = λ _. breaks;
-  exact = some_of a.left (λ octets. (status : ℕ) (given : List ℕ) → DowngradeOutcome octets status given → (1 ≡ status) ⊎ IsBrokenOff 1) (λ octets status given outcome. inr (inl refl));
+  exact = some_of a.left (λ octets. (status : ℕ) (given : List ℕ) → Outcome task octets status given → (1 ≡ status) ⊎ IsBrokenOff 1) (λ octets status given outcome. inr (inl refl));
 }
-runs_downgrade a b (Err fault.Keeper) answers fine breaks keeper = absurd (keeper refl)
-runs_downgrade a b (Err fault.Memory) answers fine breaks keeper = record {
+runs_task task a b (Err fault.Keeper) answers fine breaks keeper = absurd (keeper refl)
+runs_task task a b (Err fault.Memory) answers fine breaks keeper = record {
   answers = λ not. absurd (not (inr refl));
   broken_off = λ _. breaks;
-  exact = some_of a.left (λ octets. (status : ℕ) (given : List ℕ) → DowngradeOutcome octets status given → (3 ≡ status) ⊎ IsBrokenOff 3) (λ octets status given outcome. inr (inr refl));
+  exact = some_of a.left (λ octets. (status : ℕ) (given : List ℕ) → Outcome task octets status given → (3 ≡ status) ⊎ IsBrokenOff 3) (λ octets status given outcome. inr (inr refl));
 }

@@ -7,6 +7,7 @@ use Rattle.std.proofs.lemmas.Fmt.{parse-decimal}
 use Rattle.std.proofs.lemmas.Slice.Eq.{bytes_eq-Decides}
 use Rattle.mail_command.specs.declared.roles.Role.{Role}
 use Rattle.mail_command.specs.Words.{IsNoCommand, IsNumberUpTo, IsServeCommand, role_word}
+use Rattle.mail_command.proofs.WordsLemmas.{fewer}
 
 -- a text that spells a number is read as it
 pub read_as : {E : Type 0} (max number : ℕ) (text : List ℕ) (r : Result ℕ E) → max < 2 ^ 32 → IsNumberUpTo max text number → ParsesUnsigned 32 10 text r → r ≡ Ok number
@@ -35,17 +36,22 @@ are_four (x ∷ y ∷ z ∷ []) a b c d first second third fourth few = cc
 are_four (x ∷ y ∷ z ∷ w ∷ []) a b c d first second third fourth few = cc
 are_four (x ∷ y ∷ z ∷ w ∷ v ∷ words) a b c d first second third fourth few = absurd (omega arith)
 
--- ---- the words are those of no command
+-- a list of two words
+pub are_two : (words : List (List ℕ)) (a b : List ℕ) → slice_get words 0 ≡ Some a → slice_get words 1 ≡ Some b → length words ≤ 2 → words ≡ a ∷ b ∷ []
+are_two [] a b first second few = cc
+are_two (x ∷ []) a b first second few = cc
+are_two (x ∷ y ∷ []) a b first second few = cc
+are_two (x ∷ y ∷ z ∷ words) a b first second few = absurd (omega arith)
 
--- no list is one of fewer words, too
-fewer : (words a b : List (List ℕ)) → words ≡ a → words ≡ b → length a < length b → ⊥
-fewer words a b one other less = omega (arith, ap length one, ap length other, less)
+-- ---- the words are those of no command
 
 pub no_command : (words : List (List ℕ)) (role : Role) (port connections : ℕ) → IsServeCommand words role port connections → IsNoCommand words
 no_command words role port connections is = record {
   downgrade = λ one. fewer words (codes "downgrade" ∷ []) _ one is.words_are (omega arith);
+  check = λ one. fewer words (codes "check" ∷ []) _ one is.words_are (omega arith);
   session = λ other one. fewer words (role_word other ∷ []) _ one is.words_are (omega arith);
   account = λ address password one. fewer words (codes "account" ∷ one.text ∷ password ∷ []) _ one.words_are is.words_are (omega arith);
   domain = λ name one. fewer words (codes "domain" ∷ name ∷ []) _ one.words_are is.words_are (omega arith);
   help = λ one. fewer words (codes "help" ∷ []) _ one is.words_are (omega arith);
+  gen = λ number one. fewer words (codes "gen" ∷ one.text ∷ []) _ one.words_are is.words_are (omega arith);
 }

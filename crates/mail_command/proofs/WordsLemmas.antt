@@ -3,7 +3,7 @@ use Rattle.std.proofs.Common.{◌≡◌, ℕ, List, [], ◌∷◌, length, ◌<�
 use Rattle.std.specs.List.{slice_get}
 use Rattle.mail_command.specs.declared.roles.Role.{Role}
 use Rattle.mail_command.specs.declared.roles.Role.TheVariants.{Pop, Smtp, Imap}
-use Rattle.mail_command.specs.Words.{IsDowngrade, IsSession}
+use Rattle.mail_command.specs.Words.{IsSession}
 
 -- the list is its first word
 pub one_word : (words : List (List ℕ)) (word : List ℕ) → slice_get words 0 ≡ Some word → length words ≤ 1 → words ≡ word ∷ []
@@ -25,15 +25,14 @@ initial_is : (words spelled : List (List ℕ)) → words ≡ spelled → initial
 initial_is words spelled is = ap initial is
 
 -- words don't begin with two octets
-differ_first : (words one other : List (List ℕ)) → words ≡ one → words ≡ other → initial one < initial other → ⊥
+pub differ_first : (words one other : List (List ℕ)) → words ≡ one → words ≡ other → initial one < initial other → ⊥
 differ_first words one other is also differ = apart (initial words) (initial one) (initial other) (initial_is words one is) (initial_is words other also) differ
 
--- no words are those of two commands
-pub not_downgrade : (words : List (List ℕ)) (role : Role) → IsDowngrade words → IsSession words role → ⊥
-not_downgrade words Pop one other = differ_first words _ _ one other (omega arith)
-not_downgrade words Smtp one other = differ_first words _ _ one other (omega arith)
-not_downgrade words Imap one other = differ_first words _ _ one other (omega arith)
+-- no list is one of fewer words, too
+pub fewer : (words a b : List (List ℕ)) → words ≡ a → words ≡ b → length a < length b → ⊥
+fewer words a b one other less = omega (arith, ap length one, ap length other, less)
 
+-- a word is that of one protocol
 pub session_once : (words : List (List ℕ)) (one other : Role) → IsSession words one → IsSession words other → one ≡ other
 session_once words Pop Pop is also = refl
 session_once words Pop Smtp is also = absurd (differ_first words _ _ is also (omega arith))

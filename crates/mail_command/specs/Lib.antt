@@ -1,6 +1,9 @@
 pub mod Taking
 pub mod Words
 pub mod Protocols
+pub mod Checking
+pub mod Generating
 pub mod Outcome
 pub mod Running
 pub mod Connections
+pub mod private

@@ -7,6 +7,9 @@ use Rattle.mime_tree.specs.declared.entity.TreeFault.TheVariants.{Nul, BareCr, B
 use Rattle.mime_tree.specs.Completing.{IsCompleted}
 use Rattle.mime_tree.specs.Faults.{IsTreeFault}
 use Rattle.surrogate_rope.specs.Layout.{HasSurrogate}
+use Rattle.mail_command.specs.declared.tasks.Task.{Task}
+use Rattle.mail_command.specs.declared.tasks.Task.TheVariants.{Downgrade, Check}
+use Rattle.mail_command.specs.Checking.{TellsFigures}
 
 -- the most octets of a message: 32 MiB
 abbrev pub message_max : ℕ
@@ -25,12 +28,17 @@ fault_line (NotField at) = refusal_line at (codes "not a field")
 fault_line (NotUtf8 at) = refusal_line at (codes "not utf-8")
 fault_line Memory = []
 
--- What the command `downgrade` comes to on these octets.
-pub data DowngradeOutcome (octets : List ℕ) (status : ℕ) (given : List ℕ) : Type 0 where
+-- what is given of a message: its surrogate, which is the layout rule's and whose fields each stand for the original's, or what is counted of it
+abbrev pub IsGivenBy : Task → List ℕ → List ℕ → Type 0
+IsGivenBy Downgrade msg given = HasSurrogate msg given
+IsGivenBy Check msg given = TellsFigures msg given
+
+-- What a command of one message comes to on these octets.
+pub data Outcome (task : Task) (octets : List ℕ) (status : ℕ) (given : List ℕ) : Type 0 where
   -- more octets than a message may have
-  TooLarge : message_max < length octets → status ≡ 7 → given ≡ refusal_line message_max (codes "too large") → DowngradeOutcome octets status given
+  TooLarge : message_max < length octets → status ≡ 7 → given ≡ refusal_line message_max (codes "too large") → Outcome task octets status given
   -- no message: its first fault, once its last line is ended
   Refused : (completed : List ℕ) (fault : TreeFault) → length octets ≤ message_max → IsCompleted octets completed → IsTreeFault completed fault → fault ≢ Memory
-      → status ≡ 7 → given ≡ fault_line fault → DowngradeOutcome octets status given
-  -- the surrogate of the message, once its last line is ended: the layout rule's, and each field stands for the original's
-  Downgraded : (completed : List ℕ) → length octets ≤ message_max → IsCompleted octets completed → HasSurrogate completed given → status ≡ 0 → DowngradeOutcome octets status given
+      → status ≡ 7 → given ≡ fault_line fault → Outcome task octets status given
+  -- a message, once its last line is ended
+  Done : (completed : List ℕ) → length octets ≤ message_max → IsCompleted octets completed → IsGivenBy task completed given → status ≡ 0 → Outcome task octets status given

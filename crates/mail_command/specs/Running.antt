@@ -12,7 +12,13 @@ use Rattle.session_core.specs.declared.desk.Limits.{Limits}
 use Rattle.session_core.specs.declared.serving.Served.{Served}
 use Rattle.session_core.specs.declared.serving.Served.TheVariants as came_to
 use Rattle.setup_command.specs.Running.{IsBrokenOff, OpensStore, HoldsStore, IsUnopened, BreaksSessionOff, HoldsBegun}
-use Rattle.mail_command.specs.Outcome.{DowngradeOutcome, message_max}
+use Rattle.mail_command.specs.declared.tasks.Task.{Task}
+use Rattle.mail_command.specs.declared.tasks.Task.TheVariants.{Downgrade, Check}
+use Rattle.mail_command.specs.declared.apart.Apart.{Apart}
+use Rattle.mail_command.specs.declared.apart.Apart.TheVariants as apart
+use Rattle.mail_command.specs.declared.generating.Totals.{Totals}
+use Rattle.mail_command.specs.Generating.{AreTotals, totals_text}
+use Rattle.mail_command.specs.Outcome.{Outcome, message_max}
 use Rattle.mail_wire.specs.declared.traffic.TheConstants.{PIECE}
 
 -- ---- words of no command
@@ -31,38 +37,61 @@ pub data RefusesWords (before now : Telling) (status : ℕ) : Type 0 where
 abbrev pub GivesHelp : Telling → Telling → ℕ → Type 0
 GivesHelp before now status = (text : List ℕ) × ((Gives before now text × (status ≡ 0)) ⊎ (GivesPrefix before now text × IsBrokenOff status))
 
--- ---- `downgrade`
+-- ---- `downgrade` and `check`
 
 -- The octets that were taken, no more than a piece beyond what a message may have, came to their outcome, and it was given whole.
 -- Nothing was given before the last take. Where the wire tells what it had left, the outcome is that of all of it, and all of it
 -- was taken, if it isn't more than a message may have.
-pub record AnswersAll (before now : Telling) (status : ℕ) : Type 0 where
+pub record AnswersAll (task : Task) (before now : Telling) (status : ℕ) : Type 0 where
   pub entries : List Entry
   pub moves : Moves before now entries
   pub quiet : IsLawful (λ taken. []) entries
   pub few : length (taken_of entries) ≤ message_max + PIECE
-  pub outcome : DowngradeOutcome (taken_of entries) status (given_of entries)
-  pub whole : IfSome before.left (λ octets. DowngradeOutcome octets status (given_of entries))
+  pub outcome : Outcome task (taken_of entries) status (given_of entries)
+  pub whole : IfSome before.left (λ octets. Outcome task octets status (given_of entries))
   pub all_taken : IfSome before.left (λ octets. length octets ≤ message_max → taken_of entries ≡ octets)
 
 -- The command was broken off: no more was taken than that, nothing was given before the last take, and what was given is a prefix of its outcome's octets.
-pub record BreaksOff (before now : Telling) : Type 0 where
+pub record BreaksOff (task : Task) (before now : Telling) : Type 0 where
   pub entries : List Entry
   pub moves : Moves before now entries
   pub quiet : IsLawful (λ taken. []) entries
   pub few : length (taken_of entries) ≤ message_max + PIECE
-  pub begun : (status : ℕ) (given : List ℕ) → DowngradeOutcome (taken_of entries) status given → IsPrefixOf (given_of entries) given
-  pub whole : IfSome before.left (λ octets. (status : ℕ) (given : List ℕ) → DowngradeOutcome octets status given → IsPrefixOf (given_of entries) given)
+  pub begun : (status : ℕ) (given : List ℕ) → Outcome task (taken_of entries) status given → IsPrefixOf (given_of entries) given
+  pub whole : IfSome before.left (λ octets. (status : ℕ) (given : List ℕ) → Outcome task octets status given → IsPrefixOf (given_of entries) given)
 
 -- Whatever outcome the octets have that the wire had left, its status is the answer, or the command was broken off.
-abbrev pub IsExact : Telling → ℕ → Type 0
-IsExact before result =
-    IfSome before.left (λ octets. (status : ℕ) (given : List ℕ) → DowngradeOutcome octets status given → (result ≡ status) ⊎ IsBrokenOff result)
+abbrev pub IsExact : Task → Telling → ℕ → Type 0
+IsExact task before result =
+    IfSome before.left (λ octets. (status : ℕ) (given : List ℕ) → Outcome task octets status given → (result ≡ status) ⊎ IsBrokenOff result)
 
-pub record RunsDowngrade (before now : Telling) (status : ℕ) : Type 0 where
-  pub answers : ¬ IsBrokenOff status → AnswersAll before now status
-  pub broken_off : IsBrokenOff status → BreaksOff before now
-  pub exact : IsExact before status
+pub record RunsTask (task : Task) (before now : Telling) (status : ℕ) : Type 0 where
+  pub answers : ¬ IsBrokenOff status → AnswersAll task before now status
+  pub broken_off : IsBrokenOff status → BreaksOff task before now
+  pub exact : IsExact task before status
+
+abbrev pub RunsDowngrade : Telling → Telling → ℕ → Type 0
+RunsDowngrade = RunsTask Downgrade
+
+abbrev pub RunsCheck : Telling → Telling → ℕ → Type 0
+RunsCheck = RunsTask Check
+
+-- ---- `gen`
+
+-- the totals of so many messages are given, or that was broken off
+pub data RunsGen (number : ℕ) (before now : Telling) (status : ℕ) : Type 0 where
+  Told : (totals : Totals) → AreTotals number totals → Gives before now (totals_text number totals) → status ≡ 0 → RunsGen number before now status
+  -- in the text
+  BrokenOff : (totals : Totals) → AreTotals number totals → GivesPrefix before now (totals_text number totals) → IsBrokenOff status → RunsGen number before now status
+  -- before it
+  Unmade : Gives before now [] → IsBrokenOff status → RunsGen number before now status
+
+-- ---- all that leave the keeper alone
+
+abbrev pub RunsApart : Apart → Telling → Telling → ℕ → Type 0
+RunsApart (apart.Message task) = RunsTask task
+RunsApart (apart.Gen number) = RunsGen number
+RunsApart apart.Help = GivesHelp
 
 -- ---- a session
 

@@ -2,14 +2,20 @@
 use Rattle.std.specs.Prelude.{◌≡◌, ℕ, ◌<◌, ◌≤◌, List, [], ◌∷◌, codes, decimal, string_bytes, Option, Some, None}
 use Rattle.address_grammar.specs.declared.Address.{Address}
 use Rattle.setup_command.specs.WordForms.{IsAccountCommand, IsDomainCommand, IsHelpCommand}
+use Rattle.mail_command.specs.declared.apart.Apart.{Apart}
+use Rattle.mail_command.specs.declared.apart.Apart.TheVariants as apart
 use Rattle.mail_command.specs.declared.command.Command.{Command}
 use Rattle.mail_command.specs.declared.command.Command.TheVariants as command
 use Rattle.mail_command.specs.declared.roles.Role.{Role}
 use Rattle.mail_command.specs.declared.roles.Role.TheVariants as role
+use Rattle.mail_command.specs.declared.tasks.Task.TheVariants as task
 
 -- the one word of the command
 abbrev pub IsDowngrade : List (List ℕ) → Type 0
 IsDowngrade words = words ≡ codes "downgrade" ∷ []
+
+abbrev pub IsCheck : List (List ℕ) → Type 0
+IsCheck words = words ≡ codes "check" ∷ []
 
 -- the word of a protocol
 abbrev pub role_word : Role → List ℕ
@@ -27,6 +33,12 @@ pub record IsNumberUpTo (max : ℕ) (text : List ℕ) (number : ℕ) : Type 0 wh
   pub some : 0 < number
   pub bound : number ≤ max
 
+-- `gen`, and how many messages are made
+pub record IsGen (words : List (List ℕ)) (number : ℕ) : Type 0 where
+  pub text : List ℕ
+  pub words_are : words ≡ codes "gen" ∷ text ∷ []
+  pub number_is : IsNumberUpTo 100000 text number
+
 -- `serve`, the word of a protocol, a port, and how many connections are served
 pub record IsServeCommand (words : List (List ℕ)) (role : Role) (port connections : ℕ) : Type 0 where
   pub port_text : List ℕ
@@ -38,10 +50,12 @@ pub record IsServeCommand (words : List (List ℕ)) (role : Role) (port connecti
 -- the words of none
 pub record IsNoCommand (words : List (List ℕ)) : Type 0 where
   pub downgrade : ¬ IsDowngrade words
+  pub check : ¬ IsCheck words
   pub session : (role : Role) → ¬ IsSession words role
   pub account : (address : Address) (password : List ℕ) → ¬ IsAccountCommand words address password
   pub domain : (name : List ℕ) → ¬ IsDomainCommand words name
   pub help : ¬ IsHelpCommand words
+  pub gen : (number : ℕ) → ¬ IsGen words number
 
 -- the words of the commands that open the journal
 pub data OpensJournal (words : List (List ℕ)) : Type 0 where
@@ -49,11 +63,17 @@ pub data OpensJournal (words : List (List ℕ)) : Type 0 where
   OfAccount : (address : Address) (password : List ℕ) → IsAccountCommand words address password → OpensJournal words
   OfDomain : (name : List ℕ) → IsDomainCommand words name → OpensJournal words
 
+-- the words of a command that leaves the keeper alone
+abbrev pub IsApart : List (List ℕ) → Apart → Type 0
+IsApart words (apart.Message task.Downgrade) = IsDowngrade words
+IsApart words (apart.Message task.Check) = IsCheck words
+IsApart words (apart.Gen number) = IsGen words number
+IsApart words apart.Help = IsHelpCommand words
+
 -- the command that the words name
 abbrev pub Names : List (List ℕ) → Option Command → Type 0
 Names words None = IsNoCommand words
-Names words (Some command.Downgrade) = IsDowngrade words
-Names words (Some command.Help) = IsHelpCommand words
+Names words (Some (command.Apart one)) = IsApart words one
 Names words (Some (command.Session role)) = IsSession words role
 Names words (Some (command.Account said)) = IsAccountCommand words said.address said.password
 Names words (Some (command.Domain name)) = IsDomainCommand words (string_bytes name)

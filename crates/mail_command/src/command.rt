@@ -14,28 +14,29 @@ ghost use Rattle.setup_command.specs.Running.{IsExactJournal, HasStatusCause};
 ghost use Rattle.setup_command.specs.Statuses.{status_of};
 ghost use Rattle.setup_command.specs.WordForms.{IsAccountCommand, IsDomainCommand, IsHelpCommand};
 ghost use Rattle.mail_command.specs.Protocols.{protocol_for};
-ghost use Rattle.mail_command.specs.Words.{Names, IsNoCommand, IsDowngrade, IsSession, OpensJournal};
-ghost use Rattle.mail_command.specs.Running.{RefusesWords, RunsDowngrade, RunsSession, GivesHelp};
+ghost use Rattle.mail_command.specs.Words.{Names, IsNoCommand, IsDowngrade, IsCheck, IsGen, IsSession, OpensJournal};
+ghost use Rattle.mail_command.specs.Running.{RefusesWords, RunsDowngrade, RunsCheck, RunsGen, RunsSession, GivesHelp};
 ghost use Rattle.mail_command.specs.declared.roles.Role.{Role as RoleValue};
 
-use crate::downgrading::run_downgrade;
+use crate::apart::{Apart, run_apart};
 use crate::roles::{Role, role_named};
+use crate::serving_words::gen_words;
 use crate::sessions::run_session;
+use crate::tasks::Task;
 use mail_wire::{Clock, Fault, Keeper, Memory, Wire, Words, give_all};
 use setup_command::{
     AccountWords, KEEPER_FAULT, WANT_OF_MEMORY, WIRE_FAULT, WORDS_REFUSED, read_account,
-    read_domain, run_account, run_domain, run_help,
+    read_domain, run_account, run_domain,
 };
 use std::alloc::Global;
 
 /// The commands that words name.
-#[derive(Debug, Drop)]
+#[derive(Drop)]
 pub enum Command {
-    Downgrade,
+    Apart(Apart),
     Session(Role),
     Account(AccountWords),
     Domain(String),
-    Help,
 }
 
 // The command of one word.
@@ -43,8 +44,9 @@ fn command_named(word: &str) -> Option<Command>
     ensures { Names (word.now ∷ []) result }
 {
     match word {
-        "downgrade" => Some(Command::Downgrade),
-        "help" => Some(Command::Help),
+        "downgrade" => Some(Command::Apart(Apart::Message(Task::Downgrade))),
+        "check" => Some(Command::Apart(Apart::Message(Task::Check))),
+        "help" => Some(Command::Apart(Apart::Help)),
         _ => {
             let role = role_named(word)?;
             Some(Command::Session(role))
@@ -60,8 +62,11 @@ fn command_with_values(alloc: Global, words: &Words) -> Result<Option<Command>, 
     if let Some(said) = read_account(alloc, words)? {
         return Ok(Some(Command::Account(said)));
     }
-    match read_domain(alloc, words)? {
-        Some(name) => Ok(Some(Command::Domain(name))),
+    if let Some(name) = read_domain(alloc, words)? {
+        return Ok(Some(Command::Domain(name)));
+    }
+    match gen_words(words) {
+        Some(number) => Ok(Some(Command::Apart(Apart::Gen(number)))),
         None => Ok(None),
     }
 }
@@ -98,6 +103,8 @@ fn work<W: Wire, J: Keeper, C: Clock>(
 ) -> Result<u8, Fault>
     ensures words { IsNoCommand words.now → RefusesWords (W.tells wire.old) (W.tells wire.new) (status_of result) }
     ensures downgrade { IsDowngrade words.now → RunsDowngrade (W.tells wire.old) (W.tells wire.new) (status_of result) }
+    ensures check { IsCheck words.now → RunsCheck (W.tells wire.old) (W.tells wire.new) (status_of result) }
+    ensures generates { (number : ℕ) → IsGen words.now number → RunsGen number (W.tells wire.old) (W.tells wire.new) (status_of result) }
     ensures session { (role : RoleValue) → IsSession words.now role → OfCourse (protocol_for role) (C.tells clock.old) (λ course. RunsSession course LIMITS
         (J.tells keeper.old).octets (J.tells keeper.new).octets (W.tells wire.old) (W.tells wire.new) (status_of result)) }
     ensures account { (address : AddressValue) (password : List ℕ) → IsAccountCommand words.now address password → WithPaths (λ path_of.
@@ -115,7 +122,7 @@ fn work<W: Wire, J: Keeper, C: Clock>(
     ensures cause { HasStatusCause (W.tells wire.old) (W.tells wire.new) (J.tells keeper.old) (J.tells keeper.new) (status_of result) }
 {
     match command_of(alloc, words)? {
-        Some(Command::Downgrade) => run_downgrade(alloc, wire),
+        Some(Command::Apart(command)) => run_apart(alloc, command, wire),
         Some(Command::Session(role)) => run_session(alloc, role, wire, keeper, clock),
         Some(Command::Account(said)) => run_account(
             alloc,
@@ -125,7 +132,6 @@ fn work<W: Wire, J: Keeper, C: Clock>(
             keeper,
         ),
         Some(Command::Domain(name)) => run_domain(alloc, &name, wire, keeper),
-        Some(Command::Help) => run_help(alloc, wire),
         None => refuse_words(wire),
     }
 }
@@ -155,6 +161,8 @@ pub fn run<W: Wire, J: Keeper, C: Clock>(
 ) -> u8
     ensures words { IsNoCommand words.now → RefusesWords (W.tells wire.old) (W.tells wire.new) result }
     ensures downgrade { IsDowngrade words.now → RunsDowngrade (W.tells wire.old) (W.tells wire.new) result }
+    ensures check { IsCheck words.now → RunsCheck (W.tells wire.old) (W.tells wire.new) result }
+    ensures generates { (number : ℕ) → IsGen words.now number → RunsGen number (W.tells wire.old) (W.tells wire.new) result }
     ensures session { (role : RoleValue) → IsSession words.now role → OfCourse (protocol_for role) (C.tells clock.old) (λ course. RunsSession course LIMITS
         (J.tells keeper.old).octets (J.tells keeper.new).octets (W.tells wire.old) (W.tells wire.new) result) }
     ensures account { (address : AddressValue) (password : List ℕ) → IsAccountCommand words.now address password → WithPaths (λ path_of.

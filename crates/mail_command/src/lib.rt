@@ -1,22 +1,25 @@
 //! The commands: what the words of the command line do over a wire and a keeper.
 #![tactic(auto)]
 
+mod apart;
 mod command;
 mod connections;
-mod downgrading;
+mod figures;
+mod generating;
 pub mod laws;
 mod lines;
 mod roles;
 mod serving_words;
 mod sessions;
 mod taking;
+mod tasks;
 
 pub use command::{run, status_after};
 pub use connections::serve_next;
-pub use downgrading::downgrade;
 pub use mail_store::OpenFault;
 pub use roles::{Role, serve_one};
 pub use serving_words::serve_words;
 pub use session_core::{Desk, LIMITS, Limits, Outside, Served, next_desk, open_desk};
 pub use sessions::run_session;
 pub use setup_command::{DONE, KEEPER_FAULT, WANT_OF_MEMORY, WIRE_FAULT, tell_unopened};
+pub use tasks::{Task, reply_of};

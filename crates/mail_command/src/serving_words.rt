@@ -1,6 +1,6 @@
-//! The words of `serve`, which the program itself carries out.
+//! The words of `gen`, and those of `serve`, which the program itself carries out.
 ghost use Rattle.std.specs.Prelude.{◌≡◌, ◌≢◌, ℕ, List, [], ◌∷◌, IfSome, IfNone};
-ghost use Rattle.mail_command.specs.Words.{IsNumberUpTo, IsServeCommand};
+ghost use Rattle.mail_command.specs.Words.{IsGen, IsNumberUpTo, IsServeCommand};
 ghost use Rattle.mail_command.specs.declared.roles.Role.{Role as RoleValue};
 
 use crate::roles::{Role, role_named};
@@ -12,6 +12,9 @@ const PORT_MAX: u32 = 65_535;
 
 // The most connections that one program serves.
 const CONNECTIONS_MAX: u32 = 1_000_000;
+
+// The most messages that `gen` makes.
+const MESSAGES_MAX: u32 = 100_000;
 
 // The number that the text spells, from 1 to the greatest.
 fn number_up_to(text: &str, max: u32) -> Option<u32>
@@ -64,4 +67,27 @@ pub fn serve_words(words: &Words) -> Option<(Role, u16, u32)>
     let port = number_up_to(port, PORT_MAX)?;
     let connections = number_up_to(connections, CONNECTIONS_MAX)?;
     Some((role, port as u16, connections))
+}
+
+// The words, where there are two.
+fn two_words(words: &Words) -> Option<(&str, &str)>
+    ensures some { IfSome result (λ two. words.now ≡ two.0.now ∷ two.1.now ∷ []) }
+    ensures none { IfNone result ((first second : List ℕ) → words.now ≢ first ∷ second ∷ []) }
+{
+    match (words.get(0), words.get(1), words.get(2)) {
+        (Some(first), Some(second), None) => Some((first, second)),
+        _ => None,
+    }
+}
+
+/// How many messages the words of `gen` ask for. Other words say nothing. It takes no memory.
+pub fn gen_words(words: &Words) -> Option<u32>
+    ensures some { IfSome result (IsGen words.now) }
+    ensures none { IfNone result ((number : ℕ) → ¬ IsGen words.now number) }
+{
+    let (name, number) = two_words(words)?;
+    if name != "gen" {
+        return None;
+    }
+    number_up_to(number, MESSAGES_MAX)
 }

@@ -1,40 +1,11 @@
 //! The rows of `downgrade`, over wires in memory.
-use mail_command::run;
-use mail_wire::{Entry, Failure, FixedClock, MemKeeper, MemWire, Octets, Words};
-use std::alloc::Global;
+use crate::in_memory::answer;
+use mail_wire::Failure;
 use std::test::Fail;
 
 const CAFE: &str = "Subject: café bar\r\n\r\nx\r\n";
 
 const CAFE_SURROGATE: &str = "Subject:\r\n =?UTF-8?B?Y2Fmw6k=?=\r\n bar\r\n\r\nx\r\n";
-
-// The status of a command of one word, and what was given.
-fn answer(
-    alloc: Global,
-    word: &str,
-    input: &[u8],
-    sizes: &[usize],
-    failures: &[Failure],
-) -> Result<(u8, Octets), Fail> {
-    let mut words = Words::none(alloc);
-    words.push(word)?;
-    let mut wire = MemWire::new(
-        alloc,
-        Octets::from_slice(alloc, input)?,
-        Vec::from_slice(alloc, sizes)?,
-        Vec::from_slice(alloc, failures)?,
-    );
-    let mut keeper = MemKeeper::new(Octets::new(alloc), Vec::new(alloc));
-    let mut clock = FixedClock::new(0);
-    let status = run(alloc, &words, &mut wire, &mut keeper, &mut clock);
-    let mut given = Octets::new(alloc);
-    for entry in wire.entries() {
-        if let Entry::Given(octets) = entry {
-            given.push_slice(octets.as_slice())?;
-        }
-    }
-    Ok((status, given))
-}
 
 #[test]
 fn rows_of_downgrade(rt: HostRuntime) -> Result<(), Fail> {
@@ -81,7 +52,7 @@ fn rows_of_downgrade(rt: HostRuntime) -> Result<(), Fail> {
             "Content-Type: message/rfc822\r\n\r\nSubject:\r\n =?UTF-8?B?w6k=?=\r\n",
         ),
     ] {
-        let (found, octets) = answer(rt.alloc(), "downgrade", input.as_bytes(), &[], &[])?;
+        let (found, octets) = answer(rt.alloc(), &["downgrade"], input.as_bytes(), &[], &[])?;
         assert_eq!(rt; found, status, "at {input:?}");
         assert!(rt; octets.as_slice() == given.as_bytes(), "at {input:?}");
     }
@@ -103,11 +74,11 @@ fn faults_are_told_by_their_places(rt: HostRuntime) -> Result<(), Fail> {
             "refused at 50: not a field\r\n",
         ),
     ] {
-        let (found, octets) = answer(rt.alloc(), "downgrade", input.as_bytes(), &[], &[])?;
+        let (found, octets) = answer(rt.alloc(), &["downgrade"], input.as_bytes(), &[], &[])?;
         assert_eq!(rt; found, 7, "at {input:?}");
         assert!(rt; octets.as_slice() == given.as_bytes(), "at {input:?}");
     }
-    let (found, octets) = answer(rt.alloc(), "downgrade", b"A: \xff", &[], &[])?;
+    let (found, octets) = answer(rt.alloc(), &["downgrade"], b"A: \xff", &[], &[])?;
     assert_eq!(rt; found, 7);
     assert!(rt; octets.as_slice() == b"refused at 3: not utf-8\r\n".as_slice());
     Ok(())
@@ -115,7 +86,7 @@ fn faults_are_told_by_their_places(rt: HostRuntime) -> Result<(), Fail> {
 
 #[test]
 fn words_of_no_command_are_refused(rt: HostRuntime) -> Result<(), Fail> {
-    let (status, given) = answer(rt.alloc(), "down", CAFE.as_bytes(), &[], &[])?;
+    let (status, given) = answer(rt.alloc(), &["down"], CAFE.as_bytes(), &[], &[])?;
     assert_eq!(rt; status, 4);
     assert!(rt; given.as_slice() == b"words refused\r\n".as_slice());
     Ok(())
@@ -123,7 +94,7 @@ fn words_of_no_command_are_refused(rt: HostRuntime) -> Result<(), Fail> {
 
 #[test]
 fn the_answer_is_the_same_octet_by_octet(rt: HostRuntime) -> Result<(), Fail> {
-    let (status, given) = answer(rt.alloc(), "downgrade", CAFE.as_bytes(), &[1; 25], &[])?;
+    let (status, given) = answer(rt.alloc(), &["downgrade"], CAFE.as_bytes(), &[1; 25], &[])?;
     assert_eq!(rt; status, 0);
     assert!(rt; given.as_slice() == CAFE_SURROGATE.as_bytes());
     Ok(())
@@ -135,7 +106,7 @@ fn a_failing_give_leaves_a_prefix(rt: HostRuntime) -> Result<(), Fail> {
     for kept in 0..CAFE_SURROGATE.len() {
         let (status, given) = answer(
             rt.alloc(),
-            "downgrade",
+            &["downgrade"],
             CAFE.as_bytes(),
             &[],
             &[Failure { call: 2, kept }],

@@ -1,5 +1,6 @@
-//! Wires and keepers in memory, a journal, and a session over it.
-use mail_wire::{Entry, Failure, MemKeeper, MemWire, Memory, Octets};
+//! Wires and keepers in memory, commands over them, a journal, and a session over it.
+use mail_command::run;
+use mail_wire::{Entry, Failure, FixedClock, MemKeeper, MemWire, Memory, Octets, Words};
 use std::alloc::Global;
 
 /// The domain `example.org`, the account `ann@example.org` with the password `pw`, and a message of 25 octets.
@@ -49,4 +50,23 @@ pub fn given(alloc: Global, wire: &MemWire) -> Result<Octets, Memory> {
         }
     }
     Ok(given)
+}
+
+/// The status of a command over this input, and what was given.
+pub fn answer(
+    alloc: Global,
+    words: &[&str],
+    input: &[u8],
+    sizes: &[usize],
+    failures: &[Failure],
+) -> Result<(u8, Octets), Memory> {
+    let mut said = Words::none(alloc);
+    for word in words {
+        said.push(word)?;
+    }
+    let mut wire = wire_of(alloc, input, sizes, failures)?;
+    let mut keeper = keeper_of(alloc, b"", &[])?;
+    let mut clock = FixedClock::new(0);
+    let status = run(alloc, &said, &mut wire, &mut keeper, &mut clock);
+    Ok((status, given(alloc, &wire)?))
 }

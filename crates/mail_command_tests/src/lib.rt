@@ -2,6 +2,8 @@
 #![tactic(auto)]
 
 #[cfg(test)]
+mod check_tests;
+#[cfg(test)]
 mod connection_tests;
 #[cfg(test)]
 mod downgrade_tests;

@@ -14,10 +14,14 @@ use std::alloc::Global;
 pub const VERSION: &str = "0.9.0";
 
 // The commands, and what each does.
-const COMMANDS: [(&str, &str); 8] = [
+const COMMANDS: [(&str, &str); 10] = [
     (
         "downgrade",
         "Take one message, give its surrogate in ASCII headers",
+    ),
+    (
+        "check",
+        "Take one message, give what it and its surrogate count",
     ),
     ("pop", "Serve one POP3 session"),
     ("smtp", "Serve one SMTP session"),
@@ -31,6 +35,7 @@ const COMMANDS: [(&str, &str); 8] = [
         "Add the account of the words ADDRESS and PASSWORD",
     ),
     ("domain", "Make the domain of the word DOMAIN local"),
+    ("gen", "Make N messages and serve them to two clients"),
     ("help", "Give this text"),
 ];
 

@@ -196,12 +196,14 @@ fn the_text_of_help(rt: HostRuntime) -> Result<(), Fail> {
         \n\
         Commands:\n\
         \x20 downgrade  Take one message, give its surrogate in ASCII headers\n\
+        \x20 check      Take one message, give what it and its surrogate count\n\
         \x20 pop        Serve one POP3 session\n\
         \x20 smtp       Serve one SMTP session\n\
         \x20 imap       Serve one IMAP session\n\
         \x20 serve      Serve ROLE (pop, smtp or imap) on PORT of 127.0.0.1, N connections\n\
         \x20 account    Add the account of the words ADDRESS and PASSWORD\n\
         \x20 domain     Make the domain of the word DOMAIN local\n\
+        \x20 gen        Make N messages and serve them to two clients\n\
         \x20 help       Give this text\n";
     assert!(rt; given(alloc, &wire)?.as_slice() == text.as_bytes());
     Ok(())

@@ -1,6 +1,6 @@
-"""Real clients of `serve imap`: Python's imaplib, curl, mbsync and getmail fetch a mailbox, and Python's `email` reads what they get.
+"""Real clients of `serve imap`: Python's imaplib, curl, mbsync, getmail and offlineimap fetch a mailbox, and Python's `email` reads what they get.
 
-A client that asks for parts of a message isn't among them: FETCH of sections isn't built. mutt is one."""
+What asks for parts of a message stands in imap_parts.py, and what puts mail there in imap_appends.py."""
 
 import base64
 import email
@@ -68,6 +68,31 @@ verbose = 0
 delivered_to = false
 received = false
 max_messages_per_session = {most}
+"""
+OFFLINEIMAP = """
+[general]
+accounts = one
+metadata = {folder}/offline
+
+[Account one]
+localrepository = here
+remoterepository = there
+
+[Repository here]
+type = Maildir
+localfolders = {folder}/mail
+
+[Repository there]
+type = IMAP
+remotehost = 127.0.0.1
+remoteport = {port}
+remoteuser = {user}
+remotepass = {password}
+ssl = no
+starttls = no
+usecompression = no
+auth_mechanisms = LOGIN
+folderfilter = lambda name: name == "INBOX"
 """
 
 
@@ -270,6 +295,28 @@ def by_mbsync(port, folder, tally, octets):
     tally.note("mbsync brings a flag back", faults + differs("flagged", sum(b"\\Flagged" in line for line in flags) > 0, True))
 
 
+def by_offlineimap(port, folder, tally, octets):
+    """Brings INBOX into a maildir, and a flag that was set there back. It writes fields anew; and it puts no mail on a server without SEARCH and
+    UIDPLUS."""
+    if not is_here("offlineimap"):
+        return
+    words = ["offlineimap", "-o", "-u", "quiet", "-c", write(folder, "offlineimap", OFFLINEIMAP, port)]
+    how, inbox = {"env": {**os.environ, "HOME": folder}}, os.path.join(folder, "mail", "INBOX")
+    faults = differs("offlineimap", ran(words, **how), b"")
+    found = [] if faults else [it for it, _ in in_maildir(inbox)]
+    tally.note("offlineimap fetches INBOX", faults or differs("messages", *(sorted(map(read_by_python, it)) for it in (found, as_files(octets)))))
+    if not found:
+        return
+    part, name = next((part, name) for part in ("new", "cur") for name in sorted(os.listdir(os.path.join(inbox, part))))
+    os.rename(os.path.join(inbox, part, name), os.path.join(inbox, "cur", name.partition(":2,")[0] + ":2,D"))
+    faults = differs("offlineimap again", ran(words, **how), b"")
+    client = logged_in(port)
+    client.select("INBOX", readonly=True)
+    drafts = sum(b"\\Draft" in line for line in told(client.fetch("1:*", "(FLAGS)")))
+    client.logout()
+    tally.note("offlineimap brings a flag back", faults + differs("drafts", drafts, 1))
+
+
 def read_by_python(octets):
     """Identifier, Subject and body of a message of a maildir, as Python's `email` reads it."""
     read = email.message_from_bytes(octets)
@@ -303,6 +350,8 @@ def check(program, tally):
             by_mbsync(service.port, folder, tally, shown)
             with tempfile.TemporaryDirectory() as another:
                 by_getmail(service.port, another, tally, shown)
+            with tempfile.TemporaryDirectory() as another:
+                by_offlineimap(service.port, another, tally, shown)
         place_journal(folder, mailbox([stored for _, stored in mail], ADDRESS.encode(), PASSWORD.encode()))
         with Service(program.path, folder, "imap") as changing:
             tally.note("imaplib: flags, and messages that go", flag_faults(changing.port))

@@ -132,6 +132,7 @@ def check(program, tally):
         octets, fields = case
         status, given = program.downgrade(octets)
         faults = differs("answer", (status, given), outcome([b"downgrade"], octets))
+        faults += differs("figures", program.run([b"check"], octets), outcome([b"check"], octets))
         if status != 0:
             return faults, []
         return faults + faults_of(octets, fields, given), differs("answer", program.downgrade(given), (0, given))

@@ -1,4 +1,4 @@
-"""What `dervlask downgrade` has to answer, told anew from the rules.
+"""What `dervlask downgrade` and `check` have to answer, told anew from the rules.
 
 Nothing here was taken from the program: expected values of the tests come from this file and those that it uses (blocks.py,
 trees.py, layout.py, addresses.py, parameters.py, received.py, return_path.py, recipients.py, pieces.py, tokens.py, units.py),
@@ -11,6 +11,8 @@ The rules, as far as they are built:
   block of an entity, from the outer entity inward.
 - Else it is rewritten: trees.py says which entities it has, and layout.py how a field is made. It may be Uncertain how, where a
   domain isn't ASCII (addresses.py).
+- `check` refuses as `downgrade` does, and else tells of the message with its last line ended and of its surrogate: octets of both,
+  entities, fields that differ, and whether a field isn't ASCII.
 """
 
 import re
@@ -25,12 +27,20 @@ FAULTS = (b"nul", b"bare cr", b"bare lf")
 
 def outcome(words, octets):
     """The exit status and the octets that are given, for the words of the command line and standard input."""
-    if words != [b"downgrade"]:
+    if words not in ([b"downgrade"], [b"check"]):
         return 4, b"words refused\r\n"
     try:
-        return 0, trees.surrogate(sound(octets))
+        whole = sound(octets)
+        return 0, trees.surrogate(whole) if words == [b"downgrade"] else told_of(whole)
     except Refused as fault:
         return 7, b"refused at %d: %s\r\n" % fault.args
+
+
+def told_of(octets):
+    """The lines of `check`."""
+    found = trees.Figures(octets)
+    counts = {"octets": len(octets), "served": found.served, "entities": found.entities, "rewritten": found.rewritten}
+    return "".join(f"{name} {value}\r\n" for name, value in [*counts.items(), ("utf8", "yes" if found.high else "no")]).encode()
 
 
 def sound(octets):

@@ -37,21 +37,36 @@ class Opening(NamedTuple):
 ONE_MESSAGE = Opening(None, False, False)
 
 
+class Figures:
+    """What is counted of a message: its entities, the fields that are rewritten, and those that aren't ASCII."""
+
+    def __init__(self, octets):
+        self.entities = self.rewritten = self.high = 0
+        self.served = len(entity(octets, 0, False, 1, self.block))
+
+    def block(self, fields, in_global):
+        made = [surrogate_field(raw, in_global) for raw in fields]
+        self.entities += 1
+        self.rewritten += sum(one != other for one, other in zip(made, fields))
+        self.high += sum(not raw.isascii() for raw in fields)
+        return b"".join(made)
+
+
 def surrogate(octets):
     """The surrogate of a message; or Refused, where a block has a fault."""
-    return entity(octets, 0, False, 1, surrogate_field)
+    return entity(octets, 0, False, 1, lambda fields, in_global: b"".join(surrogate_field(raw, in_global) for raw in fields))
 
 
 def check(octets):
     """Refused, where a block of the message has a fault."""
-    entity(octets, 0, False, 1, lambda raw, _: raw)
+    entity(octets, 0, False, 1, lambda fields, _: b"".join(fields))
 
 
 def entity(octets, place, in_digest, depth, rewrite):
-    """An entity that stands at this place, with its fields rewritten so, and those of the entities in it."""
+    """An entity that stands at this place, with the fields of its block rewritten so, and those of the entities in it."""
     fields, rest = read_block(octets, place)
     opening = opening_of(fields, in_digest) if depth <= DEPTH_MAX else None
-    made = b"".join(rewrite(raw, opening is not None and opening.is_global) for raw in fields)
+    made = rewrite(fields, opening is not None and opening.is_global)
     content = rest[2:]
     inner = place + len(octets) - len(content)
     if opening is None:

@@ -3,12 +3,13 @@ clients of `serve imap` that go in the middle of something."""
 
 import tempfile
 
-from journal import flags, mailbox
+from journal import flags, mailbox, message
 from outside.pop_outside import SESSION_MAX, is_slow, of_the_outside, of_words, run_long
 from outside.serve_outside import connect, heard, hang_up, talk
-from outside.smtp_outside import LINE, enough_memory, little_room
-from rows.imap_rows import ANN, BAD, BYE, CAFE_BAR, DELETED, DONE, GO, LOGIN, MESSAGE_MAX, NOT_BUILT, READY, octets_of, opened, select, sent
+from outside.smtp_outside import LINE, data_of, enough_memory, little_room
+from rows.imap_rows import ANN, BAD, BYE, CAFE_BAR, DELETED, DONE, GO, LOGIN, MESSAGE_MAX, READY, octets_of, opened, select, sent
 from support.harness import differs
+from support.moments import IN_RECORD, Moments
 from support.service import Service
 from support.talk import IMAP, answer_faults, place_journal, run_whole
 
@@ -34,12 +35,35 @@ def of_a_full_journal(program, tally):
         tally.note(f"IMAP: the session behind it, {room}", answer_faults(again, (0, IS_SELECTED + told, CAFE_BAR + record)))
 
 
+def of_full_appends(program, tally):
+    """A journal without room for a message has a prefix of its record, which the next session cuts off; APPEND isn't answered."""
+    data = b"A: b\r\n\r\nx\r\n"
+    appends, record = LOGS_IN + f"a APPEND INBOX {{{len(data)}}}\r\n".encode() + data + b"\r\n" + ENDS, message(0, data)
+    heard = octets_of([READY, DONE, GO])
+    for room in (0, 1, 4, 20, len(record) - 1):
+        moments = Moments(ANN, 0, (IN_RECORD,))
+        status, given, after = run_whole(program, ANN, appends, IMAP, preexec=little_room(len(ANN) + room))
+        faults = differs("status", status, 2) + differs("replies", given, heard) + differs("size of the journal", len(after), len(ANN) + room)
+        tally.note(f"IMAP: APPEND to a journal with room for {room} octets", faults + differs("its old octets", after[: len(ANN)], ANN))
+        status, given, again = run_whole(program, after, appends, IMAP)
+        wanted = 0, heard + octets_of([DONE]) + ENDED, ANN + record
+        tally.note(f"IMAP: the session behind APPEND, {room}", answer_faults((status, given, moments.seen(again)), wanted))
+
+
 def of_sizes(program, tally):
-    """The largest literal of APPEND is taken and dropped, in as much memory as it takes."""
-    data = LINE * (MESSAGE_MAX // len(LINE))
-    given = LOGS_IN + f"a APPEND INBOX {{{len(data)}}}\r\n".encode() + data + b"\r\n" + ENDS
-    wanted = 0, octets_of([READY, DONE, GO, NOT_BUILT]) + ENDED, ANN
-    tally.note("IMAP: the largest literal", answer_faults(run_whole(program, ANN, given, IMAP, preexec=enough_memory), wanted))
+    """The largest literal of APPEND: no message, one that is kept, and one that its last CRLF makes too large."""
+    no_message, largest = LINE * (MESSAGE_MAX // len(LINE)), data_of(MESSAGE_MAX)
+    cases = [
+        ("that is no message", no_message, "a NO not a message", b""),
+        ("that is a message", largest, DONE, message(0, largest)),
+        ("that lacks its last CRLF", largest[:-2] + b"xx", "a NO too large", b""),
+    ]
+    for name, data, reply, record in cases:
+        moments = Moments(ANN, 0, (IN_RECORD,))
+        given = LOGS_IN + f"a APPEND INBOX {{{len(data)}}}\r\n".encode() + data + b"\r\n" + ENDS
+        status, heard, after = run_whole(program, ANN, given, IMAP, preexec=enough_memory)
+        wanted = 0, octets_of([READY, DONE, GO, reply]) + ENDED, ANN + record
+        tally.note(f"IMAP: the largest literal, {name}", answer_faults((status, heard, moments.seen(after)), wanted))
 
 
 def of_the_limit(program, tally):
@@ -79,6 +103,7 @@ def check(program, tally):
     of_words(program, tally, WORDS)
     of_the_outside(program, tally, IMAP, GREETING)
     of_a_full_journal(program, tally)
+    of_full_appends(program, tally)
     of_clients(program, tally)
     if is_slow(program, LINE):
         print("the largest literal and the session limit of IMAP weren't tried: this program would take minutes, as one that is built to find faults")

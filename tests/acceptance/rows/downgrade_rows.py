@@ -155,11 +155,31 @@ def of_fields():
         yield name, f"{field}\r\n\r\n".encode(), 0, "".join(line + "\r\n" for line in [*lines, ""]).encode()
 
 
+PART = "Content-Type: multipart/mixed; boundary=b\r\n\r\n--b\r\nContent-Type: message/global\r\n"
+INNER = "\r\nSubject: é\r\n\r\nt\r\n--b--\r\n"
+
+
+def of_figures():
+    """Messages, and what `check` tells of them."""
+    def row(name, text, *figures):
+        names = ("octets", "served", "entities", "rewritten", "utf8")
+        return name, text.encode(), "".join(f"{word} {figure}\r\n" for word, figure in zip(names, figures)).encode()
+
+    return [
+        row("nothing", "", 0, 0, 1, 0, "no"),
+        row("café bar", CAFE.decode(), 25, 44, 1, 1, "yes"),
+        row("a content in UTF-8, whose last line isn't ended", "A: b\r\n\r\né", 12, 12, 1, 0, "no"),
+        row("an opened message/global in a part", PART + INNER, 107, 123, 3, 2, "yes"),
+        row("the same, encoded", f"{PART}Content-Transfer-Encoding: base64\r\n{INNER}", 142, 142, 2, 0, "no"),
+    ]
+
+
 def of_words():
     return [
         ("the word down", [b"down"]),
         ("no word", []),
         ("two words", [b"downgrade", b"downgrade"]),
+        ("the words downgrade and check", [b"downgrade", b"check"]),
         ("an empty word", [b""]),
         ("capitals", [b"Downgrade"]),
         ("a space behind", [b"downgrade "]),
@@ -203,6 +223,9 @@ def check(program, tally):
         tally.note(f"{name}, as the oracle has it", differs("oracle", outcome([b"downgrade"], octets), (status, wanted)))
         found, given = program.downgrade(octets)
         tally.note(name, differs("status", found, status) + differs("octets", given, wanted))
+        tally.note(f"{name}, check", differs("answer", program.run([b"check"], octets), outcome([b"check"], octets)))
+    for name, octets, lines in of_figures():
+        tally.note(f"{name}, check", differs("answer", program.run([b"check"], octets), (0, lines)))
     for name, words in of_words():
         found = program.run(words, CAFE)
         tally.note(name, differs("answer", found, WORDS_REFUSED))

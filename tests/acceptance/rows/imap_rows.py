@@ -1,17 +1,18 @@
 """Rows of IMAP that are written out: a journal and exchanges, and the records that the session brings.
 
-An exchange is what the client sends, a line or octets, and the lines of the reply that is due then."""
+An exchange is what the client sends, a line or octets, and the reply that is due then, as lines or octets."""
 
 from journal import account, domain, expunge, flags, folder, journal, mailbox, message
 from rows.downgrade_rows import CAFE
 from support.harness import in_lanes
+from support.moments import IN_RECORD, Moments
 from support.talk import IMAP, all_cuts, answer_faults, cut_at, joined, run_cut
 
 COMMAND_MAX = 65_536
 MESSAGE_MAX = 33_554_432
 SEEN, ANSWERED, FLAGGED, DELETED, DRAFT = 1, 2, 4, 8, 16
 READY, DONE, BYE = "* OK IMAP4rev1 ready", "a OK done", "* BYE bye"
-BAD, ORDER, NOT_HERE, NOT_BUILT = "a BAD syntax", "a BAD out of order", "a NO not here", "a NO not built"
+BAD, ORDER, NOT_HERE = "a BAD syntax", "a BAD out of order", "a NO not here"
 NO_FOLDER, NO_MESSAGE, READ_ONLY, TOO_LONG = "a NO no such folder", "a BAD no such message", "a NO read only", "* BYE line too long"
 GO = "+ go"
 CAPABILITY = "* CAPABILITY IMAP4rev1 ENABLE UTF8=ACCEPT"
@@ -63,6 +64,10 @@ def octets_of(lines):
 
 def sent(said):
     return said if isinstance(said, bytes) else octets_of([said])
+
+
+def replied(replies):
+    return replies if isinstance(replies, bytes) else octets_of(replies)
 
 
 def of_sessions():
@@ -177,11 +182,6 @@ def of_fetches():
             b""),
         ("an empty folder", ANN, [LOGIN, select(0, 1), fetch("* FLAGS"), ("a FETCH 1:* FLAGS", [NO_MESSAGE]), ("a FETCH 1 FLAGS", [NO_MESSAGE]),
             fetch("1:* FLAGS", words="UID FETCH"), ("a EXPUNGE", [DONE])], b""),
-        ("items that aren't built", CAFE_BAR, [LOGIN, select(1, 2),
-            *refused(NOT_BUILT, [f"FETCH 1 {item}" for item in ("ENVELOPE", "BODY", "BODYSTRUCTURE", "ALL", "FULL", "RFC822.HEADER", "RFC822.TEXT",
-            "BODY[TEXT]",
-            "(FLAGS BODY.PEEK[HEADER.FIELDS (subject)])", "BODY[1.2.MIME]", "BODY[]<0.7>", "BODY.PEEK[1]")]), fetch("1 FLAGS", "1 FETCH (FLAGS ())")],
-            b""),
         ("messages of one mailbox alone", FOUR + account(b"bob@example.org", b"pw") + message(1, b"A: b\r\n"),
             [("a LOGIN bob@example.org pw", [DONE]), select(1, 2), fetch("1:* RFC822.SIZE", "1 FETCH (RFC822.SIZE 6)")], b""),
     ]
@@ -215,22 +215,6 @@ def of_changes():
     ]
 
 
-def of_appends():
-    """APPEND, which isn't built: its literals are asked for and dropped."""
-    data = b"A: b\r\n\r\nx\r\n"
-    size = len(data)
-    return [
-        ("APPEND", ANN, [LOGIN, (f"a APPEND INBOX {{{size}}}", [GO]), (data + b"\r\n", [NOT_BUILT]),
-            ('a APPEND x (\\Seen) "01-Jan-1970 00:00:00 +0000" {0}', [GO]), (b"\r\n", [NOT_BUILT])], b""),
-        ("APPEND of UTF-8", ANN, [LOGIN, ENABLE, (f"a APPEND INBOX UTF8 (~{{{size}}}", [GO]), (data + b")\r\n", [NOT_BUILT])], b""),
-        ("APPEND before the login", ANN, [(f"a APPEND INBOX {{{size}}}", [GO]), (data + b"\r\n", [ORDER])], b""),
-        ("an octet behind APPEND's data that is wrong", ANN, [LOGIN, (f"a APPEND INBOX {{{size}}}", [GO]), (data + b"x\r\n", [BAD]), ("a NOOP", [DONE])],
-            b""),
-        ("APPEND of too much, in any state", ANN, [(f"a APPEND INBOX {{{MESSAGE_MAX + 1}}}", ["a NO too large"]), LOGIN,
-            (f"a APPEND INBOX {{{MESSAGE_MAX + 1}}}", ["a NO too large"]), ("a NOOP", [DONE])], b""),
-    ]
-
-
 def of_limits():
     """The form of lines, and commands of 65,536 octets."""
     refusal = b"a LOGIN x " + b"y" * (COMMAND_MAX - 12) + b"\r\n"
@@ -250,35 +234,41 @@ def of_limits():
 
 
 def rows():
-    """Name, journal, octets of the client, what is due behind which of them, and the records."""
-    for name, before, exchanges, records in [*of_sessions(), *of_logins(), *of_folders(), *of_fetches(), *of_changes(), *of_appends(), *of_limits()]:
+    return played([*of_sessions(), *of_logins(), *of_folders(), *of_fetches(), *of_changes(), *of_limits()])
+
+
+def played(written):
+    """Name, journal, octets of the client, what is due behind which of them, and the records, of rows that are written out."""
+    for name, before, exchanges, records in written:
         octets, due = b"", [(0, octets_of([READY]))]
         for said, replies in exchanges:
             octets += sent(said)
-            due += [(len(octets), octets_of(replies))] if replies else []
+            due += [(len(octets), replied(replies))] if replies else []
         yield name, before, octets, due, records
 
 
-def check_rows(program, tally):
+def check_rows(program, tally, cases):
+    """The date that is kept where none is given is that of the first second of 1970 in the rows."""
+
     def one(row):
         _, before, octets, due, records = row
-        return all_cuts(program, before, octets, (0, joined(due), before + records), due, [1], IMAP)
+        moments = Moments(before, 0, (IN_RECORD,))
+        return all_cuts(program, before, octets, (0, joined(due), before + records), due, [1], IMAP, moments.seen, moments.shown)
 
-    cases = list(rows())
     for row, faults in zip(cases, in_lanes(one, cases)):
         tally.note(f"IMAP: {row[0]}", faults)
 
 
-def check_every_cut(program, tally):
-    """Some rows in two pieces, cut at each place."""
-    chosen = {"LOGIN by literals", "CREATE", "EXPUNGE, whose numbers close up", "APPEND", "BODY[] sets Seen, once"}
-    for name, before, octets, due, records in rows():
+def check_every_cut(program, tally, cases, chosen):
+    """The chosen rows in two pieces, cut at each place."""
+    for name, before, octets, due, records in cases:
         if name not in chosen:
             continue
 
         def one(place):
-            *found, faults = run_cut(program, before, cut_at(octets, [place]), due, IMAP)
-            return faults or answer_faults(found, (0, joined(due), before + records))
+            moments = Moments(before, 0, (IN_RECORD,))
+            status, given, after, faults = run_cut(program, before, cut_at(octets, [place]), due, IMAP, moments.shown)
+            return faults or answer_faults((status, moments.shown(given), moments.seen(after)), (0, joined(due), before + records))
 
         places = list(range(1, len(octets)))
         for place, faults in zip(places, in_lanes(one, places)):
@@ -286,5 +276,6 @@ def check_every_cut(program, tally):
 
 
 def check(program, tally):
-    check_rows(program, tally)
-    check_every_cut(program, tally)
+    cases = list(rows())
+    check_rows(program, tally, cases)
+    check_every_cut(program, tally, cases, {"LOGIN by literals", "CREATE", "EXPUNGE, whose numbers close up", "BODY[] sets Seen, once"})

@@ -14,7 +14,7 @@ BAD = bytes.fromhex("4D41494C4A4E4C310000000109")
 EXISTS, NO_DOMAIN = (9, b"exists\r\n"), (9, b"no such domain\r\n")
 DONE = (0, b"")
 TEXT_MAX = 65_536
-COMMANDS = [b"downgrade", b"pop", b"smtp", b"imap", b"serve", b"account", b"domain", b"help"]
+COMMANDS = [b"downgrade", b"check", b"pop", b"smtp", b"imap", b"serve", b"account", b"domain", b"gen", b"help"]
 
 
 def words_of(*words):

@@ -1,8 +1,8 @@
 """The dates that the program writes into a journal, which nobody knows before: they are replaced by those of another moment.
 
-A record that a session appends has its moment once or twice: a message as the date of the record and in its line Received, an
-entry of the queue in its line Received. All dates of one form have the same length, so no other octet of a journal depends on
-them."""
+A record that a session appends has its moment once or twice: a message as the date of the record and in the line Received that SMTP
+writes, an entry of the queue in its line Received. IMAP shows the date of a record that it wrote. All dates of one form have the same
+length, so no other octet of a journal or of a reply depends on them."""
 
 import calendar
 import re
@@ -12,6 +12,7 @@ from oracle.pop_store import FIRST_OCTETS, Fields, NoRecord
 
 MESSAGE, QUEUE = 4, 7
 IN_RECORD, IN_FIELD = "%d-%b-%Y %H:%M:%S +0000", "%a, %d %b %Y %H:%M:%S +0000"
+SHOWN = re.compile(rb'INTERNALDATE "([^"\r\n]{26})"')
 RECEIVED = re.compile(rb"(?:Return-Path: <[^\r\n]*>\r\n)?Received: from [^\r\n]* with [^\r\n;]*; ([^\r\n]*)\r\n")
 
 
@@ -20,10 +21,11 @@ def written(form, seconds):
 
 
 class Moments:
-    """What is appended to a journal from now on has a moment from now on."""
+    """What is appended to a journal from now on has a moment from now on: SMTP's messages in two forms, IMAP's in that of a record."""
 
-    def __init__(self, before, seconds):
+    def __init__(self, before, seconds, forms=(IN_RECORD, IN_FIELD)):
         self.known, self.seconds, self.begun = end_of_records(before or b""), seconds, int(time.time())
+        self.forms = forms
 
     def seen(self, journal):
         """The journal as it would be at the other moment. A record that has a wrong date stays as it is."""
@@ -32,13 +34,21 @@ class Moments:
         return journal[: self.known] + b"".join(map(self.dated, records_of(journal[self.known :])))
 
     def dated(self, record):
-        places = list(dates_of(record))
+        places = [place for place in dates_of(record) if place[2] in self.forms]
         moments = {seconds_of(record[begin:end], form) for begin, end, form in places}
-        if len(moments) != 1 or None in moments or not self.begun <= max(moments) <= time.time():
+        if len(moments) != 1 or not self.is_ours(*moments):
             return record
         for begin, end, form in places:
             record = record[:begin] + written(form, self.seconds) + record[end:]
         return record
+
+    def shown(self, reply):
+        """A reply as it would be at the other moment."""
+        return SHOWN.sub(lambda it: it[0].replace(it[1], written(IN_RECORD, self.seconds)) if self.is_ours(seconds_of(it[1], IN_RECORD)) else it[0], reply)
+
+    def is_ours(self, moment):
+        """Whether this is a moment of the run."""
+        return moment is not None and self.begun <= moment <= time.time()
 
 
 def end_of_records(journal):

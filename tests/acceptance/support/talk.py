@@ -101,8 +101,12 @@ def run_whole(program, journal, octets, word=POP, **how):
         return status, given, read_journal(path)
 
 
-def run_cut(program, journal, pieces, due=(), word=POP):
-    """The same for an input in pieces, and what is wrong with the replies on the way.
+def as_it_is(octets):
+    return octets
+
+
+def run_cut(program, journal, pieces, due=(), word=POP, shown=as_it_is):
+    """The same for an input in pieces, and what is wrong with the replies on the way, which are compared as they are `shown`.
 
     `due` has replies, each with the count of octets behind which it has to come without further input."""
     talk, sent, faults, due = Talk(program, journal, word), 0, [], list(due)
@@ -112,7 +116,7 @@ def run_cut(program, journal, pieces, due=(), word=POP):
         sent += len(piece)
         while due and due[0][0] <= sent:
             wanted += due.pop(0)[1]
-        heard = talk.wait(len(wanted))
+        heard = shown(talk.wait(len(wanted)))
         if heard != wanted and not faults:
             faults = [f"behind {sent} octets {fault}" for fault in differs("replies", heard, wanted)]
             break
@@ -145,20 +149,16 @@ def answer_faults(found, wanted):
     return [fault for what, one, other in parts for fault in differs(what, one, other)]
 
 
-def as_it_is(journal):
-    return journal
-
-
-def all_cuts(program, journal, octets, wanted, due, sizes, word=POP, seen=as_it_is):
+def all_cuts(program, journal, octets, wanted, due, sizes, word=POP, seen=as_it_is, shown=as_it_is):
     """What is wrong with a session that comes whole, in pieces of these sizes, and in those that end where a reply is due.
 
-    The journals that are found are compared as they are `seen`."""
+    The journals that are found are compared as they are `seen`, and the replies as they are `shown`."""
 
     def faults_of(status, given, after):
-        return answer_faults((status, given, seen(after)), wanted)
+        return answer_faults((status, shown(given), seen(after)), wanted)
 
     faults = [f"whole: {fault}" for fault in faults_of(*run_whole(program, journal, octets, word))]
     for how, pieces in (("cut", cut(octets, sizes)), ("command by command", cut_at(octets, [count for count, _ in due]))):
-        *found, on_the_way = run_cut(program, journal, pieces, due, word)
+        *found, on_the_way = run_cut(program, journal, pieces, due, word, shown)
         faults += [f"{how}: {fault}" for fault in on_the_way or faults_of(*found)]
     return faults and [*faults, f"input: {show(octets)}", f"sizes: {sizes}"]

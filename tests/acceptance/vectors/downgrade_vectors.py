@@ -1,5 +1,5 @@
-"""Vectors that an independent reference wrote: fields with their made fields, and messages with their surrogates. Where a
-domain is one of which the oracle can't tell the A-label form, the vector alone is held to the answer."""
+"""Vectors that an independent reference wrote: fields with their made fields, and messages with their surrogates and what `check`
+tells of them. Where a domain is one of which the oracle can't tell the A-label form, the vector alone is held to the answer."""
 
 import json
 import os
@@ -18,24 +18,29 @@ def lines_of(path):
         return [json.loads(line) for line in file]
 
 
+DOWNGRADE, CHECK = [b"downgrade"], [b"check"]
+
+
 def fields(folder):
     """Messages of two fields, the second of every kind."""
     for number, vector in enumerate(lines_of(os.path.join(folder, "fields.jsonl"))):
         before, made_before = GLOBAL if vector["global"] else CLOSED
         raw, made = vector["raw"].encode(), vector["made"].encode()
-        yield f"fields.jsonl, line {number + 1}", before + raw + b"\r\n", (0, made_before + made + b"\r\n")
+        yield f"fields.jsonl, line {number + 1}", DOWNGRADE, before + raw + b"\r\n", (0, made_before + made + b"\r\n")
 
 
 def messages(folder):
-    """Whole messages."""
+    """Whole messages, by both commands."""
     for number, vector in enumerate(lines_of(os.path.join(folder, "messages.jsonl"))):
-        yield f"messages.jsonl, line {number + 1}", bytes.fromhex(vector["message"]), (vector["status"], bytes.fromhex(vector["downgrade"]))
+        octets, answers = bytes.fromhex(vector["message"]), (bytes.fromhex(vector["downgrade"]), vector["check"].encode())
+        for words, answer in zip((DOWNGRADE, CHECK), answers):
+            yield f"messages.jsonl, line {number + 1}, {words[0].decode()}", words, octets, (vector["status"], answer)
 
 
-def by_oracle(octets):
+def by_oracle(words, octets):
     """The answer that the oracle has, or None where it is uncertain."""
     try:
-        return outcome([b"downgrade"], octets)
+        return outcome(words, octets)
     except Uncertain:
         return None
 
@@ -43,15 +48,15 @@ def by_oracle(octets):
 def check(program, tally, folder):
     def one(case):
         """Whether the oracle could tell, and what is wrong."""
-        _, octets, wanted = case
-        answer, told = program.downgrade(octets), by_oracle(octets)
+        _, words, octets, wanted = case
+        answer, told = program.run(words, octets), by_oracle(words, octets)
         faults = differs("answer, as the oracle has it", answer, told) if told else []
         return told is not None, faults + differs("answer", answer, wanted)
 
     for name, cases in (("fields.jsonl", list(fields(folder))), ("messages.jsonl", list(messages(folder)))):
         answers = in_lanes(one, cases)
         for case, (_, faults) in zip(cases, answers):
-            tally.note(case[0], [*faults, f"message: {case[1]!r}"] if faults else [])
+            tally.note(case[0], [*faults, f"message: {case[2]!r}"] if faults else [])
         uncertain = sum(not is_told for is_told, _ in answers)
-        print(f"vectors: {len(cases)} of {name} were run")
-        print(f"vectors: {uncertain} of {name} have a domain of which the oracle tells no A-label form, and the vector alone was asked")
+        print(f"vectors: {len(cases)} runs on {name}")
+        print(f"vectors: {uncertain} of these have a domain of which the oracle tells no A-label form, and the vector alone was asked")

@@ -1,5 +1,8 @@
 use Rattle.mail_command.proofs.command.run.Goals as goal
 
+pub returns-clause-generates : goal.returns-clause-generates
+returns-clause-generates g c = rw c.status_after.ensures c.work.ensures.generates
+
 pub returns-clause-session : goal.returns-clause-session
 returns-clause-session g c = rw c.status_after.ensures c.work.ensures.session
 

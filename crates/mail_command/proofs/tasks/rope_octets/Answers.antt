@@ -2,7 +2,7 @@ use Rattle.std.proofs.Common.{◌∙◌}
 use Rattle.surrogate_rope.specs.Ropes.{octets_of, size_of}
 use Rattle.surrogate_rope.proofs.RopeSizes.{rope_size}
 use Rattle.mail_command.proofs.RopeLemmas.{read_whole}
-use Rattle.mail_command.proofs.downgrading.rope_octets.Goals as goal
+use Rattle.mail_command.proofs.tasks.rope_octets.Goals as goal
 
 pub returns : goal.returns
 returns c =

@@ -1,21 +1,32 @@
-//! The command `downgrade`.
+//! The commands of one message: `downgrade` and `check`.
 ghost use Rattle.std.specs.Prelude.{◌≡◌, ◌≢◌, Err, IfOk, OnErr};
 ghost use Rattle.mail_wire.specs.Moves.{HasWireCause};
+ghost use Rattle.mime_tree.specs.Tree.{HasTree};
 ghost use Rattle.surrogate_rope.specs.Ropes.{IsRopeOf, octets_of};
-ghost use Rattle.mail_command.specs.Outcome.{DowngradeOutcome, refusal_line, fault_line};
+ghost use Rattle.mail_command.specs.Outcome.{IsGivenBy, Outcome, fault_line, refusal_line};
 ghost use Rattle.setup_command.specs.Running.{IsBrokenOff};
 ghost use Rattle.mail_command.specs.Running.{AnswersAll, BreaksOff};
 
+use crate::figures::{figures_of, figures_text};
 use crate::lines::{Reply, refusal_line};
 use crate::taking::take_up_to;
 use mail_wire::{Fault, Memory, Octets, Wire, give_all};
-use mime_tree::{TreeFault, complete, read_tree};
+use mime_tree::{Tree, TreeFault, complete, read_tree};
 use setup_command::{DONE, MESSAGE_REFUSED};
 use std::alloc::Global;
 use surrogate_rope::Rope;
 
 /// The most octets of a message: 32 MiB.
 pub const MESSAGE_MAX: usize = kept_mail::MESSAGE_MAX as usize;
+
+/// What is done with one message.
+#[derive(Clone, Copy)]
+pub enum Task {
+    /// Its surrogate is given.
+    Downgrade,
+    /// It is told what the message and its surrogate count.
+    Check,
+}
 
 // A message is refused at this place.
 fn refused(alloc: Global, at: usize, reason: &[u8]) -> Result<Reply, Memory>
@@ -52,9 +63,21 @@ fn rope_octets(alloc: Global, msg: &[u8], rope: &Rope) -> Result<Octets, Memory>
     Ok(Octets::from_vec(octets))
 }
 
-/// What `downgrade` comes to on these octets.
-pub fn downgrade(alloc: Global, octets: Octets) -> Result<Reply, Memory>
-    ensures { IfOk result (λ reply. DowngradeOutcome octets reply.status reply.given) }
+// What is given of a message.
+fn given_by(alloc: Global, task: Task, msg: &[u8], tree: &Tree) -> Result<Octets, Memory>
+    requires { HasTree msg.now tree.now.entities }
+    ensures { IfOk result (IsGivenBy task msg.now) }
+{
+    let rope = Rope::build(alloc, msg, tree)?;
+    match task {
+        Task::Downgrade => rope_octets(alloc, msg, &rope),
+        Task::Check => figures_text(alloc, &figures_of(msg, tree, &rope)),
+    }
+}
+
+/// What the task comes to on these octets.
+pub fn reply_of(alloc: Global, task: Task, octets: Octets) -> Result<Reply, Memory>
+    ensures { IfOk result (λ reply. Outcome task octets reply.status reply.given) }
 {
     if octets.len() > MESSAGE_MAX {
         return refused(alloc, MESSAGE_MAX, b"too large");
@@ -65,24 +88,23 @@ pub fn downgrade(alloc: Global, octets: Octets) -> Result<Reply, Memory>
         Ok(tree) => tree,
         Err(fault) => return refused_fault(alloc, fault),
     };
-    let rope = Rope::build(alloc, completed.as_slice(), &tree)?;
-    let given = rope_octets(alloc, completed.as_slice(), &rope)?;
+    let given = given_by(alloc, task, completed.as_slice(), &tree)?;
     Ok(Reply {
         status: DONE,
         given,
     })
 }
 
-/// Takes one message, and gives its surrogate or why there is none.
-pub fn run_downgrade<W: Wire>(alloc: Global, wire: &mut W) -> Result<u8, Fault>
-    ensures answers { IfOk result (AnswersAll (W.tells wire.old) (W.tells wire.new)) }
+/// Takes one message, and gives what the task makes of it or why it is refused.
+pub fn run_task<W: Wire>(alloc: Global, task: Task, wire: &mut W) -> Result<u8, Fault>
+    ensures answers { IfOk result (AnswersAll task (W.tells wire.old) (W.tells wire.new)) }
     ensures fine { IfOk result (λ status. ¬ IsBrokenOff status) }
-    ensures broken_off { OnErr result (BreaksOff (W.tells wire.old) (W.tells wire.new)) }
+    ensures broken_off { OnErr result (BreaksOff task (W.tells wire.old) (W.tells wire.new)) }
     ensures cause { HasWireCause (W.tells wire.old) (W.tells wire.new) result Fault.Wire }
     ensures keeper { ¬ (result ≡ Err Fault.Keeper) }
 {
     let taken = take_up_to(alloc, wire, MESSAGE_MAX)?;
-    let reply = downgrade(alloc, taken)?;
+    let reply = reply_of(alloc, task, taken)?;
     give_all(wire, reply.given.as_slice())?;
     Ok(reply.status)
 }

@@ -1,0 +1,100 @@
+//! What `check` tells of a message.
+ghost use Rattle.std.specs.Prelude.{◌≡◌, ◌++◌, IfOk, OnOk};
+ghost use Rattle.std.specs.List.{All, list_any};
+ghost use Rattle.mail_wire.specs.Octets.{is_high};
+ghost use Rattle.mime_tree.specs.Openings.{AreFieldsWithin};
+ghost use Rattle.mime_tree.specs.Tree.{HasTree, raws_of};
+ghost use Rattle.surrogate_rope.specs.Ropes.{IsRopeOf};
+ghost use Rattle.mail_command.specs.Checking.{HasFigures, figures_text, has_high_block, number_line, utf8_line};
+
+use itoa::Buffer;
+use mail_wire::{Memory, Octets, is_ascii};
+use mime_tree::{Entity, Tree};
+use std::alloc::Global;
+use surrogate_rope::Rope;
+
+/// What is counted of a message: its octets, those of its surrogate, its entities, the fields that are made anew, and whether an
+/// octet above 127 stands in the header block of an entity.
+#[derive(Clone, Copy)]
+pub struct Figures {
+    pub octets: usize,
+    pub served: usize,
+    pub entities: usize,
+    pub rewritten: usize,
+    pub utf8: bool,
+}
+
+// Whether an octet above 127 stands in the entity's header block.
+fn is_high_block(msg: &[u8], entity: &Entity) -> bool
+    requires { AreFieldsWithin msg.now entity.now.block.fields }
+    ensures { result ≡ list_any is_high (raws_of msg.now entity.now.block) }
+{
+    for field in entity.block.fields.as_slice() {
+        if !is_ascii(&msg[field.raw.at..field.raw.at + field.raw.len]) {
+            return true;
+        }
+    }
+    false
+}
+
+// Whether an octet above 127 stands in the header block of one of the entities.
+fn has_high_block(msg: &[u8], entities: &[Entity]) -> bool
+    requires { All (λ (entity : Entity). AreFieldsWithin msg.now entity.block.fields) entities.now }
+    ensures { result ≡ has_high_block msg.now entities.now }
+{
+    for entity in entities {
+        if is_high_block(msg, entity) {
+            return true;
+        }
+    }
+    false
+}
+
+/// The figures of a message.
+pub fn figures_of(msg: &[u8], tree: &Tree, rope: &Rope) -> Figures
+    requires tree { HasTree msg.now tree.now.entities }
+    requires rope { IsRopeOf msg.now rope.now }
+    ensures { HasFigures msg.now result }
+{
+    Figures {
+        octets: msg.len(),
+        served: rope.size(),
+        entities: tree.entities.len(),
+        rewritten: rope.rewritten(),
+        utf8: has_high_block(msg, tree.entities.as_slice()),
+    }
+}
+
+/// Puts a word, a number and the end of the line last.
+pub fn push_number_line(text: &mut Octets, word: &[u8], number: u128) -> Result<(), Memory>
+    ensures { OnOk result (text.new ≡ text.old ++ number_line word.now number) }
+{
+    let mut buffer = Buffer::new();
+    text.push_slice(word)?;
+    text.push_slice(buffer.format(number).as_bytes())?;
+    text.push_slice(b"\r\n")
+}
+
+// The line that tells whether a header block has an octet above 127.
+fn utf8_line(utf8: bool) -> &'static [u8]
+    ensures { result.now ≡ utf8_line utf8 }
+{
+    if utf8 {
+        b"utf8 yes\r\n"
+    } else {
+        b"utf8 no\r\n"
+    }
+}
+
+/// The lines of the figures.
+pub fn figures_text(alloc: Global, figures: &Figures) -> Result<Octets, Memory>
+    ensures { IfOk result (λ text. text ≡ figures_text figures.now) }
+{
+    let mut text = Octets::new(alloc);
+    push_number_line(&mut text, b"octets ", figures.octets as u128)?;
+    push_number_line(&mut text, b"served ", figures.served as u128)?;
+    push_number_line(&mut text, b"entities ", figures.entities as u128)?;
+    push_number_line(&mut text, b"rewritten ", figures.rewritten as u128)?;
+    text.push_slice(utf8_line(figures.utf8))?;
+    Ok(text)
+}
