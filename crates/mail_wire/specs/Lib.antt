@@ -8,6 +8,7 @@ pub mod Message
 pub mod Causes
 pub mod Transcript
 pub mod Telling
+pub mod DialTelling
 pub mod Moves
 pub mod KeeperTelling
 pub mod Keeping

@@ -1,3 +1,4 @@
 -- What private functions answer.
 pub mod MemState
 pub mod MemKept
+pub mod MemDialled

@@ -3,6 +3,7 @@
 
 mod clock;
 mod dates;
+mod dialling;
 mod edge;
 mod faults;
 mod file_keeper;
@@ -10,6 +11,7 @@ mod framing;
 mod in_memory;
 mod items;
 mod keeping;
+mod mem_dial;
 mod mem_keeper;
 mod message;
 mod numbers;
@@ -21,6 +23,7 @@ mod words;
 
 pub use clock::{CLOCK_END, Clock, FixedClock, SystemClock};
 pub use dates::{date_text, internal_date, texts_are_one};
+pub use dialling::Dial;
 pub use edge::{StdWire, WireFailure};
 pub use faults::Faults;
 pub use file_keeper::FileKeeper;
@@ -28,6 +31,7 @@ pub use framing::{FoundLine, LINE_MAX, find_line, line_end};
 pub use in_memory::{Failure, MemWire};
 pub use items::Items;
 pub use keeping::Keeper;
+pub use mem_dial::{MemDial, MemServer};
 pub use mem_keeper::MemKeeper;
 pub use message::{MESSAGE_MAX, first_faulty, is_ended, is_message};
 pub use numbers::{are_digits, read_number};

@@ -1,8 +1,8 @@
 //! Texts, words, wires and keepers, each public call once with ample memory.
 use mail_wire::{
-    CLOCK_END, Clock, Entry, Failed, Failure, Fault, FileKeeper, FixedClock, Items, Keeper,
-    MemKeeper, MemWire, Octets, StdWire, SystemClock, WireFailure, Words, date_text, first_faulty,
-    give_all, internal_date, is_message, lines, take_piece, unfold,
+    CLOCK_END, Clock, Dial, Entry, Failed, Failure, Fault, FileKeeper, FixedClock, Items, Keeper,
+    MemDial, MemKeeper, MemServer, MemWire, Octets, StdWire, SystemClock, WireFailure, Words,
+    date_text, first_faulty, give_all, internal_date, is_message, lines, take_piece, unfold,
 };
 use std::fs::OpenOptions;
 use std::io::{self, ErrorKind, Read, Write};
@@ -251,5 +251,34 @@ fn items_stand_in_their_order(rt: HostRuntime) -> Result<(), Fail> {
     );
     let items = Items::from_vec(items.into_vec());
     assert!(rt; items.len() == 2);
+    Ok(())
+}
+
+#[test]
+fn a_dial_in_memory_keeps_what_was_said_to_a_server(rt: HostRuntime) -> Result<(), Fail> {
+    let alloc = rt.alloc();
+    let server = MemServer {
+        sends: Octets::from_slice(alloc, b"220 x\r\n")?,
+        sizes: Vec::from_slice(alloc, &[3])?,
+        failures: Vec::new(alloc),
+    };
+    let mut dial = MemDial::new(alloc, server, Vec::from_slice(alloc, &[1])?);
+    let mut wire = dial.dial("mail.example.net")?;
+    let mut buffer = [0; 8];
+    assert_eq!(rt; take_piece(&mut wire, &mut buffer), Ok(3));
+    assert_eq!(rt; give_all(&mut wire, b"QUIT\r\n"), Ok(()));
+    assert!(rt; dial.entries().is_empty());
+    dial.hand_back(wire);
+    assert!(rt;
+        matches!(dial.entries(), [Entry::Taken(taken), Entry::Given(given)]
+        if taken.as_slice() == b"220".as_slice() && given.as_slice() == b"QUIT\r\n".as_slice())
+    );
+
+    // The second call fails, and the third reaches such a server again.
+    assert!(rt; matches!(dial.dial("mail.example.net"), Err(Failed::Outside)));
+    assert_eq!(rt; dial.entries().len(), 2);
+    let again = dial.dial("mail.example.net")?;
+    dial.hand_back(again);
+    assert!(rt; dial.entries().is_empty());
     Ok(())
 }

@@ -10,8 +10,8 @@ use Rattle.mail_wire.proofs.LineLemmas.{begins, concat_lines_of, is_crlf_parts}
 use Rattle.mail_wire.proofs.DotLemmas.{dots_away, lines_of-stuffed}
 use Rattle.pop_session.specs.declared.stuffing.Place.{Place}
 use Rattle.pop_session.specs.declared.stuffing.Place.TheVariants.{LineStart, AfterCr, Within}
-use Rattle.pop_session.specs.Replies.{are_complete, missing_end, multi_line}
-use Rattle.mail_wire.specs.Dots.{stuffed, stuffed_line, unstuffed_line}
+use Rattle.pop_session.specs.Replies.{multi_line}
+use Rattle.mail_wire.specs.Dots.{stuffed, stuffed_line, unstuffed_line, are_complete, missing_end}
 use Rattle.pop_session.specs.private.Stuffing.{is_start, next_place, place_after, stuffed_from}
 use Rattle.pop_session.proofs.StuffingLemmas.{stuffed-from, stuffed_from-append, place_after-append, are_complete-from}
 

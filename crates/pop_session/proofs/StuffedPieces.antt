@@ -7,8 +7,8 @@ use Rattle.mail_wire.specs.Moves.{Gives, GivesPrefix, GivesOrFails, GoesOn}
 use Rattle.mail_wire.proofs.Moving.{Gives-trans, Gives-prefix, GivesPrefix-more, GivesPrefix-so_far, GivesOrFails-after, Gives-nil, GoesOn-nil, GoesOn-trans}
 use Rattle.pop_session.specs.declared.stuffing.Place.{Place}
 use Rattle.pop_session.specs.declared.stuffing.Place.TheVariants.{LineStart}
-use Rattle.pop_session.specs.Replies.{multi_line, missing_end, are_complete}
-use Rattle.mail_wire.specs.Dots.{stuffed}
+use Rattle.pop_session.specs.Replies.{multi_line}
+use Rattle.mail_wire.specs.Dots.{stuffed, missing_end, are_complete}
 use Rattle.pop_session.specs.private.Stuffing.{is_start, stuffed_from, place_after, PassesOn}
 use Rattle.pop_session.proofs.StuffingLemmas.{stuffed-from, stuffed_from-append, place_after-append, are_complete-from}
 

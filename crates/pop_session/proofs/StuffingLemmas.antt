@@ -8,8 +8,7 @@ use Rattle.mail_wire.proofs.LineLemmas.{is_crlf_parts}
 use Rattle.mail_wire.proofs.DotLemmas.{others_stuffed}
 use Rattle.pop_session.specs.declared.stuffing.Place.{Place}
 use Rattle.pop_session.specs.declared.stuffing.Place.TheVariants.{LineStart, AfterCr, Within}
-use Rattle.pop_session.specs.Replies.{are_complete}
-use Rattle.mail_wire.specs.Dots.{stuffed, stuffed_line}
+use Rattle.mail_wire.specs.Dots.{stuffed, stuffed_line, are_complete}
 use Rattle.pop_session.specs.private.Stuffing.{is_start, is_after_cr, next_place, place_after, stuffed_octet, stuffed_from}
 
 others_put : (x : ℕ) (lines : List (List ℕ)) → others_stuffed (put_before x lines) ≡ x ∷ others_stuffed lines

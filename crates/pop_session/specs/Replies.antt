@@ -1,24 +1,13 @@
 -- The octets of a reply (RFC 1939, 3), and what may be sent in it (RFC 6856, 2; RFC 6857).
-use Rattle.std.specs.Prelude.{◌≡◌, ℕ, ◌++◌, List, [], ◌∷◌, Bool, true, false, take, drop, if◌then◌else◌}
+use Rattle.std.specs.Prelude.{◌≡◌, ℕ, ◌++◌, List, true, take, drop}
 use Rattle.std.specs.List.{flat_map, list_all, AllByRecursion}
-use Rattle.mail_wire.specs.Dots.{stuffed}
-use Rattle.mail_wire.specs.Lines.{crlf, is_crlf}
+use Rattle.mail_wire.specs.Dots.{missing_end, stuffed}
+use Rattle.mail_wire.specs.Lines.{crlf}
 use Rattle.mail_wire.specs.Octets.{is_ascii}
 use Rattle.surrogate_rope.specs.Layout.{HasSurrogate, HasAsciiBlocks}
 use Rattle.surrogate_cache.specs.Served.{legacy, enabled, served_by}
 use Rattle.session_core.specs.Meanings.{Meanings}
 use Rattle.pop_session.specs.Machine.{ReplyPart, line, shown}
-
--- there are none, or they end in CRLF
-unfoldable pub are_complete : List ℕ → Bool
-are_complete [] = true
-are_complete (x ∷ []) = false
-are_complete (x ∷ y ∷ []) = is_crlf x y
-are_complete (x ∷ y ∷ z ∷ rest) = are_complete (y ∷ z ∷ rest)
-
--- the CRLF that the last line lacks
-abbrev pub missing_end : List ℕ → List ℕ
-missing_end octets = if are_complete octets then [] else crlf
 
 -- the octets of a message in a reply of many lines: each line stuffed, and the last one complete
 abbrev pub multi_line : List ℕ → List ℕ
