@@ -5,7 +5,7 @@ ghost use Rattle.address_lists.specs.PathPieces.{PathPieces, ServesPath, HasSome
 ghost use Rattle.address_grammar.specs.private.Views.{values_of};
 ghost use Rattle.address_grammar.specs.declared.Address.{Address};
 
-use crate::served::served;
+use crate::serving::served;
 use crate::writing::write_comments;
 use crate::written_mailboxes::push_angled;
 use address_grammar::{Address, AddressFault, Lexeme, read_lexemes, read_path};

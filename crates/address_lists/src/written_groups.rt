@@ -9,7 +9,7 @@ ghost use Rattle.address_grammar.specs.private.ListViews.{unit_values, mailbox_v
 
 use crate::ascii_texts::{are_ascii, push_comma, write_text};
 use crate::emptied::{group_units, write_emptied};
-use crate::served::are_plain;
+use crate::serving::are_plain;
 use crate::writing::{write_comments, write_phrase};
 use crate::written_mailboxes::write_mailbox;
 use address_grammar::{

@@ -11,7 +11,7 @@ ghost use Rattle.address_grammar.specs.private.Views.{values_of};
 ghost use Rattle.address_grammar.specs.private.ListViews.{mailbox_value};
 
 use crate::emptied::{mailbox_units, write_emptied};
-use crate::served::served;
+use crate::serving::served;
 use crate::writing::{push_core, split_core, write_comments};
 use address_grammar::{Address, Lexeme, Mailbox, push_address, split_at_mark};
 use mail_wire::{Memory, Octets};

@@ -92,7 +92,7 @@ multipart_ascii seen part parts is h =
 abbrev AreAsciiHeaders : List ℕ → List Outline → Type 0
 AreAsciiHeaders octets outlines = AllByRecursion (λ (outline : Outline). AreAscii (slice_range octets outline.at outline.body)) outlines
 
-header_ascii : (octets : List ℕ) (outlines : List Outline) (number : ℕ) (outline : Outline) → AreAsciiHeaders octets outlines → slice_get outlines number ≡ Some outline → AreAscii (slice_range octets outline.at outline.body)
+pub header_ascii : (octets : List ℕ) (outlines : List Outline) (number : ℕ) (outline : Outline) → AreAsciiHeaders octets outlines → slice_get outlines number ≡ Some outline → AreAscii (slice_range octets outline.at outline.body)
 header_ascii octets [] number outline h e = cc e
 header_ascii octets (first ∷ outlines) zero outline h e =
     let same : first ≡ outline = cc e in
@@ -136,7 +136,7 @@ headers_ascii octets (entity ∷ entities) have raws = (
   headers_ascii octets entities have.1 raws.1,
 )
 
-tree_ascii : (octets : List ℕ) (entities : List Entity) → HasAsciiBlocks octets → HasTree octets entities → AreAsciiHeaders octets (outlines_of entities)
+pub tree_ascii : (octets : List ℕ) (entities : List Entity) → HasAsciiBlocks octets → HasTree octets entities → AreAsciiHeaders octets (outlines_of entities)
 tree_ascii octets entities blocks tree =
     headers_ascii octets entities (tree_headers octets entities tree) (subst (HaveAsciiRaws octets) (one_tree octets blocks.entities entities blocks.tree tree) blocks.ascii)
 

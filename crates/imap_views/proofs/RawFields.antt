@@ -1,18 +1,13 @@
 -- The raw fields of a header are one list at most, and whatever the name, the first field of that name has a value.
-use Rattle.std.proofs.Common.{◌≡◌, ℕ, List, [], ◌∷◌, Bool, true, false, map, Option, Some, None, arith, refl, sym, ap, ◌∙◌, subst}
-use Rattle.std.specs.List.{AllByRecursion}
-use Rattle.std.proofs.lemmas.List.Elements.{recursion_from_All}
+use Rattle.std.proofs.Common.{◌≡◌, ℕ, List, map, Option, refl, sym, ap, ◌∙◌, subst}
 use Rattle.mail_wire.specs.Lines.{lines_of}
-use Rattle.mail_wire.specs.Octets.{is_white, same_name}
-use Rattle.mail_wire.specs.Folds.{unfolded}
 use Rattle.utf8_fields.specs.declared.block.Field.{Field}
 use Rattle.utf8_fields.specs.Block.{HasBlock, raw_of}
-use Rattle.utf8_fields.specs.Parts.{FieldParts, IsField}
-use Rattle.utf8_fields.proofs.HaveParts.{block_fields, have_parts}
 use Rattle.utf8_fields.proofs.OneBlock.{same_block}
-use Rattle.utf8_fields.proofs.TrimLemmas.{trimmed}
-use Rattle.mime_tree.specs.Openings.{IsValueWhere, IsFirstValue}
+use Rattle.mime_tree.specs.Openings.{IsFirstValue}
+use Rattle.surrogate_rope.proofs.AllSurrogates.{first_some}
 use Rattle.imap_views.specs.Fields.{HasSomeBlock, HasRaws}
+use Rattle.imap_views.proofs.HeaderLemmas.{block_within}
 
 -- the fields of a block are one list
 pub fields_once : (header : List ℕ) (fields others : List Field) (end other : ℕ) → HasBlock header fields end → HasBlock header others other → fields ≡ others
@@ -29,18 +24,5 @@ some_raws header some = (map (raw_of header) some.fields, record { fields = some
 abbrev pub HaveFirsts : List (List ℕ) → Type 0
 HaveFirsts raws = (name : List ℕ) → (value : Option (List ℕ)) × IsFirstValue name raws value
 
-value_where : (is : Bool) (body : List ℕ) (IsLater : Option (List ℕ) → Type 0) → ((value : Option (List ℕ)) × IsLater value) → (value : Option (List ℕ)) × IsValueWhere is body IsLater value
-value_where true body IsLater later = let text = trimmed is_white (unfolded body) in (Some text.0, (text.0, text.1, refl))
-value_where false body IsLater later = later
-
-firsts_of : (header : List ℕ) (fields : List Field) → AllByRecursion (λ field. IsField (raw_of header field)) fields → HaveFirsts (map (raw_of header) fields)
-firsts_of header [] are name = (None, refl)
-firsts_of header (field ∷ fields) are name =
-    let parts : FieldParts = are.0.parts in
-    let value = value_where (same_name parts.name name) parts.body (IsFirstValue name (map (raw_of header) fields)) (firsts_of header fields are.1 name) in
-    (value.0, (parts, are.0.has_parts, value.1))
-
 pub have_firsts : (header : List ℕ) (raws : List (List ℕ)) → HasRaws header raws → HaveFirsts raws
-have_firsts header raws has =
-    let are = have_parts header has.fields (block_fields header 0 has.fields has.end (omega arith) has.has_block) in
-    subst HaveFirsts (sym has.raws_are) (firsts_of header has.fields (recursion_from_All (λ field. IsField (raw_of header field)) has.fields are))
+have_firsts header raws has = subst HaveFirsts (sym has.raws_are) (λ name. first_some header name has.fields (block_within header has.fields has.end has.has_block))

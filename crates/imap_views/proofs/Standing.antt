@@ -4,17 +4,15 @@ use Rattle.std.specs.Prelude.{◌==◌, slice_range}
 use Rattle.std.specs.Option.{option_map}
 use Rattle.std.specs.List.{All, AllByRecursion, concat}
 use Rattle.std.proofs.lemmas.List.{map-append, length-map, take-append-drop, get_or_at}
-use Rattle.std.proofs.lemmas.List.Elements.{All-nil, All-cons, All-head, All-tail}
+use Rattle.std.proofs.lemmas.List.Elements.{All-nil, All-cons}
 use Rattle.std.proofs.lemmas.Option.{slice_get-map, slice_get-get_or}
 use Rattle.mail_wire.specs.Lines.{lines_of}
 use Rattle.mail_wire.proofs.AllLemmas.{all-append, all-back}
 use Rattle.utf8_fields.specs.declared.block.Block.{Block}
 use Rattle.utf8_fields.specs.declared.block.Field.{Field}
-use Rattle.utf8_fields.specs.Lines.{BeginsField, BeginsWhite}
 use Rattle.utf8_fields.specs.Block.{IsFieldAt, AreFields, EndsBlock}
 use Rattle.utf8_fields.proofs.FirstField.{field_of}
 use Rattle.utf8_fields.proofs.LineShapes.{AreLines}
-use Rattle.utf8_fields.proofs.Names.{name_below}
 use Rattle.mime_tree.specs.declared.entity.Entity.{Entity}
 use Rattle.mime_tree.specs.declared.entity.Shape.{Shape}
 use Rattle.mime_tree.specs.declared.openings.Opening.{Opening}
@@ -23,6 +21,8 @@ use Rattle.mime_tree.specs.Outlines.{outline_of, outlines_of}
 use Rattle.mime_tree.specs.Parts.{Part, parts_of, size}
 use Rattle.mime_tree.specs.Sections.{is_in, children_from}
 use Rattle.mime_tree.specs.Tree.{HasHead, IsWithInner, EntityRelation, AreParts, IsDivided, IsOpened, IsEntity, HasTree, depth_max}
+use Rattle.mime_tree.proofs.EmptyLast.{fields_filled}
+use Rattle.mime_tree.proofs.EndedLines.{IsFilled}
 use Rattle.mime_tree.proofs.Heads.{fields_size}
 use Rattle.mime_tree.proofs.InOrder.{head_places}
 use Rattle.mime_tree.proofs.InPlace.{stands_slice}
@@ -39,22 +39,6 @@ use Rattle.imap_views.specs.private.Reading.{AreStanding, IsInPlace, IsStanding}
 use Rattle.imap_views.proofs.Children.{children-append}
 
 -- ---- a header has a block of its own
-
--- the line isn't empty
-abbrev IsFilled : List ℕ → Type 0
-IsFilled line = line ≡ [] → ⊥
-
-field_filled : (n : ℕ) (line : List ℕ) → BeginsField (take n line) line → IsFilled line
-field_filled n line begins none = let some = name_below n line begins in let nothing = ap length none in absurd (omega arith)
-
-white_filled : (more : List (List ℕ)) → All BeginsWhite more → AllByRecursion IsFilled more
-white_filled [] white = tt
-white_filled (line ∷ more) white = (λ none. subst BeginsWhite none (All-head BeginsWhite line more white), white_filled more (All-tail BeginsWhite line more white))
-
-fields_filled : (lines : List (List ℕ)) (at : ℕ) (fields : List Field) (end : ℕ) → AreFields lines at fields end → AllByRecursion IsFilled lines
-fields_filled lines at [] end are = rw are.0 tt
-fields_filled lines at (field ∷ fields) end are =
-    rw are.3 (all-append IsFilled (are.0 ∷ are.1) are.2 (field_filled field.name.len are.0 are.4.begins, white_filled are.1 are.4.further) (fields_filled are.2 (at + field.raw.len) fields end are.5))
 
 -- the line that ends a block isn't empty either, and it ends the block alone, too
 end_filled : (rest : List (List ℕ)) → EndsBlock rest → AllByRecursion IsFilled (take 1 rest)

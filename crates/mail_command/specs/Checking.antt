@@ -1,18 +1,11 @@
 -- What `check` tells of a message.
 use Rattle.std.specs.Prelude.{◌≡◌, ℕ, List, ◌++◌, Bool, true, false, length, codes, decimal}
-use Rattle.std.specs.List.{list_any}
 use Rattle.mail_wire.specs.Lines.{crlf}
-use Rattle.mail_wire.specs.Octets.{is_high}
-use Rattle.mime_tree.specs.declared.entity.Entity.{Entity}
-use Rattle.mime_tree.specs.Tree.{raws_of}
+use Rattle.mime_tree.specs.Tree.{has_high_block}
 use Rattle.field_downgrade.specs.Stands.{HasFieldLayout}
 use Rattle.surrogate_rope.specs.Layout.{HasSurrogate, InEntity}
 use Rattle.surrogate_rope.specs.Ropes.{CountsChanged}
 use Rattle.mail_command.specs.declared.figures.Figures.{Figures}
-
--- an octet above 127 stands in the header block of one of the entities
-abbrev pub has_high_block : List ℕ → List Entity → Bool
-has_high_block msg entities = list_any (λ (entity : Entity). list_any is_high (raws_of msg entity.block)) entities
 
 -- The figures of a message: how many octets it has and how many its surrogate, how many entities, how many of the fields that the layout
 -- rule gives are others than the message's, and whether an octet above 127 stands in a header block.

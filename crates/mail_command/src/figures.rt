@@ -1,15 +1,12 @@
 //! What `check` tells of a message.
 ghost use Rattle.std.specs.Prelude.{◌≡◌, ◌++◌, IfOk, OnOk};
-ghost use Rattle.std.specs.List.{All, list_any};
-ghost use Rattle.mail_wire.specs.Octets.{is_high};
-ghost use Rattle.mime_tree.specs.Openings.{AreFieldsWithin};
-ghost use Rattle.mime_tree.specs.Tree.{HasTree, raws_of};
+ghost use Rattle.mime_tree.specs.Tree.{HasTree};
 ghost use Rattle.surrogate_rope.specs.Ropes.{IsRopeOf};
-ghost use Rattle.mail_command.specs.Checking.{HasFigures, figures_text, has_high_block, number_line, utf8_line};
+ghost use Rattle.mail_command.specs.Checking.{HasFigures, figures_text, number_line, utf8_line};
 
 use itoa::Buffer;
-use mail_wire::{Memory, Octets, is_ascii};
-use mime_tree::{Entity, Tree};
+use mail_wire::{Memory, Octets};
+use mime_tree::{Tree, has_high_block};
 use std::alloc::Global;
 use surrogate_rope::Rope;
 
@@ -24,32 +21,6 @@ pub struct Figures {
     pub utf8: bool,
 }
 
-// Whether an octet above 127 stands in the entity's header block.
-fn is_high_block(msg: &[u8], entity: &Entity) -> bool
-    requires { AreFieldsWithin msg.now entity.now.block.fields }
-    ensures { result ≡ list_any is_high (raws_of msg.now entity.now.block) }
-{
-    for field in entity.block.fields.as_slice() {
-        if !is_ascii(&msg[field.raw.at..field.raw.at + field.raw.len]) {
-            return true;
-        }
-    }
-    false
-}
-
-// Whether an octet above 127 stands in the header block of one of the entities.
-fn has_high_block(msg: &[u8], entities: &[Entity]) -> bool
-    requires { All (λ (entity : Entity). AreFieldsWithin msg.now entity.block.fields) entities.now }
-    ensures { result ≡ has_high_block msg.now entities.now }
-{
-    for entity in entities {
-        if is_high_block(msg, entity) {
-            return true;
-        }
-    }
-    false
-}
-
 /// The figures of a message.
 pub fn figures_of(msg: &[u8], tree: &Tree, rope: &Rope) -> Figures
     requires tree { HasTree msg.now tree.now.entities }
@@ -61,7 +32,7 @@ pub fn figures_of(msg: &[u8], tree: &Tree, rope: &Rope) -> Figures
         served: rope.size(),
         entities: tree.entities.len(),
         rewritten: rope.rewritten(),
-        utf8: has_high_block(msg, tree.entities.as_slice()),
+        utf8: has_high_block(msg, tree),
     }
 }
 

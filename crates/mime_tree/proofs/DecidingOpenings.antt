@@ -113,7 +113,7 @@ some_opening digest raws are =
     ]
 
 -- the raw octets of fields that stand in the octets are fields
-raws_each : (octets : List ℕ) (fields : List Field) → AllByRecursion (IsFieldWithin octets) fields → AreRawFields (map (raw_of octets) fields)
+pub raws_each : (octets : List ℕ) (fields : List Field) → AllByRecursion (IsFieldWithin octets) fields → AreRawFields (map (raw_of octets) fields)
 raws_each octets [] all = tt
 raws_each octets (field ∷ fields) all = (all.0.1, raws_each octets fields all.1)
 

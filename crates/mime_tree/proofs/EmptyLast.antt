@@ -37,7 +37,7 @@ further_filled : (more : List (List ℕ)) → All BeginsWhite more → AreFilled
 further_filled [] white = tt
 further_filled (line ∷ more) white = (white_filled line (All-head BeginsWhite line more white), further_filled more (All-tail BeginsWhite line more white))
 
-fields_filled : (lines : List (List ℕ)) (at : ℕ) (fields : List Field) (end : ℕ) → AreFields lines at fields end → AreFilled lines
+pub fields_filled : (lines : List (List ℕ)) (at : ℕ) (fields : List Field) (end : ℕ) → AreFields lines at fields end → AreFilled lines
 fields_filled lines at [] end are = rw are.0 tt
 fields_filled lines at (field ∷ fields) end are =
     rw are.3 (all-append IsFilled (are.0 ∷ are.1) are.2 (begins_filled (take field.name.len are.0) are.0 are.4.begins, further_filled are.1 are.4.further) (fields_filled are.2 (at + field.raw.len) fields end are.5))

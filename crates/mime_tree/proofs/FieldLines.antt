@@ -94,7 +94,7 @@ texts_of ending is (Fold w ∷ items) are =
 no_crlf : (x y : ℕ) → is_text x ≡ true → is_crlf x y ≡ false
 no_crlf x y h = grind (arith, nat_tests)
 
-text_ends_once : (text : List ℕ) → list_all is_text text ≡ true → EndsOnce (text ++ crlf)
+pub text_ends_once : (text : List ℕ) → list_all is_text text ≡ true → EndsOnce (text ++ crlf)
 text_ends_once [] all = refl
 text_ends_once (x ∷ []) all = before_once x 13 (10 ∷ []) (no_crlf x 13 (and_parts (is_text x) true all).0) refl
 text_ends_once (x ∷ y ∷ text) all =

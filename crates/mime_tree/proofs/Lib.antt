@@ -42,3 +42,4 @@ pub mod SectionLemmas
 pub mod DecidingHeads
 pub mod DecidingOpenings
 pub mod DecidingTrees
+pub mod HighLemmas

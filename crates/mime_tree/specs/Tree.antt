@@ -1,5 +1,6 @@
 -- The tree of a message's entities, from the outer entity inward (RFC 2046, 5).
 use Rattle.std.specs.Prelude.{◌≡◌, ℕ, suc, zero, ◌+◌, ◌-◌, List, [], ◌∷◌, ◌++◌, Bool, false, length, take, drop, map, Option, Some, None}
+use Rattle.std.specs.List.{list_any}
 use Rattle.mail_wire.specs.Lines.{lines_of}
 use Rattle.utf8_fields.specs.declared.block.Block.{Block}
 use Rattle.utf8_fields.specs.Block.{HasBlockIn, raw_of}
@@ -7,6 +8,7 @@ use Rattle.mime_tree.specs.declared.entity.Entity.{Entity}
 use Rattle.mime_tree.specs.declared.entity.Shape.{Shape}
 use Rattle.mime_tree.specs.declared.entity.Shape.TheVariants.{Leaf, Multipart, Message}
 use Rattle.mail_wire.specs.Message.{IsSound}
+use Rattle.mail_wire.specs.Octets.{is_high}
 use Rattle.mime_tree.specs.Parts.{Part, parts_of, size}
 use Rattle.mime_tree.specs.declared.openings.Opening.{Opening}
 use Rattle.mime_tree.specs.declared.openings.Opening.TheVariants.{Nothing, Message as OneMessage, Parts}
@@ -59,6 +61,10 @@ depth_max = 32
 -- the raw fields of a block of the message
 abbrev pub raws_of : List ℕ → Block → List (List ℕ)
 raws_of octets block = map (raw_of octets) block.fields
+
+-- an octet above 127 stands in the header block of one of the entities
+abbrev pub has_high_block : List ℕ → List Entity → Bool
+has_high_block octets entities = list_any (λ (entity : Entity). list_any is_high (raws_of octets entity.block)) entities
 
 -- An entity of the message that has `levels` levels of entities in it at most.
 unfoldable pub IsEntity : ℕ → List ℕ → EntityRelation

@@ -3,6 +3,7 @@
 
 mod completing;
 mod entity;
+mod high_blocks;
 pub mod laws;
 mod marks;
 mod message;
@@ -12,6 +13,7 @@ mod sections;
 
 pub use completing::complete;
 pub use entity::{Entities, Entity, Shape, Tree, TreeFault};
+pub use high_blocks::has_high_block;
 pub use openings::{first_value, only_word};
 pub use reading::{read_sound_tree, read_tree};
 pub use sections::Part;

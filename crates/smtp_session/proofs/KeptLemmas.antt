@@ -239,7 +239,7 @@ received-other client name date seconds of_client of_name of_date smtputf8 exten
 -- ---- what is kept
 
 -- octets that may be kept may be kept behind another field
-behind_field : (field octets : List ℕ) → IsOtherField field → IsStored octets → IsStored (field ++ octets)
+pub behind_field : (field octets : List ℕ) → IsOtherField field → IsStored octets → IsStored (field ++ octets)
 behind_field field octets other stored =
     let found = fields_before octets (field ∷ []) stored.entities stored.tree (All-from_recursion IsOtherField (field ∷ []) (other, tt)) in
     record { entities = found.0; tree = rw (append-nil field) at found.1 }

@@ -31,7 +31,7 @@ use Rattle.surrogate_rope.proofs.Weaker.{rewrites_weaker, same_weaker}
 use Rattle.surrogate_rope.proofs.BuiltRopes.{served_layout, served_stands}
 
 -- Of fields there is a first value of a name, or none has the name.
-first_some : (msg name : List ℕ) (fields : List Field) → AreFieldsWithin msg fields → (value : Option (List ℕ)) × IsFirstValue name (map (raw_of msg) fields) value
+pub first_some : (msg name : List ℕ) (fields : List Field) → AreFieldsWithin msg fields → (value : Option (List ℕ)) × IsFirstValue name (map (raw_of msg) fields) value
 first_some msg name [] are = (None, refl)
 first_some msg name (field ∷ fields) are =
     let is = (All-head (IsFieldWithin msg) field fields are).1 in

@@ -4,7 +4,7 @@ use Rattle.address_grammar.specs.private.ListViews.{mailbox_value}
 use Rattle.address_lists.specs.private.ListWriting.{IsWritableMailbox}
 use Rattle.address_lists.proofs.AddedPieces.{item_at}
 use Rattle.address_lists.proofs.ServedMailboxes.{plain_stop}
-use Rattle.address_lists.proofs.served.are_plain.Goals as goal
+use Rattle.address_lists.proofs.serving.are_plain.Goals as goal
 
 pub served-requires : goal.served-requires
 served-requires c = (item_at IsWritableMailbox mailbox_value c.args.members.now c.loop-member.member-index _ c.member-item.is c.requires c.loop-member-test.true).domain
