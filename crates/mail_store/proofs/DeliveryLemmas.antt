@@ -168,10 +168,10 @@ local-small max delivery small some = ltb-false max (length delivery.local_octet
 remote-small : (max : ℕ) (delivery : Delivery) → has_large_octets max delivery ≡ false → eqb (length delivery.remote) 0 ≡ false → length delivery.remote_octets ≤ max
 remote-small max delivery small some = ltb-false max (length delivery.remote_octets) (where_some _ _ (or_parts _ _ small).1 some)
 
-address-again : (address : Address) → IsSendable address → IsKeptAddress (address_text address)
+pub address-again : (address : Address) → IsSendable address → IsKeptAddress (address_text address)
 address-again address sendable = ((address, path_again address sendable.0), sendable.1)
 
-path-again : (path : Option Address) → IfSome path IsSendable → (path_text path ≡ []) ⊎ IsKeptAddress (path_text path)
+pub path-again : (path : Option Address) → IfSome path IsSendable → (path_text path ≡ []) ⊎ IsKeptAddress (path_text path)
 path-again None sendable = inl refl
 path-again (Some address) sendable = inr (address-again address sendable)
 

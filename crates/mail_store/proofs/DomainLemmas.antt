@@ -86,9 +86,11 @@ AreIndexes-same_locals kept i locals x same = record {
   mailboxes_is = x.mailboxes_is;
   locals_is = λ name. same name ∙ x.locals_is name;
   recipients_is = x.recipients_is;
+  open_is = x.open_is;
   domains_are_texts = x.domains_are_texts;
   folders_are_named = x.folders_are_named;
   messages_are_stored = x.messages_are_stored;
+  entries_are_kept = x.entries_are_kept;
   few = x.few;
 }
 
@@ -104,9 +106,11 @@ AreIndexes-same_mailboxes kept i mailboxes x same = record {
   mailboxes_is = λ path_of reads key. same key ∙ x.mailboxes_is path_of reads key;
   locals_is = x.locals_is;
   recipients_is = x.recipients_is;
+  open_is = x.open_is;
   domains_are_texts = x.domains_are_texts;
   folders_are_named = x.folders_are_named;
   messages_are_stored = x.messages_are_stored;
+  entries_are_kept = x.entries_are_kept;
   few = x.few;
 }
 

@@ -12,11 +12,12 @@ use Rattle.kept_mail.specs.declared.contents.Content.{Content}
 use Rattle.kept_mail.specs.declared.delivery.Delivery.{Delivery}
 use Rattle.kept_mail.specs.declared.kept.Entry.{Entry}
 use Rattle.kept_mail.specs.declared.kept.Message.{Message}
+use Rattle.kept_mail.specs.declared.kept.Recipient.{Recipient}
 use Rattle.kept_mail.specs.declared.limits.TheConstants.{THINGS_MAX}
 use Rattle.journal_records.specs.declared.records.Record.{Record}
 use Rattle.journal_records.specs.declared.records.Record.TheVariants as records
 use Rattle.kept_mail.specs.private.Chains.{AreChained}
-use Rattle.journal_records.specs.Addresses.{path_text}
+use Rattle.journal_records.specs.Addresses.{IsKeptAddress, path_text}
 use Rattle.kept_mail.specs.Deliveries.{delivered, queued, copy_for, inboxes_of, has_large_octets, has_many_things}
 use Rattle.kept_mail.specs.private.Delivering.{copied, entry_of}
 use Rattle.kept_mail.specs.Kept.{Kept, after_all, waiting}
@@ -24,9 +25,12 @@ use Rattle.kept_mail.specs.Records.{AreRecords, IsInOrder, recipient_count}
 use Rattle.journal_records.specs.Grammar.{IsDate}
 use Rattle.journal_records.specs.Spelling.{record_text}
 use Rattle.journal_records.specs.Stored.{IsStored}
+use Rattle.mail_store.specs.Changing.{IsDeliverable}
+use Rattle.mail_store.specs.Queue.{IsKeptEntry}
 use Rattle.mail_store.specs.StoreState.{StoreState, with_records, Indexes, AreIndexes, AreStored}
+use Rattle.mail_store.specs.private.Queue.{opened}
 use Rattle.mail_store.proofs.ChangeLemmas.{after_all-append, with_nothing}
-use Rattle.mail_store.proofs.DeliveryLemmas.{after-copies, copies_few, queue-room}
+use Rattle.mail_store.proofs.DeliveryLemmas.{address-again, after-copies, copies_few, path-again, queue-room}
 use Rattle.mail_store.proofs.IndexLemmas.{AreIndexes-messages, AreIndexes-entry}
 
 -- ---- where nothing is written
@@ -128,25 +132,43 @@ pub entry-few : (kept : Kept) (i : Indexes) (max : ℕ) (delivery : Delivery) (o
     → i.recipients + recipient_count (option_to_list entry) ≤ THINGS_MAX
 entry-few kept i max delivery one entry x small is e = few-recipients kept i entry x (entry-room kept max delivery one entry small is e)
 
+-- the entry of a delivery may be kept
+pub entry-kept : (store : StoreState) (delivery : Delivery) (one : Option Record) (entry : Option Entry) → IsDeliverable store delivery → option_to_list one ≡ queued delivery
+    → entry ≡ option_and_then entry_of one → IfSome entry IsKeptEntry
+entry-kept store delivery one entry d is e =
+    elim (entry-cases delivery one entry is e) [
+      | inl none ↦ rw none.1 tt
+      | inr some ↦
+          let may : IsKeptEntry (entry_made delivery) = record {
+            path = path-again delivery.path d.path;
+            addresses = All-map (λ (recipient : Recipient). IsKeptAddress recipient.address) waiting (map address_text delivery.remote)
+                (All-map IsKeptAddress address_text delivery.remote (λ k a l. address-again _ (d.addresses k a l)));
+            stored = d.remote_tree;
+          } in
+          rw some.2 may
+    ]
+
 -- ---- the indexes
 
 -- those of a store that has an entry more, where there is one
-pub indexes-entry : (kept : Kept) (i : Indexes) (entry : Option Entry) → AreIndexes kept i → IfSome entry (HasEntryRoom kept)
-    → AreIndexes (record kept { entries = kept.entries ++ option_to_list entry }) (record i { recipients = i.recipients + recipient_count (option_to_list entry) })
-indexes-entry kept i None x room =
+pub indexes-entry : (kept : Kept) (i : Indexes) (entry : Option Entry) → AreIndexes kept i → IfSome entry (HasEntryRoom kept) → IfSome entry IsKeptEntry
+    → AreIndexes (record kept { entries = kept.entries ++ option_to_list entry })
+    (record i { recipients = i.recipients + recipient_count (option_to_list entry); open_entries = i.open_entries ++ opened (length kept.entries) entry })
+indexes-entry kept i None x room may =
     let none : i.recipients + recipient_count [] ≡ i.recipients = omega arith in
-    rw (append-nil kept.entries, none) x
-indexes-entry kept i (Some entry) x room =
+    rw (append-nil kept.entries, none, append-nil i.open_entries) x
+indexes-entry kept i (Some entry) x room may =
     let count : recipient_count (entry ∷ []) ≡ length entry.recipients = omega arith in
-    rw count (AreIndexes-entry kept i entry x room.0 room.1)
+    rw count (AreIndexes-entry kept i entry x room.0 room.1 may)
 
 pub AreIndexes-delivered : (kept : Kept) (i : Indexes) (max : ℕ) (delivery : Delivery) (copies : List Message) (one : Option Record) (entry : Option Entry)
-    (messages : List Message) (entries : List Entry) (contents : List Content) (previous : List (Option ℕ)) (recipients : ℕ) → AreIndexes kept i → IsStored delivery.local_octets → IsDate delivery.date
+    (messages : List Message) (entries : List Entry) (contents : List Content) (previous : List (Option ℕ)) (recipients : ℕ) (numbers : List ℕ) → AreIndexes kept i → IsStored delivery.local_octets → IsDate delivery.date
     → (has_large_octets max delivery || has_many_things kept delivery) ≡ false → copies ≡ map (copied delivery.date delivery.local_octets) (inboxes_of kept delivery.local)
     → option_to_list one ≡ queued delivery → entry ≡ option_and_then entry_of one → messages ≡ kept.messages ++ copies → entries ≡ kept.entries ++ option_to_list entry
     → AreChained messages contents previous → length contents ≡ length i.contents → recipients ≡ i.recipients + recipient_count (option_to_list entry)
-    → AreIndexes (record kept { messages = messages; entries = entries }) (record i { contents = contents; previous = previous; recipients = recipients })
-AreIndexes-delivered kept i max delivery copies one entry messages entries contents previous recipients x tree dated small c is e m n chained count r =
+    → IfSome entry IsKeptEntry → numbers ≡ i.open_entries ++ opened (length kept.entries) entry
+    → AreIndexes (record kept { messages = messages; entries = entries }) (record i { contents = contents; previous = previous; recipients = recipients; open_entries = numbers })
+AreIndexes-delivered kept i max delivery copies one entry messages entries contents previous recipients numbers x tree dated small c is e m n chained count r may o =
     let copy = copied delivery.date delivery.local_octets in
     let inboxes = inboxes_of kept delivery.local in
     let stored : AreStored copies = subst AreStored (sym c) (record {
@@ -154,8 +176,8 @@ AreIndexes-delivered kept i max delivery copies one entry messages entries conte
       dated = All-map (λ (message : Message). IsDate message.date) copy inboxes (λ k d l. dated);
     }) in
     let first = AreIndexes-messages kept i copies contents previous x stored (copies_few kept max delivery copies small c) (subst (λ l. AreChained l contents previous) m chained) count in
-    rw (m, n, r)
-    (indexes-entry (record kept { messages = kept.messages ++ copies }) (record i { contents = contents; previous = previous }) entry first (entry-room kept max delivery one entry small is e))
+    rw (m, n, r, o)
+    (indexes-entry (record kept { messages = kept.messages ++ copies }) (record i { contents = contents; previous = previous }) entry first (entry-room kept max delivery one entry small is e) may)
 
 -- ---- what is kept
 

@@ -24,8 +24,11 @@ use Rattle.kept_mail.specs.Kept.{Kept, first_folder, first_named, change_at, set
 use Rattle.kept_mail.specs.private.Names.{kept_first, PutsName, first_name, folder_key, has_key, first_mailbox}
 use Rattle.kept_mail.specs.Records.{recipient_count}
 use Rattle.journal_records.specs.Stored.{IsStored}
+use Rattle.mail_store.specs.Queue.{IsKeptEntry, open_numbers}
 use Rattle.mail_store.specs.StoreState.{Indexes, AreIndexes, AreStored}
+use Rattle.mail_store.specs.private.Queue.{opened}
 use Rattle.kept_mail.proofs.ChainLemmas.{AreChained-folder, AreChained-same}
+use Rattle.mail_store.proofs.QueueLemmas.{kept-settled, open_numbers-push}
 use Rattle.mail_store.proofs.FolderLemmas.{and_first, and_second, and_none, bytes_differ, first_named-push_found, first_named-push_none, first_named-push_other, inbox_named, names_push}
 use Rattle.kept_mail.proofs.SameMessages.{AreSameMessages, date_of, length-same, length-change_at, octets_of, part-same}
 
@@ -110,9 +113,11 @@ AreIndexes-folder kept i after x h there named room puts = record {
   mailboxes_is = h.mailboxes_is;
   locals_is = h.locals_is;
   recipients_is = h.recipients_is;
+  open_is = h.open_is;
   domains_are_texts = h.domains_are_texts;
   folders_are_named = All-push named_well kept.folders x h.folders_are_named named;
   messages_are_stored = h.messages_are_stored;
+  entries_are_kept = h.entries_are_kept;
   few = record {
     accounts = h.few.accounts;
     domains = h.few.domains;
@@ -152,9 +157,11 @@ AreIndexes-domain kept i after name h text room puts =
       mailboxes_is = h.mailboxes_is;
       locals_is = λ (q : List ℕ). puts q ∙ ap (λ (o : Option ℕ). kept_first o name q (length kept.domains)) (h.locals_is q) ∙ ap (λ (n : ℕ). kept_first (first_name q 0 kept.domains) name q n) plain ∙ sym (first_name-push q 0 kept.domains name);
       recipients_is = h.recipients_is;
+      open_is = h.open_is;
       domains_are_texts = All-push IsDomainText kept.domains name h.domains_are_texts text;
       folders_are_named = h.folders_are_named;
       messages_are_stored = h.messages_are_stored;
+      entries_are_kept = h.entries_are_kept;
       few = record {
         accounts = h.few.accounts;
         domains = omega (arith, length-append kept.domains (name ∷ []));
@@ -249,9 +256,11 @@ AreIndexes-account kept i after a own name named h text more room puts =
           ∙ sym (first_mailbox-push path_of key 0 kept.accounts a own (address_is path_of reads a.address own text));
       locals_is = h.locals_is;
       recipients_is = h.recipients_is;
+      open_is = h.open_is;
       domains_are_texts = h.domains_are_texts;
       folders_are_named = All-push named_well kept.folders x h.folders_are_named (subst IsFolderName (sym named) inbox_named);
       messages_are_stored = h.messages_are_stored;
+      entries_are_kept = h.entries_are_kept;
       few = record {
         accounts = omega (arith, length-append kept.accounts (a ∷ []));
         domains = h.few.domains;
@@ -287,12 +296,14 @@ AreIndexes-messages kept i ms contents previous h stored room chained count = re
   mailboxes_is = h.mailboxes_is;
   locals_is = h.locals_is;
   recipients_is = h.recipients_is;
+  open_is = h.open_is;
   domains_are_texts = h.domains_are_texts;
   folders_are_named = h.folders_are_named;
   messages_are_stored = record {
     each = All-append (λ (message : Message). IsStored message.octets) kept.messages ms h.messages_are_stored.each stored.each;
     dated = All-append (λ (message : Message). IsDate message.date) kept.messages ms h.messages_are_stored.dated stored.dated;
   };
+  entries_are_kept = h.entries_are_kept;
   few = record {
     accounts = h.few.accounts;
     domains = h.few.domains;
@@ -328,9 +339,11 @@ AreIndexes-changed kept i ms h same =
       mailboxes_is = h.mailboxes_is;
       locals_is = h.locals_is;
       recipients_is = h.recipients_is;
+      open_is = h.open_is;
       domains_are_texts = h.domains_are_texts;
       folders_are_named = h.folders_are_named;
       messages_are_stored = AreStored-same kept.messages ms h.messages_are_stored same;
+      entries_are_kept = h.entries_are_kept;
       few = record {
         accounts = h.few.accounts;
         domains = h.few.domains;
@@ -348,9 +361,10 @@ abbrev width : Entry → ℕ
 width entry = length entry.recipients
 
 pub AreIndexes-entry : (kept : Kept) (i : Indexes) (e : Entry) → AreIndexes kept i → length kept.entries < THINGS_MAX
-    → recipient_count kept.entries + length e.recipients ≤ THINGS_MAX
-    → AreIndexes (record kept { entries = kept.entries ++ e ∷ [] }) (record i { recipients = i.recipients + length e.recipients })
-AreIndexes-entry kept i e h room short =
+    → recipient_count kept.entries + length e.recipients ≤ THINGS_MAX → IsKeptEntry e
+    → AreIndexes (record kept { entries = kept.entries ++ e ∷ [] })
+    (record i { recipients = i.recipients + length e.recipients; open_entries = i.open_entries ++ opened (length kept.entries) (Some e) })
+AreIndexes-entry kept i e h room short may =
     let count : recipient_count (kept.entries ++ e ∷ []) ≡ recipient_count kept.entries + length e.recipients = sum_by_push width kept.entries e in
     record {
       folder_count = h.folder_count;
@@ -362,9 +376,11 @@ AreIndexes-entry kept i e h room short =
       mailboxes_is = h.mailboxes_is;
       locals_is = h.locals_is;
       recipients_is = ap (λ (n : ℕ). n + length e.recipients) h.recipients_is ∙ sym count;
+      open_is = ap (λ (l : List ℕ). l ++ opened (length kept.entries) (Some e)) h.open_is ∙ sym (open_numbers-push kept.entries e);
       domains_are_texts = h.domains_are_texts;
       folders_are_named = h.folders_are_named;
       messages_are_stored = h.messages_are_stored;
+      entries_are_kept = All-push IsKeptEntry kept.entries e h.entries_are_kept may;
       few = record {
         accounts = h.few.accounts;
         domains = h.few.domains;
@@ -382,8 +398,9 @@ recipient_count-change_at index (e ∷ es) zero =
 recipient_count-change_at index (e ∷ es) (suc at) =
     sum_by-cons width e (change_at (without index) es at) ∙ ap (λ (n : ℕ). length e.recipients + n) (recipient_count-change_at index es at) ∙ sym (sum_by-cons width e es)
 
-pub AreIndexes-settled : (kept : Kept) (i : Indexes) (entry index : ℕ) → AreIndexes kept i → AreIndexes (record kept { entries = change_at (without index) kept.entries entry }) i
-AreIndexes-settled kept i entry index h =
+pub AreIndexes-settled : (kept : Kept) (i : Indexes) (entry index : ℕ) (numbers : List ℕ) → AreIndexes kept i → numbers ≡ open_numbers (change_at (without index) kept.entries entry)
+    → AreIndexes (record kept { entries = change_at (without index) kept.entries entry }) (record i { open_entries = numbers })
+AreIndexes-settled kept i entry index numbers h is =
     let count = recipient_count-change_at index kept.entries entry in
     record {
       folder_count = h.folder_count;
@@ -395,9 +412,11 @@ AreIndexes-settled kept i entry index h =
       mailboxes_is = h.mailboxes_is;
       locals_is = h.locals_is;
       recipients_is = h.recipients_is ∙ sym count;
+      open_is = is;
       domains_are_texts = h.domains_are_texts;
       folders_are_named = h.folders_are_named;
       messages_are_stored = h.messages_are_stored;
+      entries_are_kept = kept-settled index kept.entries entry h.entries_are_kept;
       few = record {
         accounts = h.few.accounts;
         domains = h.few.domains;
@@ -421,9 +440,11 @@ AreIndexes-locals kept i after h same = record {
   mailboxes_is = h.mailboxes_is;
   locals_is = λ (name : List ℕ). same name ∙ h.locals_is name;
   recipients_is = h.recipients_is;
+  open_is = h.open_is;
   domains_are_texts = h.domains_are_texts;
   folders_are_named = h.folders_are_named;
   messages_are_stored = h.messages_are_stored;
+  entries_are_kept = h.entries_are_kept;
   few = h.few;
 }
 
@@ -438,9 +459,11 @@ AreIndexes-names kept i after h same = record {
   mailboxes_is = h.mailboxes_is;
   locals_is = h.locals_is;
   recipients_is = h.recipients_is;
+  open_is = h.open_is;
   domains_are_texts = h.domains_are_texts;
   folders_are_named = h.folders_are_named;
   messages_are_stored = h.messages_are_stored;
+  entries_are_kept = h.entries_are_kept;
   few = h.few;
 }
 

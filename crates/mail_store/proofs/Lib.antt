@@ -1,4 +1,5 @@
 pub mod FolderLemmas
+pub mod QueueLemmas
 pub mod FlagLemmas
 pub mod IndexLemmas
 pub mod MailboxLemmas

@@ -9,6 +9,8 @@ use Rattle.mail_store.specs.declared.changing.StoreFault.{StoreFault}
 use Rattle.mail_store.specs.declared.changing.StoreFault.TheVariants as faults
 use Rattle.kept_mail.specs.declared.delivery.Delivery.{Delivery}
 use Rattle.kept_mail.specs.declared.kept.Message.{Message}
+use Rattle.kept_mail.specs.declared.kept.Entry.{Entry}
+use Rattle.kept_mail.specs.declared.kept.Recipient.{Recipient}
 use Rattle.kept_mail.specs.declared.limits.TheConstants.{RECIPIENTS_MAX}
 use Rattle.journal_records.specs.declared.records.Record.{Record}
 use Rattle.journal_records.specs.declared.records.Record.TheVariants as records
@@ -132,3 +134,12 @@ expunge_refusal kept ids = if list_all (is_live kept) ids then None else Some fa
 
 abbrev pub expunged : List ℕ → List Record
 expunged ids = map records.Expunge ids
+
+-- ---- settle
+
+-- the entry has this recipient, who isn't settled
+abbrev pub is_unsettled : Kept → ℕ → ℕ → Bool
+is_unsettled kept entry index = option_map_or (λ (one : Entry). option_map_or (λ (recipient : Recipient). recipient.waits) (slice_get one.recipients index) false) (slice_get kept.entries entry) false
+
+abbrev pub settle_refusal : Kept → ℕ → ℕ → Option StoreFault
+settle_refusal kept entry index = if is_unsettled kept entry index then None else Some faults.NoSuch

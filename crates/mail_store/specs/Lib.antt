@@ -1,5 +1,6 @@
 pub mod Opening
 pub mod Answers
+pub mod Queue
 pub mod StoreState
 pub mod Changing
 pub mod Following

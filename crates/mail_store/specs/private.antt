@@ -6,3 +6,4 @@ pub mod Accounts
 pub mod Writing
 pub mod Folders
 pub mod Appending
+pub mod Queue

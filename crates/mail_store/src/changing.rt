@@ -18,6 +18,7 @@ ghost use Rattle.mail_store.specs.Changing.{Changes, LeavesAll, IsRefusedAs, IsD
 ghost use Rattle.kept_mail.specs.Deliveries.{queued as queued_of, copy_for, inboxes_of, has_many_things, delivered, has_large_octets as has_large_octets_of};
 ghost use Rattle.mail_store.specs.declared.changing.StoreFault.TheVariants as faults;
 
+use crate::queue::{close_next, open_next};
 use crate::storing::Store;
 use crate::writing::{Named, Progress, write, write_named, write_parts};
 use address_grammar::{Address, write_address};
@@ -399,23 +400,32 @@ impl Store {
             delivery,
             parcel: &parcel,
         };
-        write_delivery(
+        open_next(&mut self.open_entries, &self.entries, &parcel.waiting.entry)?;
+        let written = write_delivery(
             keeper,
             &mut self.messages,
             &mut self.previous,
             &mut self.entries,
             &mut self.progress,
             letter,
-        )?;
-        put_parcel(
-            &mut self.contents,
-            &mut self.previous,
-            &mut self.messages,
-            &mut self.entries,
-            &mut self.recipients,
-            parcel,
         );
-        Ok(())
+        match written {
+            Ok(()) => {
+                put_parcel(
+                    &mut self.contents,
+                    &mut self.previous,
+                    &mut self.messages,
+                    &mut self.entries,
+                    &mut self.recipients,
+                    parcel,
+                );
+                Ok(())
+            }
+            Err(fault) => {
+                close_next(&mut self.open_entries, &self.entries, parcel);
+                Err(fault)
+            }
+        }
     }
 
     // What is put last for a delivery, unless it is refused.

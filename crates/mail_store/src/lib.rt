@@ -8,9 +8,11 @@ mod folders;
 mod frames;
 pub mod laws;
 mod opening;
+mod queue;
 mod storing;
 mod writing;
 
 pub use changing::StoreFault;
 pub use opening::OpenFault;
+pub use queue::{Queued, Unsettled};
 pub use storing::Store;

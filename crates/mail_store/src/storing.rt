@@ -10,6 +10,7 @@ ghost use Rattle.kept_mail.specs.Kept.{nothing, inbox_of, uid_next, listed, logg
 ghost use Rattle.kept_mail.specs.Records.{IsInOrder};
 ghost use Rattle.journal_records.specs.Stored.{IsStored};
 
+use crate::queue::{put_next, settle_open};
 use crate::writing::Progress;
 use address_grammar::Address;
 use journal_records::{
@@ -19,12 +20,12 @@ use journal_records::{
 use kept_mail::{
     Account, Content, Entry, Folder, Listed, Message, account_fits, are_too_many, folder_key,
     has_password, has_room, is_live, is_unsettled, list_back, message_fits, number_of,
-    push_reserved, put_account, put_entry, put_first, put_flags, put_folder, put_message,
-    reserve_account, reserve_folder, settle_at, take_away, waiting_entry,
+    push_reserved, put_account, put_first, put_flags, put_folder, put_message, reserve_account,
+    reserve_folder, take_away, waiting_entry,
 };
 use mail_wire::{Memory, Octets};
 use std::alloc::Global;
-use std::collections::BTreeMap;
+use std::collections::{BTreeMap, BTreeSet};
 use std::marker::Model;
 
 /// The store of a mail system.
@@ -52,6 +53,8 @@ pub struct Store {
     pub(crate) locals: BTreeMap<Vec<u8>, u32>,
     // how many recipients the queue ever had
     pub(crate) recipients: usize,
+    // the entries with a recipient who waits
+    pub(crate) open_entries: BTreeSet<u32>,
 }
 
 impl Model for Store {
@@ -105,6 +108,7 @@ impl Store {
             mailboxes: BTreeMap::new(alloc),
             locals: BTreeMap::new(alloc),
             recipients: 0,
+            open_entries: BTreeSet::new(alloc),
         }
     }
 
@@ -271,8 +275,12 @@ impl Store {
             return Err(ReadFault::NoRecord);
         }
         let entry = waiting_entry(self.alloc, path, addresses, octets)?;
-        self.entries.reserve(1)?;
-        put_entry(&mut self.entries, &mut self.recipients, Some(entry));
+        put_next(
+            &mut self.entries,
+            &mut self.open_entries,
+            &mut self.recipients,
+            Some(entry),
+        )?;
         Ok(())
     }
 
@@ -283,7 +291,7 @@ impl Store {
         if !is_unsettled(&self.entries, entry, index) {
             return Err(ReadFault::NoRecord);
         }
-        settle_at(&mut self.entries, entry, index);
+        settle_open(&mut self.entries, &mut self.open_entries, entry, index);
         Ok(())
     }
 

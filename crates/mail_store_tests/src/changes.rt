@@ -15,7 +15,7 @@ use mail_wire::{Failure, MemKeeper, Octets};
 use std::alloc::Global;
 use std::test::Fail;
 
-const SUBJECT: [u8; 19] = *b"Subject: \xc3\xa9\r\n\r\n.x\r\n";
+pub const SUBJECT: [u8; 19] = *b"Subject: \xc3\xa9\r\n\r\n.x\r\n";
 
 const DATE: [u8; 26] = *b"01-Jan-1970 00:00:00 +0000";
 
@@ -24,10 +24,10 @@ const BEGUN: [u8; 44] =
     *b"MAILJNL1\0\0\0\x0a\x02\0\0\0\x05x.org\0\0\0\x12\x01\0\0\0\x07a@x.org\0\0\0\x02pw";
 
 // The number of no call.
-const NEVER: u64 = u64::MAX;
+pub const NEVER: u64 = u64::MAX;
 
 // A keeper of these octets, whose call of this number fails when three octets went over.
-fn keeper_of(alloc: Global, octets: &[u8], call: u64) -> Result<MemKeeper, Fail> {
+pub fn keeper_of(alloc: Global, octets: &[u8], call: u64) -> Result<MemKeeper, Fail> {
     let failures = Vec::from_slice(alloc, &[Failure { call, kept: 3 }])?;
     Ok(MemKeeper::new(Octets::from_slice(alloc, octets)?, failures))
 }
@@ -140,7 +140,7 @@ fn delivery(alloc: Global, accounts: &[u32]) -> Result<Delivery, Fail>
 }
 
 // Whether the message is delivered.
-fn is_delivered(
+pub fn is_delivered(
     store: &mut Store,
     keeper: &mut MemKeeper,
     alloc: Global,

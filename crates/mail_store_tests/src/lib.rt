@@ -11,3 +11,5 @@ mod changes;
 mod folders;
 #[cfg(test)]
 mod journals;
+#[cfg(test)]
+mod queue;

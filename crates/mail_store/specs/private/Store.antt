@@ -24,6 +24,7 @@ indexes_of a = record {
   mailboxes = number_named a.mailboxes;
   locals = number_named a.locals;
   recipients = a.recipients;
+  open_entries = a.open_entries.keys;
 }
 
 abbrev pub state_of : Inside → StoreState

@@ -4,6 +4,7 @@ use Rattle.mail_store.specs.private.Store.{kept_of, indexes_of}
 use Rattle.mail_store.specs.StoreState.{StoreState}
 use Rattle.mail_store.specs.private.Adding.{with_record}
 use Rattle.mail_store.proofs.EntryLemmas.{recorded-room, indexes-entry, few-recipients}
+use Rattle.mail_store.proofs.QueueLemmas.{kept-queued}
 use Rattle.kept_mail.proofs.QueueLemmas.{refutes}
 use Rattle.mail_store.proofs.storing.Store.add_queue_record.Goals as goal
 
@@ -12,8 +13,8 @@ returns-then-not-branch c =
     let can = rw (c.as_slice.ensures, c.as_slice-2.ensures, c.as_slice-3.ensures) at c.in_ok-can_wait.ensures in
     (λ h. refutes c.if-not-branch.true (can.1 h), refl)
 
-pub put_entry-requires-clause-few : goal.put_entry-requires-clause-few
-put_entry-requires-clause-few c =
+pub put_next-requires-clause-few_recipients : goal.put_next-requires-clause-few_recipients
+put_next-requires-clause-few_recipients c =
     let can = rw (c.as_slice.ensures, c.as_slice-2.ensures, c.as_slice-3.ensures, ← c.self.view_is) at c.in_ok-can_wait.ensures in
     let room = recorded-room (kept_of c.self.inside) c.args.path c.args.addresses c.args.octets c.in_ok-entry.entry (can.0 c.if-not-branch.false) c.in_ok-entry.ensures in
     few-recipients (kept_of c.self.inside) (indexes_of c.self.inside) (Some c.in_ok-entry.entry) c.self.invariant.indexes room
@@ -21,10 +22,13 @@ put_entry-requires-clause-few c =
 pub invariant_of-self-2 : goal.invariant_of-self-2
 invariant_of-self-2 c =
     let can = rw (c.as_slice.ensures, c.as_slice-2.ensures, c.as_slice-3.ensures, ← c.self.view_is) at c.in_ok-can_wait.ensures in
-    let room = recorded-room (kept_of c.self.inside) c.args.path c.args.addresses c.args.octets c.in_ok-entry.entry (can.0 c.if-not-branch.false) c.in_ok-entry.ensures in
+    let order = can.0 c.if-not-branch.false in
+    let room = recorded-room (kept_of c.self.inside) c.args.path c.args.addresses c.args.octets c.in_ok-entry.entry order c.in_ok-entry.ensures in
+    let may = kept-queued (kept_of c.self.inside) c.args.path c.args.addresses c.args.octets c.in_ok-entry.entry order c.in_ok-entry.ensures in
+    let put = c.in_ok-put_next.ensures in
     record {
-      indexes = rw (c.put_entry.ensures.entries, c.put_entry.ensures.recipients, c.in_ok-reserve.ensures.items)
-          (indexes-entry (kept_of c.self.inside) (indexes_of c.self.inside) (Some c.in_ok-entry.entry) c.self.invariant.indexes room);
+      indexes = rw (put.entries, put.recipients, put.numbers)
+          (indexes-entry (kept_of c.self.inside) (indexes_of c.self.inside) (Some c.in_ok-entry.entry) c.self.invariant.indexes room may);
       message_bound = c.self.invariant.message_bound;
     }
 
@@ -32,5 +36,5 @@ pub returns : goal.returns
 returns c =
     let can = rw (c.as_slice.ensures, c.as_slice-2.ensures, c.as_slice-3.ensures) at c.in_ok-can_wait.ensures in (
       can.0 c.if-not-branch.false,
-      rw (c.put_entry.ensures.entries, c.in_ok-reserve.ensures.items, c.in_ok-entry.ensures) (ap (λ (s : StoreState). with_record s (records.Queue c.args.path c.args.addresses c.args.octets)) c.self.view_is),
+      rw (c.in_ok-put_next.ensures.entries, c.in_ok-entry.ensures) (ap (λ (s : StoreState). with_record s (records.Queue c.args.path c.args.addresses c.args.octets)) c.self.view_is),
     )

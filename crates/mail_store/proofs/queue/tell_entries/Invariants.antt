@@ -1,0 +1,5 @@
+use Rattle.mail_store.proofs.QueueLemmas.{IsTelling}
+use Rattle.mail_store.proofs.queue.tell_entries.Given as goal
+
+abbrev pub invariant-loop-number : goal.invariant-loop-number
+invariant-loop-number l = IsTelling l.entries l.numbers.keys l.number-iterator l.queue.items

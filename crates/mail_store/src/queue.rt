@@ -1,0 +1,257 @@
+//! The queue: the entries with a recipient who waits, and recipients that are taken off.
+ghost use Rattle.std.specs.Prelude.{◌≡◌, ◌⊎◌, ◌≤◌, ◌<◌, ◌+◌, ◌∷◌, ◌++◌, [], length, slice_get, IfOk, OnOk, OnErr, Some, false, option_map};
+ghost use Rattle.std.specs.List.{All, AllZip};
+ghost use Rattle.std.specs.Option.{option_to_list};
+ghost use Rattle.mail_wire.specs.Keeping.{HasKeeperCause};
+ghost use Rattle.journal_records.specs.Addresses.{IsAddressText, IsKeptAddress, IsTextOfAddress};
+ghost use Rattle.journal_records.specs.Spelling.{record_text as record_text_of};
+ghost use Rattle.journal_records.specs.Stored.{IsStored};
+ghost use Rattle.journal_records.specs.declared.records.Record.TheVariants as records;
+ghost use Rattle.kept_mail.specs.Kept.{change_at, without};
+ghost use Rattle.kept_mail.specs.Records.{IsUnsettled, recipient_count};
+ghost use Rattle.kept_mail.specs.declared.limits.TheConstants.{THINGS_MAX};
+ghost use Rattle.mail_store.specs.Changing.{Changes, IsRefusedAs, settle_refusal};
+ghost use Rattle.mail_store.specs.Queue.{HasPaths, IsKeptEntry, IsQueue, IsQueued, IsTextOfPath, IsUnsettledAt, is_open as is_open_of, open_numbers, places_where, waits};
+ghost use Rattle.mail_store.specs.private.Queue.{PutsUnsettled, is_opened as is_opened_of, opened};
+
+use crate::changing::StoreFault;
+use crate::storing::Store;
+use crate::writing::write;
+use address_grammar::Address;
+use journal_records::{Record, read_text, record_text};
+use kept_mail::{Entry, Parcel, Recipient, is_unsettled, put_entry, settle_at};
+use mail_wire::{Items, Keeper, Memory, Octets};
+use std::alloc::Global;
+use std::collections::BTreeSet;
+
+/// A recipient who waits: the place in the entry, and the address.
+#[derive(Debug, Drop)]
+pub struct Unsettled {
+    pub index: u32,
+    pub address: Address,
+}
+
+/// An entry of the queue: its number, its path, which is none for the null path, and the recipients who wait.
+#[derive(Debug, Drop)]
+pub struct Queued {
+    pub entry: u32,
+    pub path: Option<Address>,
+    pub unsettled: Items<Unsettled>,
+}
+
+// Whether a recipient of the entry waits.
+fn is_open(entry: &Entry) -> bool
+    ensures { result ≡ is_open_of entry.now }
+{
+    let recipients = entry.recipients.as_slice();
+    recipients.iter().any(|recipient| recipient.waits)
+}
+
+// Whether there is an entry with a recipient who waits.
+fn is_opened(entry: &Option<Entry>) -> bool
+    ensures { result ≡ is_opened_of entry.now }
+{
+    match entry {
+        Some(entry) => is_open(entry),
+        None => false,
+    }
+}
+
+/// Puts the number of the entry that comes next among those of open ones, where it is open.
+pub fn open_next(
+    numbers: &mut BTreeSet<u32>,
+    entries: &[Entry],
+    entry: &Option<Entry>,
+) -> Result<(), Memory>
+    requires numbers { numbers.old.keys ≡ open_numbers entries.now }
+    requires few { length entries.now ≤ THINGS_MAX }
+    ensures ok { OnOk result (numbers.new.keys ≡ open_numbers entries.now ++ opened (length entries.now) entry.now) }
+    ensures err { OnErr result (numbers.new.keys ≡ numbers.old.keys) }
+{
+    if is_opened(entry) {
+        numbers.insert(entries.len() as u32)?;
+    }
+    Ok(())
+}
+
+/// Takes the number of a parcel's entry back, which wasn't written.
+pub fn close_next(numbers: &mut BTreeSet<u32>, entries: &[Entry], parcel: Parcel)
+    requires numbers { numbers.old.keys ≡ open_numbers entries.now ++ opened (length entries.now) parcel.waiting.entry }
+    requires few { length entries.now ≤ THINGS_MAX }
+    ensures { numbers.new.keys ≡ open_numbers entries.now }
+{
+    if is_opened(&parcel.waiting.entry) {
+        let number = entries.len() as u32;
+        let _was = numbers.remove(&number);
+    }
+}
+
+/// Puts an entry last, and counts its recipients.
+pub fn put_next(
+    entries: &mut Vec<Entry>,
+    numbers: &mut BTreeSet<u32>,
+    recipients: &mut usize,
+    entry: Option<Entry>,
+) -> Result<(), Memory>
+    requires numbers { numbers.old.keys ≡ open_numbers entries.old.items }
+    requires few { length entries.old.items ≤ THINGS_MAX }
+    requires few_recipients { recipients.old + recipient_count (option_to_list entry) ≤ THINGS_MAX }
+    ensures entries { OnOk result (entries.new.items ≡ entries.old.items ++ option_to_list entry) }
+    ensures numbers { OnOk result (numbers.new.keys ≡ numbers.old.keys ++ opened (length entries.old.items) entry) }
+    ensures recipients { OnOk result (recipients.new ≡ recipients.old + recipient_count (option_to_list entry)) }
+    ensures same_entries { OnErr result (entries.new.items ≡ entries.old.items) }
+    ensures same_numbers { OnErr result (numbers.new.keys ≡ numbers.old.keys) }
+    ensures same_recipients { OnErr result (recipients.new ≡ recipients.old) }
+{
+    entries.reserve(1)?;
+    open_next(numbers, entries, &entry)?;
+    put_entry(entries, recipients, entry);
+    Ok(())
+}
+
+/// A recipient is done with, and the entry is open no longer where nobody of it waits.
+pub fn settle_open(entries: &mut Vec<Entry>, numbers: &mut BTreeSet<u32>, at: u32, index: u32)
+    requires unsettled { IsUnsettled (slice_get entries.old.items at) index }
+    requires numbers { numbers.old.keys ≡ open_numbers entries.old.items }
+    ensures entries { entries.new.items ≡ change_at (without index) entries.old.items at }
+    ensures numbers { numbers.new.keys ≡ open_numbers entries.new.items }
+{
+    settle_at(entries, at, index);
+    if !is_open(&entries[at as usize]) {
+        let _was = numbers.remove(&at);
+    }
+}
+
+// The address of a text that has one.
+fn address_of(alloc: Global, text: &[u8]) -> Result<Address, Memory>
+    requires { IsAddressText text.now }
+    ensures { IfOk result (IsTextOfAddress text.now) }
+{
+    match read_text(alloc, text)? {
+        Some(address) => Ok(address),
+        None => unreachable!(),
+    }
+}
+
+// The address of a path's text, and none for the null path.
+fn path_of(alloc: Global, text: &[u8]) -> Result<Option<Address>, Memory>
+    requires { (text.now ≡ []) ⊎ IsKeptAddress text.now }
+    ensures { IfOk result (IsTextOfPath text.now) }
+{
+    if text.is_empty() {
+        return Ok(None);
+    }
+    Ok(Some(address_of(alloc, text)?))
+}
+
+// Tells of a recipient, where it waits.
+fn push_unsettled(
+    alloc: Global,
+    unsettled: &mut Vec<Unsettled>,
+    index: u32,
+    recipient: &Recipient,
+) -> Result<(), Memory>
+    requires { IsAddressText recipient.now.address }
+    ensures { OnOk result (PutsUnsettled unsettled.old.items unsettled.new.items index recipient.now) }
+{
+    if !recipient.waits {
+        return Ok(());
+    }
+    let address = address_of(alloc, recipient.address.as_slice())?;
+    unsettled.push(Unsettled { index, address })?;
+    Ok(())
+}
+
+// The recipients who wait.
+fn unsettled_of(alloc: Global, recipients: &[Recipient]) -> Result<Items<Unsettled>, Memory>
+    requires few { length recipients.now ≤ THINGS_MAX }
+    requires kept { All (λ recipient. IsKeptAddress recipient.address) recipients.now }
+    ensures { IfOk result (AllZip (IsUnsettledAt recipients.now) (places_where waits 0 recipients.now)) }
+{
+    let mut unsettled = Vec::new(alloc);
+    for (index, recipient) in recipients.iter().enumerate() {
+        push_unsettled(alloc, &mut unsettled, index as u32, recipient)?;
+    }
+    Ok(Items::from_vec(unsettled))
+}
+
+// What is told of an entry.
+fn tell_entry(alloc: Global, number: u32, entry: &Entry) -> Result<Queued, Memory>
+    requires kept { IsKeptEntry entry.now }
+    requires few { length entry.now.recipients ≤ THINGS_MAX }
+    ensures { IfOk result (IsQueued number entry.now) }
+{
+    Ok(Queued {
+        entry: number,
+        path: path_of(alloc, entry.path.as_slice())?,
+        unsettled: unsettled_of(alloc, entry.recipients.as_slice())?,
+    })
+}
+
+// What is told of the open entries.
+fn tell_entries(
+    alloc: Global,
+    numbers: &BTreeSet<u32>,
+    entries: &[Entry],
+) -> Result<Items<Queued>, Memory>
+    requires numbers { numbers.now.keys ≡ open_numbers entries.now }
+    requires kept { All IsKeptEntry entries.now }
+    requires few { recipient_count entries.now ≤ THINGS_MAX }
+    ensures { IfOk result (IsQueue entries.now) }
+{
+    let mut queue = Vec::new(alloc);
+    for number in numbers {
+        let entry = &entries[*number as usize];
+        queue.push(tell_entry(alloc, *number, entry)?)?;
+    }
+    Ok(Items::from_vec(queue))
+}
+
+// The text of the record that a recipient is done with.
+fn settle_text(alloc: Global, entry: u32, index: u32) -> Result<Octets, Memory>
+    ensures { IfOk result (λ text. text ≡ record_text_of (records.Settle entry index)) }
+{
+    record_text(alloc, &Record::Settle { entry, index })
+}
+
+impl Store {
+    /// The entries with a recipient who isn't settled, in order, each with those recipients. Entries that are done with cost nothing.
+    pub fn queue(&self) -> Result<Items<Queued>, Memory>
+        ensures queue { IfOk result (IsQueue self.now.kept.entries) }
+        ensures known { IfOk result (All (λ one. one.entry < length self.now.kept.entries)) }
+        ensures paths { IfOk result (All HasPaths) }
+    {
+        tell_entries(self.alloc, &self.open_entries, &self.entries)
+    }
+
+    /// The octets of an entry.
+    pub fn queue_octets(&self, entry: u32) -> &[u8]
+        requires { entry < length self.now.kept.entries }
+        ensures octets { option_map (λ entry. entry.octets) (slice_get self.now.kept.entries entry) ≡ Some result.now }
+        ensures stored { IsStored result.now }
+    {
+        let entry = &self.entries[entry as usize];
+        entry.octets.as_slice()
+    }
+
+    /// Takes a recipient off the queue.
+    pub fn settle<J: Keeper>(
+        &mut self,
+        keeper: &mut J,
+        entry: u32,
+        index: u32,
+    ) -> Result<(), StoreFault>
+        requires works { self.old.failed ≡ false }
+        ensures changes { Changes self.old self.new (J.tells keeper.old).octets (J.tells keeper.new).octets result (records.Settle entry index ∷ []) }
+        ensures refusal { IsRefusedAs result (settle_refusal self.old.kept entry index) }
+        ensures cause { HasKeeperCause (J.tells keeper.old) (J.tells keeper.new) result StoreFault.Keeper }
+    {
+        if !is_unsettled(&self.entries, entry, index) {
+            return Err(StoreFault::NoSuch);
+        }
+        let text = settle_text(self.alloc, entry, index)?;
+        write(keeper, text.as_slice(), &mut self.progress)?;
+        settle_open(&mut self.entries, &mut self.open_entries, entry, index);
+        Ok(())
+    }
+}
