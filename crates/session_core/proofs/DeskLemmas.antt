@@ -109,6 +109,9 @@ expunged_name store ids = calls_name store (expunged ids) (expunged_domains stor
 flags_name : (store : StoreState) (id flags : ℕ) → KeepsName store ((records.Flags id flags ∷ []) ∷ [])
 flags_name store id flags = refl
 
+settle_name : (store : StoreState) (entry index : ℕ) → KeepsName store ((records.Settle entry index ∷ []) ∷ [])
+settle_name store entry index = refl
+
 folder_name : (store : StoreState) (account : ℕ) (name : List ℕ) → KeepsName store (folder_changes store account name)
 folder_name store account name = unless_name store (records.Folder account (kept_name name) ∷ []) (folder_refusal store.kept account name) refl
 
@@ -193,6 +196,11 @@ pub flags_keeps : {T : Type 0} (a : Around) (store : StoreState) (keeper : Keepe
     → IsChanged a.desk.store store a.keeper.octets keeper.octets (fault_of result) ((records.Flags id flags ∷ []) ∷ []) → HasKeeperCause a.keeper keeper result fault.Keeper → ¬ (result ≡ Err fault.Wire)
     → Keeps a (with_store a store keeper) (fault_of result)
 flags_keeps a store keeper result id flags = answered a store keeper result ((records.Flags id flags ∷ []) ∷ []) (flags_name a.desk.store id flags)
+
+pub settle_keeps : {T : Type 0} (a : Around) (store : StoreState) (keeper : KeeperTelling) (result : Result T Fault) (entry index : ℕ)
+    → IsChanged a.desk.store store a.keeper.octets keeper.octets (fault_of result) ((records.Settle entry index ∷ []) ∷ []) → HasKeeperCause a.keeper keeper result fault.Keeper → ¬ (result ≡ Err fault.Wire)
+    → Keeps a (with_store a store keeper) (fault_of result)
+settle_keeps a store keeper result entry index = answered a store keeper result ((records.Settle entry index ∷ []) ∷ []) (settle_name a.desk.store entry index)
 
 pub folder_keeps : {T : Type 0} (a : Around) (store : StoreState) (keeper : KeeperTelling) (result : Result T Fault) (account : ℕ) (name : List ℕ)
     → IsChanged a.desk.store store a.keeper.octets keeper.octets (fault_of result) (folder_changes a.desk.store account name) → HasKeeperCause a.keeper keeper result fault.Keeper → ¬ (result ≡ Err fault.Wire)

@@ -38,7 +38,7 @@ nothing_faulty at (inl nul) = nothing_stands at 0 nul
 nothing_faulty at (inr (inl cr)) = nothing_stands at 13 cr.0
 nothing_faulty at (inr (inr lf)) = nothing_stands at 10 lf.0
 
-opens_nothing : Opens false [] Nothing
+pub opens_nothing : Opens false [] Nothing
 opens_nothing = record { encoding = None; is_encoding = refl; opened = inl (tt, (None, refl, refl)) }
 
 -- the one entity of no octets

@@ -5,11 +5,11 @@ ghost use Rattle.mail_wire.specs.Keeping.{HasKeeperCause};
 ghost use Rattle.mail_wire.specs.Moves.{TakesNothing, TakesPiece};
 ghost use Rattle.journal_records.specs.Grammar.{IsFolderName, kept_name};
 ghost use Rattle.journal_records.specs.declared.records.Record.TheVariants as records;
-ghost use Rattle.mail_store.specs.Changing.{IsAppendable, IsDeliverable, append_refusal, delivery_refusal, expunged, expunge_refusal, flags_refusal, folder_refusal};
+ghost use Rattle.mail_store.specs.Changing.{IsAppendable, IsDeliverable, append_refusal, delivery_refusal, expunged, expunge_refusal, flags_refusal, folder_refusal, settle_refusal};
 ghost use Rattle.surrogate_rope.specs.Served.{IsShownOf, shown_octets};
 ghost use Rattle.surrogate_cache.specs.Served.{IsServed, HasServedHeaders};
 ghost use Rattle.session_core.specs.Around.{LeavesDesk};
-ghost use Rattle.session_core.specs.Moments.{IsTold, moment_of};
+ghost use Rattle.session_core.specs.Moments.{IsMoment, IsTold, moment_of};
 ghost use Rattle.session_core.specs.Changes.{append_changes, calls_of, came_of, changes_of, created_of, folder_changes};
 ghost use Rattle.session_core.specs.Desks.{IsOpen, stored_date, stored_octets};
 ghost use Rattle.session_core.specs.Doing.{IsChanged, Makes, Replies};
@@ -51,9 +51,10 @@ impl<'w, 'k, 'c, W: Wire, J: Keeper, C: Clock> Model for Outside<'w, 'k, 'c, W, 
     } };
 }
 
-/// The texts of a moment.
+/// A moment: the seconds since 1970, and its texts.
 #[derive(Debug, Drop)]
 pub struct Stamp {
+    pub seconds: u64,
     /// In a field of a message (RFC 5322, 3.3).
     pub date: Octets,
     /// Under which a message is kept (RFC 3501, date-time, without its quotes).
@@ -186,6 +187,27 @@ fn set_flags_in<J: Keeper>(
     }
 }
 
+// Takes a recipient off the queue who isn't settled.
+fn settle_in<J: Keeper>(
+    store: &mut Store,
+    keeper: &mut J,
+    entry: u32,
+    index: u32,
+) -> Result<(), Fault>
+    requires works { store.old.failed ≡ false }
+    requires waits { settle_refusal store.old.kept entry index ≡ None }
+    ensures changes { IsChanged store.old store.new (J.tells keeper.old).octets (J.tells keeper.new).octets (fault_of result) ((records.Settle entry index ∷ []) ∷ []) }
+    ensures cause { HasKeeperCause (J.tells keeper.old) (J.tells keeper.new) result Fault.Keeper }
+    ensures wire { ¬ (result ≡ Err Fault.Wire) }
+{
+    match store.settle(keeper, entry, index) {
+        Ok(()) => Ok(()),
+        Err(StoreFault::Keeper) => Err(Fault::Keeper),
+        Err(StoreFault::Memory) => Err(Fault::Memory),
+        Err(StoreFault::Exists | StoreFault::NoSuch | StoreFault::TooLarge) => unreachable!(),
+    }
+}
+
 // Makes a folder, or tells why it is refused.
 fn create_folder_in<J: Keeper>(
     store: &mut Store,
@@ -214,10 +236,12 @@ fn create_folder_in<J: Keeper>(
 // The texts of this moment.
 fn read_stamp<C: Clock>(alloc: Global, clock: &mut C) -> Result<Stamp, Memory>
     ensures told { IfOk result (λ stamp. IsTold (C.tells clock.old) (moment_of stamp)) }
+    ensures seconds { IfOk result (λ stamp. IsMoment stamp.seconds (moment_of stamp)) }
     ensures clock { C.tells clock.new ≡ C.tells clock.old }
 {
     let seconds = clock.now();
     Ok(Stamp {
+        seconds,
         date: date_text(alloc, seconds)?,
         internal: internal_date(alloc, seconds)?,
     })
@@ -390,6 +414,16 @@ impl<'w, 'k, 'c, W: Wire, J: Keeper, C: Clock> Outside<'w, 'k, 'c, W, J, C> {
         set_flags_in(&mut self.desk.store, self.keeper, id, flags)
     }
 
+    /// Takes a recipient off the queue.
+    pub fn settle(&mut self, entry: u32, index: u32) -> Result<(), Fault>
+        requires opens { IsOpen self.old.desk }
+        requires waits { settle_refusal self.old.desk.store.kept entry index ≡ None }
+        ensures makes { Makes self.old self.new (fault_of result) ((records.Settle entry index ∷ []) ∷ []) }
+        ensures keeps { Keeps self.old self.new (fault_of result) }
+    {
+        settle_in(&mut self.desk.store, self.keeper, entry, index)
+    }
+
     /// Makes a folder of an account. Its name is kept in NFC.
     pub fn create_folder(&mut self, account: u32, name: &str) -> Result<Created, Fault>
         requires opens { IsOpen self.old.desk }
@@ -405,6 +439,7 @@ impl<'w, 'k, 'c, W: Wire, J: Keeper, C: Clock> Outside<'w, 'k, 'c, W, J, C> {
     /// The present moment, in UTC.
     pub fn now(&mut self) -> Result<Stamp, Memory>
         ensures told { IfOk result (λ stamp. IsTold self.old.clock (moment_of stamp)) }
+        ensures seconds { IfOk result (λ stamp. IsMoment stamp.seconds (moment_of stamp)) }
         ensures same { self.new ≡ self.old }
     {
         read_stamp(self.alloc, self.clock)
