@@ -1,6 +1,6 @@
 -- APPEND, as a letter is put into its folder.
-use Rattle.std.proofs.Common.{◌≡◌, ℕ, ◌<◌, ◌≤◌, ◌==◌, Bool, true, false, ◌&&◌, ◌||◌, not, List, [], ◌∷◌, ◌++◌, length, Option, None, Some, refl, sym, ap, ◌∙◌, subst, append_assoc, append-nil, ◌⊎◌, inl, inr, arith, codes}
-use Rattle.std.specs.Prelude.{decimal, map, IfSome, if◌then◌else◌}
+use Rattle.std.proofs.Common.{◌≡◌, ℕ, ◌<◌, ◌==◌, Bool, true, false, ◌&&◌, not, List, [], ◌∷◌, ◌++◌, length, Option, None, Some, refl, sym, ap, ◌∙◌, subst, append_assoc, append-nil, inl, inr, codes}
+use Rattle.std.specs.Prelude.{decimal, IfSome, if◌then◌else◌}
 use Rattle.std.specs.List.{flat_map}
 use Rattle.std.proofs.lemmas.Bool.{and_parts, eq-eqb, eqb-true, false_from_ne_true, or_cases, or_right}
 use Rattle.std.proofs.lemmas.List.{map-append}
@@ -12,10 +12,13 @@ use Rattle.mime_tree.specs.Completing.{IsCompleted, IsLeft}
 use Rattle.journal_records.specs.Grammar.{IsDate}
 use Rattle.journal_records.specs.declared.records.Record.{Record}
 use Rattle.kept_mail.specs.Kept.{Kept, after_all, listed}
+use Rattle.kept_mail.specs.declared.kept.Listed.{Listed}
+use Rattle.kept_mail.specs.declared.limits.TheConstants.{THINGS_MAX}
 use Rattle.mail_store.specs.Changing.{append_refusal}
 use Rattle.mail_store.specs.Following.{records_of}
 use Rattle.mail_store.specs.StoreState.{StoreState}
 use Rattle.mail_store.specs.declared.changing.StoreFault.{StoreFault}
+use Rattle.mail_store.proofs.AppendLemmas.{append_free}
 use Rattle.surrogate_cache.specs.Served.{Mode, is_enabled}
 use Rattle.session_core.specs.Acts.{Act, acts_of, changes, gives}
 use Rattle.session_core.specs.Around.{Around}
@@ -24,12 +27,12 @@ use Rattle.session_core.specs.Meanings.{Meanings, WithMeanings}
 use Rattle.session_core.proofs.DoingLemmas.{Does-changes, Does-unchanged, Replies-stop}
 use Rattle.session_core.proofs.MeaningLemmas.{meanings_given}
 use Rattle.session_core.proofs.MomentLemmas.{moment_date}
-use Rattle.imap_session.specs.Machine.{State, Step, append_in, append_octets, append_unless, appended, completed, exists_lines, folder_named, is_complete, tagged}
+use Rattle.imap_session.specs.Machine.{State, Step, append_in, append_unless, appended, completed, exists_lines, folder_named, is_complete, tagged}
 use Rattle.imap_session.specs.Replies.{ReplyPart, part_octets, reply_octets}
 use Rattle.imap_session.specs.declared.appending.Letter.{Letter}
 use Rattle.imap_session.specs.declared.appending.Put.{Put}
 use Rattle.imap_session.specs.declared.appending.Put.TheVariants as put
-use Rattle.imap_session.specs.private.Appending.{IsDateFrom, letter_step, put_changes, put_lines, put_named, put_octets, put_of, put_unless, words_of_put}
+use Rattle.imap_session.specs.private.Appending.{IsBehind, IsDateFrom, WereListed, letter_step, put_changes, put_lines, put_named, put_octets, put_of, put_unless, words_of_put}
 use Rattle.imap_session.specs.private.Lines.{tagged_octets}
 use Rattle.imap_session.proofs.LineLemmas.{tagged_reply}
 use Rattle.imap_session.proofs.SelectedLemmas.{HasCounts}
@@ -221,3 +224,48 @@ letter_counts a b flags date octets came makes =
       accounts = ap (λ (store : StoreState). length store.kept.accounts) store ∙ counts.0;
       folders = ap (λ (store : StoreState). length store.kept.folders) store ∙ counts.1;
     }
+
+-- where a letter is put there was room for a message more
+abbrev HadRoom : Kept → Put → Type 0
+HadRoom kept (put.In folder) = length kept.messages < THINGS_MAX
+HadRoom kept other = Unit {0}
+
+room_if : (b : Bool) (kept : Kept) (p q : Put) → HadRoom kept p → HadRoom kept q → HadRoom kept (if b then p else q)
+room_if true kept p q one two = one
+room_if false kept p q one two = two
+
+room_unless : (store : StoreState) (folder : ℕ) (octets : List ℕ) (refused : Option StoreFault) → append_refusal store octets ≡ refused → HadRoom store.kept (put_unless folder refused)
+room_unless store folder octets None is = (append_free store octets is).1
+room_unless store folder octets (Some other) is = tt
+
+room_named : (meanings : Meanings) (mode : Mode) (store : StoreState) (in_utf8 : Bool) (octets : List ℕ) (found : Option ℕ) → HadRoom store.kept (put_named meanings mode store in_utf8 octets found)
+room_named meanings mode store in_utf8 octets None = tt
+room_named meanings mode store in_utf8 octets (Some folder) =
+    let whole = completed octets in
+    let refused = append_refusal store whole in
+    room_if (in_utf8 && not (is_enabled mode)) store.kept put.NotEnabled (put_octets (meanings.has_tree whole) store folder whole) tt
+    (room_if (meanings.has_tree whole) store.kept (put_unless folder refused) put.NoMessage (room_unless store folder whole refused refl) tt)
+
+behind_put : (kept : Kept) (flags : ℕ) (date octets : List ℕ) (came : Put) → HadRoom kept came → IsBehind kept (after_all kept (records_of (put_changes flags date octets came))) flags came
+behind_put kept flags date octets (put.In folder) room = (date, octets, refl, room)
+behind_put kept flags date octets put.NoFolder room = refl
+behind_put kept flags date octets put.NotEnabled room = refl
+behind_put kept flags date octets put.NoMessage room = refl
+behind_put kept flags date octets put.TooLarge room = refl
+
+-- the messages of the opened folder were these before
+pub letter_were : (a b : Around) (mode : Mode) (account : ℕ) (letter : Letter) (date : List ℕ) (opened : ℕ) (messages : List Listed) (came : Put) → messages ≡ listed a.desk.store.kept opened
+    → WithMeanings (λ meanings. came ≡ put_of meanings mode account a.desk.store letter)
+    → WithMeanings (λ meanings. Makes a b None (put_changes letter.flags date (completed letter.octets.now) (put_of meanings mode account a.desk.store letter)))
+    → WereListed b.desk.store.kept opened letter.flags came messages
+letter_were a b mode account letter date opened messages came were came_is makes =
+    let meanings = meanings_given.0 in
+    let before = a.desk.store in
+    let octets = completed letter.octets.now in
+    let was = put_of meanings mode account before letter in
+    let kept : b.desk.store.kept ≡ after_all before.kept (records_of (put_changes letter.flags date octets was)) =
+    ap (λ (store : StoreState). store.kept) (makes meanings meanings_given.1).changes.store in
+    let room = room_named meanings mode before letter.in_utf8 letter.octets.now (folder_named meanings mode before account letter.written.now) in
+    let behind : IsBehind before.kept b.desk.store.kept letter.flags was =
+    subst (λ (new : Kept). IsBehind before.kept new letter.flags was) (sym kept) (behind_put before.kept letter.flags date octets was room) in
+    record { old = before.kept; were = were; behind = subst (λ (p : Put). IsBehind before.kept b.desk.store.kept letter.flags p) (sym (came_is meanings meanings_given.1)) behind }

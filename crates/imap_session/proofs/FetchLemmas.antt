@@ -1,26 +1,19 @@
 -- What is told of a message.
-use Rattle.std.proofs.Common.{◌≡◌, ℕ, ◌+◌, ◌-◌, ◌<◌, ◌≤◌, min, Bool, true, false, List, [], ◌∷◌, ◌++◌, length, get_or, map, take, drop, Option, None, Some, refl, sym, ap, subst, ◌∙◌, append-nil, append_assoc, arith}
+use Rattle.std.proofs.Common.{◌≡◌, ℕ, ◌+◌, ◌<◌, Bool, true, false, List, [], ◌∷◌, ◌++◌, length, get_or, map, take, drop, Option, None, Some, refl, sym, ap, subst, ◌∙◌, append-nil, append_assoc}
 use Rattle.std.specs.Prelude.{codes, ◌&&◌, not, if◌then◌else◌}
 use Rattle.std.specs.Fmt.{decimal}
 use Rattle.std.specs.List.{flat_map, list_any}
 use Rattle.std.proofs.lemmas.Bool.{cond-false, cond-true}
-use Rattle.std.proofs.lemmas.List.{length-drop, length-take-le, map-append, take_all, take_at, take_more, take-append-drop}
+use Rattle.std.proofs.lemmas.List.{map-append, take_more, take-append-drop}
 use Rattle.std.proofs.lemmas.List.Folds.{list_any_at}
-use Rattle.std.proofs.Math.Seq.{take-append-add}
-use Rattle.mail_wire.specs.Moves.{Gives, GivesPrefix}
-use Rattle.mail_wire.specs.Telling.{Telling}
 use Rattle.mail_wire.specs.declared.outside.Fault.{Fault}
-use Rattle.mail_wire.proofs.Moving.{Gives-prefix, Gives-trans, GivesPrefix-more}
 use Rattle.kept_mail.specs.declared.kept.Listed.{Listed}
 use Rattle.mail_store.specs.StoreState.{StoreState}
 use Rattle.surrogate_rope.specs.declared.shown.Shown.{Shown}
-use Rattle.surrogate_cache.specs.Served.{Mode, IsServed, served_by}
-use Rattle.surrogate_cache.proofs.ServedLemmas.{IsServed-by}
+use Rattle.surrogate_cache.specs.Served.{Mode}
 use Rattle.session_core.specs.Acts.{Act, changes, gives}
 use Rattle.session_core.specs.Around.{Around}
-use Rattle.session_core.specs.Desks.{stored_octets}
-use Rattle.session_core.specs.Doing.{Replies}
-use Rattle.session_core.specs.Meanings.{Meanings, AreMeanings}
+use Rattle.session_core.specs.Meanings.{Meanings}
 use Rattle.imap_grammar.specs.declared.command.FetchItem.{FetchItem}
 use Rattle.imap_grammar.specs.declared.command.FetchItem.TheVariants as item
 use Rattle.imap_mailboxes.specs.Flags.{flags_text}
@@ -30,7 +23,7 @@ use Rattle.imap_session.specs.Replies.{ReplyPart, text, part_octets}
 use Rattle.imap_session.specs.private.Fetched.{end_octets, space_octets, tells_flags_last, tells_uid_first, uid_first_octets}
 use Rattle.imap_session.specs.private.Pending.{Carries}
 use Rattle.imap_session.specs.private.Shown.{HasShown, shows}
-use Rattle.imap_session.proofs.PendingLemmas.{Carries-before, Carries-parts, Carries-replies, Carries-then}
+use Rattle.imap_session.proofs.PendingLemmas.{Carries-before, Carries-parts, Carries-then}
 
 pub reply-append : (xs ys : List ReplyPart) → reply (xs ++ ys) ≡ reply xs ++ reply ys
 reply-append xs ys = map-append gives xs ys

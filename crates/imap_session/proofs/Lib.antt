@@ -9,4 +9,7 @@ pub mod StepLemmas
 pub mod SessionLemmas
 pub mod SelectedLemmas
 pub mod CommandLemmas
+pub mod PutLemmas
+pub mod PutLaws
+pub mod AnswerLaws
 pub mod AppendLemmas

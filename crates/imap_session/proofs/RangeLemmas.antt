@@ -1,5 +1,5 @@
 -- What is served of a message, and ranges of it as literals.
-use Rattle.std.proofs.Common.{◌≡◌, ℕ, Bool, ◌+◌, ◌-◌, ◌<◌, ◌≤◌, min, List, [], ◌∷◌, ◌++◌, length, take, drop, Option, None, Some, refl, sym, ap, subst, ◌∙◌, append-nil, append_assoc, arith}
+use Rattle.std.proofs.Common.{◌≡◌, ℕ, Bool, ◌+◌, ◌-◌, ◌<◌, ◌≤◌, min, List, [], ◌∷◌, ◌++◌, length, take, drop, Option, None, Some, refl, sym, ap, subst, ◌∙◌, append-nil, arith}
 use Rattle.std.specs.Prelude.{codes, IfSome}
 use Rattle.std.specs.Fmt.{decimal}
 use Rattle.std.specs.List.{flat_map}
@@ -10,7 +10,7 @@ use Rattle.mail_wire.specs.Telling.{Telling}
 use Rattle.mail_wire.specs.declared.outside.Fault.{Fault}
 use Rattle.mail_wire.specs.declared.values.Span.{Span}
 use Rattle.mail_wire.proofs.Moving.{Gives-prefix, Gives-trans, GivesPrefix-more}
-use Rattle.mime_tree.specs.Outlines.{Outline, outlines_of}
+use Rattle.mime_tree.specs.Outlines.{Outline}
 use Rattle.mime_tree.specs.Sections.{section}
 use Rattle.mime_tree.specs.declared.sections.Part.{Part}
 use Rattle.mime_tree.specs.declared.sections.Part.TheVariants as place
@@ -22,7 +22,6 @@ use Rattle.surrogate_rope.specs.declared.shown.Shown.{Shown}
 use Rattle.surrogate_rope.specs.declared.shown.Shown.TheVariants.{Whole, Rope}
 use Rattle.surrogate_cache.specs.Served.{Mode, served_by}
 use Rattle.surrogate_cache.proofs.ServedLemmas.{IsServed-by}
-use Rattle.session_core.specs.Acts.{Act, gives}
 use Rattle.session_core.specs.Around.{Around}
 use Rattle.session_core.specs.Desks.{stored_octets}
 use Rattle.session_core.specs.Doing.{Replies}

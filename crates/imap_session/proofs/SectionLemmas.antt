@@ -1,5 +1,5 @@
 -- Names of sections, and what an item asks.
-use Rattle.std.proofs.Common.{◌≡◌, ℕ, ◌+◌, ◌-◌, ◌<◌, ◌≤◌, min, Bool, true, false, List, [], ◌∷◌, ◌++◌, length, get_or, map, take, drop, Option, None, Some, refl, sym, ap, subst, ◌∙◌, append-nil, append_assoc, arith, ne_eqb}
+use Rattle.std.proofs.Common.{◌≡◌, ℕ, ◌+◌, ◌-◌, ◌<◌, ◌≤◌, min, Bool, false, List, [], ◌∷◌, ◌++◌, length, get_or, map, take, drop, Option, None, Some, refl, sym, ap, subst, ◌∙◌, append-nil, append_assoc, arith, ne_eqb}
 use Rattle.std.specs.Prelude.{codes, ◌&&◌, ◌==◌, not, slice_range}
 use Rattle.std.specs.Fmt.{decimal}
 use Rattle.std.specs.List.{join_with_byte}
@@ -10,20 +10,18 @@ use Rattle.kept_mail.specs.declared.kept.Listed.{Listed}
 use Rattle.mail_store.specs.StoreState.{StoreState}
 use Rattle.surrogate_cache.specs.Served.{Mode}
 use Rattle.session_core.specs.Meanings.{Meanings}
-use Rattle.imap_grammar.specs.declared.command.FetchItem.{FetchItem}
-use Rattle.imap_grammar.specs.declared.command.FetchItem.TheVariants as item
 use Rattle.imap_grammar.specs.declared.command.SectionPart.{SectionPart}
 use Rattle.imap_grammar.specs.declared.command.SectionPart.TheVariants as part
 use Rattle.imap_views.specs.Chosen.{AreChosen}
 use Rattle.imap_views.specs.Strings.{AddsText}
-use Rattle.imap_session.specs.Items.{item_parts, part_words, partial_octets, partial_span, partial_text, section_at, section_name, section_parts, shown_parts}
-use Rattle.imap_session.specs.Replies.{ReplyPart, text}
+use Rattle.imap_session.specs.Items.{part_words, partial_octets, partial_span, partial_text, section_at, section_name, section_parts, shown_parts}
+use Rattle.imap_session.specs.Replies.{text}
 use Rattle.imap_session.specs.declared.sections.Asked.{Asked}
 use Rattle.imap_session.specs.declared.sections.Chosen.{Chosen}
 use Rattle.imap_session.specs.declared.sections.Wanted.{Wanted}
 use Rattle.imap_session.specs.declared.sections.Wanted.TheVariants as want
-use Rattle.imap_session.specs.private.Asking.{AddsFields, IsAsked, IsOfMessage, IsWanted, apart_octets, asked_parts, head_octets, names_all, wanted_parts}
-use Rattle.imap_session.proofs.FetchLemmas.{behind-push, stands_behind}
+use Rattle.imap_session.specs.private.Asking.{AddsFields, IsOfMessage, IsWanted, apart_octets, asked_parts, head_octets, names_all, wanted_parts}
+use Rattle.imap_session.proofs.FetchLemmas.{stands_behind}
 
 -- ---- texts with an octet between any two
 

@@ -1,6 +1,6 @@
 -- Commands on the messages of the folder that is selected.
-use Rattle.std.proofs.Common.{◌≡◌, ℕ, ◌+◌, ◌<◌, ◌≤◌, Bool, true, false, List, [], ◌∷◌, ◌++◌, length, map, Option, Some, None, Result, Ok, Err, refl, sym, ap, subst, ◌∙◌, append-nil, append_assoc, arith, codes, nat_cmp, Less}
-use Rattle.std.specs.Prelude.{◌==◌, ◌↔◌, filter, slice_get, if◌then◌else◌, IfOk, IsNone, OnOk}
+use Rattle.std.proofs.Common.{◌≡◌, ℕ, ◌+◌, ◌<◌, Bool, true, false, List, [], ◌∷◌, ◌++◌, length, map, Option, Some, None, Result, Ok, Err, refl, sym, ap, subst, ◌∙◌, append-nil, append_assoc, arith, codes, nat_cmp, Less}
+use Rattle.std.specs.Prelude.{◌==◌, ◌^◌, ◌↔◌, filter, slice_get, if◌then◌else◌, IfOk, IsNone, OnOk}
 use Rattle.std.specs.Cmp.{nat_cmp_is}
 use Rattle.std.specs.List.{All, AllByRecursion, IsDistinct, flat_map, list_all}
 use Rattle.std.specs.List.Sorted.{IsStrictlyIncreasing, IsStrictlySortedBy}
@@ -13,7 +13,6 @@ use Rattle.std.proofs.lemmas.Map.Keys.{IsStrictlyIncreasing-from_sorted}
 use Rattle.mail_wire.specs.declared.outside.Fault.{Fault}
 use Rattle.kept_mail.specs.declared.kept.Listed.{Listed}
 use Rattle.kept_mail.specs.declared.kept.Message.{Message}
-use Rattle.kept_mail.specs.declared.limits.TheConstants.{THINGS_MAX}
 use Rattle.kept_mail.specs.Kept.{Kept, after_all, after_record, listed}
 use Rattle.kept_mail.specs.Records.{IsLive}
 use Rattle.journal_records.specs.declared.records.Record.TheVariants as records
@@ -284,13 +283,13 @@ close_told meanings a b c met tag state read_only messages free makes replies = 
 
 -- the folder with the list that was read anew
 pub knows_anew : (a b c : Around) (account folder : ℕ) (were are : List Listed) → HasCounts a.desk.store b.desk.store → c.desk ≡ b.desk → KnowsFolder a.desk.store account folder were
-    → are ≡ listed b.desk.store.kept folder → length are ≤ THINGS_MAX → KnowsFolder c.desk.store account folder are
+    → are ≡ listed b.desk.store.kept folder → length are < 2 ^ 32 → KnowsFolder c.desk.store account folder are
 knows_anew a b c account folder were are counts same knows is few =
     rw same (record {
       account_is = rw counts.accounts knows.account_is;
       folder_is = rw counts.folders knows.folder_is;
       messages_are = is;
-      few = omega (arith, few);
+      few = few;
     })
 
 -- what holds whatever is answered

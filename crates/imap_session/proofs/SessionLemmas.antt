@@ -1,18 +1,16 @@
 -- Sessions over pieces of a stream, and what is due in them.
-use Rattle.std.proofs.Common.{◌≡◌, ℕ, zero, suc, ◌+◌, ◌-◌, ◌<◌, ◌≤◌, List, [], ◌∷◌, ◌++◌, length, take, drop, Option, Some, None, inl, inr, refl, sym, ap, ◌∙◌, subst, append_assoc, append-nil, length-append, arith, Bool, ◌⊎◌, codes, false}
-use Rattle.std.specs.Prelude.{Result, Ok, Err, IfOk, MatchResult}
+use Rattle.std.proofs.Common.{◌≡◌, ℕ, suc, ◌+◌, ◌-◌, ◌<◌, ◌≤◌, List, [], ◌∷◌, ◌++◌, length, take, drop, Option, Some, None, inl, inr, refl, sym, ap, ◌∙◌, subst, append_assoc, append-nil, length-append, arith, Bool, ◌⊎◌, codes, false}
+use Rattle.std.specs.Prelude.{Result, Ok, Err, MatchResult}
 use Rattle.std.specs.Option.{option_map}
 use Rattle.std.proofs.lemmas.List.{drop_all, take-append-le}
 use Rattle.std.proofs.lemmas.Bool.{cases_lt}
 use Rattle.mail_wire.specs.declared.outside.Fault.{Fault}
-use Rattle.mail_wire.specs.declared.outside.Fault.TheVariants as fault
 use Rattle.surrogate_cache.specs.Served.{is_enabled}
-use Rattle.imap_words.specs.Going.{Leaves}
 use Rattle.imap_words.proofs.Leaving.{leaves_all}
 use Rattle.imap_grammar.specs.Commands.{IsCommand}
-use Rattle.imap_grammar.specs.Events.{BeginsWithTag, IsAppending, IsDue, NothingBefore, Tells, seen_after}
-use Rattle.imap_grammar.specs.FirstDue.{Due, IsFirstDue}
-use Rattle.imap_grammar.specs.Standing.{Reached, HasSeen, left_of}
+use Rattle.imap_grammar.specs.Events.{IsDue, NothingBefore, Tells, seen_after}
+use Rattle.imap_grammar.specs.FirstDue.{Due}
+use Rattle.imap_grammar.specs.Standing.{Reached, HasSeen}
 use Rattle.imap_grammar.specs.declared.event.Event.{Event}
 use Rattle.imap_grammar.specs.declared.event.Event.TheVariants.{More, Go, Command, Bad, TooLarge, TooLong}
 use Rattle.imap_grammar.specs.declared.reader.Reader.{Reader}
@@ -21,31 +19,27 @@ use Rattle.imap_grammar.specs.declared.reader.Stage.TheVariants.{Begin, Behind}
 use Rattle.imap_grammar.proofs.OneEvent.{one_first}
 use Rattle.mail_store.specs.Following.{records_of}
 use Rattle.mail_store.specs.StoreState.{StoreState, with_records}
-use Rattle.session_core.specs.Acts.{Act, changes_in}
+use Rattle.session_core.specs.Acts.{changes_in}
 use Rattle.session_core.specs.Around.{Around}
 use Rattle.session_core.specs.Doing.{Does, DoesAll, DoesFirst, Replies}
 use Rattle.session_core.specs.Keeps.{fault_of}
-use Rattle.session_core.specs.Meanings.{Meanings, AreMeanings, WithMeanings}
-use Rattle.session_core.specs.Moments.{Moment, IsTold}
-use Rattle.session_core.specs.Steps.{Begins, StandsAfter, Steps, StepsBy, IsReadyAfter}
+use Rattle.session_core.specs.Meanings.{Meanings, AreMeanings}
+use Rattle.session_core.specs.Moments.{Moment}
+use Rattle.session_core.specs.Steps.{Begins, StandsAfter, Steps, IsReadyAfter}
 use Rattle.session_core.specs.declared.desk.Desk.{Desk}
-use Rattle.session_core.specs.declared.machine.Came.{Came}
-use Rattle.session_core.proofs.DoingLemmas.{Does-replies, DoesAll-nil, DoesFirst-none}
+use Rattle.session_core.proofs.DoingLemmas.{Does-replies, DoesAll-nil}
 use Rattle.session_core.proofs.MeaningLemmas.{meanings_given}
 use Rattle.session_core.specs.Turns.{all_turns}
-use Rattle.session_core.proofs.StepLemmas.{StepsBy-turn, StepsBy-fails, StepsBy-waits}
-use Rattle.std.specs.List.{All}
-use Rattle.std.proofs.lemmas.List.Elements.{All-nil}
+use Rattle.session_core.proofs.StepLemmas.{StepsBy-turn, StepsBy-fails}
 use Rattle.imap_session.specs.CommandLaws.{said_of}
 use Rattle.imap_session.specs.ImapLaws.{at_due, framed_by}
 use Rattle.imap_session.specs.Machine.{State, Step, ended, line, mode_of, not_authenticated, reply, untagged}
-use Rattle.imap_session.specs.Replies.{ReplyPart, part_octets}
+use Rattle.imap_session.specs.Replies.{part_octets}
 use Rattle.imap_session.specs.Session.{ImapReady, ImapStands, IsSaidIn, KnowsState, Machine, TakesStep, TakesStepAt, date_at, due_step, due_turn, event_takes, greeting, imap_protocol, machine_next, moments_behind, next_turn, state_of, state_or_ended, turn_from}
 use Rattle.imap_session.specs.declared.session.ImapMachine.{ImapMachine}
 use Rattle.imap_session.specs.declared.states.ImapState.{ImapState}
 use Rattle.imap_session.specs.declared.states.ImapState.TheVariants as imap
-use Rattle.imap_session.specs.private.Lines.{bad_octets, due_octets}
-use Rattle.imap_session.proofs.LineLemmas.{tagged_reply}
+use Rattle.imap_session.specs.private.Lines.{due_octets}
 use Rattle.imap_session.proofs.StepLemmas.{says_given, Takes-fault, Takes-next, TakesAt-plain}
 
 -- the event leaves the state, and is no command

@@ -1,7 +1,7 @@
 -- Steps of commands, as they are carried out.
 use Rattle.std.proofs.Common.{◌≡◌, ℕ, List, [], ◌∷◌, ◌++◌, Option, Some, None, refl, sym, ap, ◌∙◌, subst}
-use Rattle.std.specs.Prelude.{Result, Ok, Err, IfOk, Bool, true, false, is_some, not, if◌then◌else◌}
-use Rattle.std.specs.List.{All, flat_map}
+use Rattle.std.specs.Prelude.{Result, Ok, Err, IfOk, Bool, true, false, is_some, not}
+use Rattle.std.specs.List.{flat_map}
 use Rattle.std.proofs.lemmas.List.{map-append}
 use Rattle.std.proofs.lemmas.List.Concat.{flat_map-append}
 use Rattle.std.proofs.lemmas.List.Elements.{All-from_recursion, All-nil}
@@ -19,7 +19,7 @@ use Rattle.session_core.proofs.MomentLemmas.{moment_date}
 use Rattle.imap_session.specs.Machine.{State, Step, answers, date_or, says, tagged}
 use Rattle.imap_session.specs.CommandLaws.{is_date_true}
 use Rattle.imap_session.specs.Replies.{ReplyPart, part_octets, reply_octets}
-use Rattle.imap_session.specs.Session.{KnowsNext, KnowsState, TakesStep, TakesStepAt, date_at, is_date, long_ago, moments_behind, state_of, state_or_ended}
+use Rattle.imap_session.specs.Session.{KnowsNext, KnowsState, TakesStep, TakesStepAt, date_at, moments_behind, state_of, state_or_ended}
 use Rattle.imap_session.specs.declared.states.ImapState.{ImapState}
 use Rattle.imap_session.specs.private.Appending.{IsDateFrom}
 use Rattle.imap_session.specs.private.Lines.{tagged_octets}

@@ -2,6 +2,8 @@ pub mod Replies
 pub mod Items
 pub mod Machine
 pub mod Session
+pub mod Answering
+pub mod Putting
 pub mod CommandLaws
 pub mod ViewLaws
 pub mod FitLaws

@@ -1,15 +1,12 @@
 -- What a legacy session is shown of a message has ASCII headers, and so its views are ASCII.
-use Rattle.std.proofs.Common.{◌≡◌, ℕ, zero, suc, ◌+◌, List, [], ◌∷◌, Bool, true, Option, Some, None, slice_get, take, drop, refl, sym, ◌∙◌, ap, subst}
-use Rattle.std.specs.List.{AllByRecursion, list_all}
-use Rattle.std.specs.Prelude.{option_and_then, option_map, slice_range}
+use Rattle.std.proofs.Common.{◌≡◌, ℕ, ◌+◌, List, [], ◌∷◌, Bool, true, Option, Some, None, slice_get, take, drop, refl, sym, ◌∙◌, ap, subst}
+use Rattle.std.specs.List.{list_all}
+use Rattle.std.specs.Prelude.{option_and_then, option_map}
 use Rattle.std.proofs.lemmas.Option.{same_Some}
 use Rattle.mail_wire.specs.Octets.{is_ascii}
 use Rattle.mail_wire.specs.declared.values.Span.{Span}
-use Rattle.mail_wire.proofs.AllLemmas.{pass-append}
 use Rattle.mime_tree.specs.Outlines.{Outline, outlines_of}
 use Rattle.mime_tree.specs.Sections.{child_of, header_of, named_by, part_at, part_of, part_of_all, section}
-use Rattle.mime_tree.specs.Tree.{raws_of}
-use Rattle.mime_tree.specs.declared.entity.Entity.{Entity}
 use Rattle.mime_tree.specs.declared.entity.Shape.{Shape}
 use Rattle.mime_tree.specs.declared.entity.Shape.TheVariants.{Leaf, Multipart, Message}
 use Rattle.mime_tree.specs.declared.sections.Part.TheVariants.{Header}
@@ -18,13 +15,11 @@ use Rattle.surrogate_rope.specs.declared.shown.Shown.TheVariants.{Whole}
 use Rattle.session_core.specs.Meanings.{Meanings, AreMeanings}
 use Rattle.imap_views.specs.Fields.{HasSomeBlock}
 use Rattle.imap_views.specs.Views.{envelope, fields, structure}
-use Rattle.imap_views.proofs.AsciiFields.{joined_ascii}
-use Rattle.imap_views.proofs.AsciiStructures.{structure_ascii}
+use Rattle.imap_views.proofs.AsciiStructures.{header_ascii, structure_ascii, tree_ascii}
 use Rattle.imap_views.proofs.AsciiViews.{chosen_ascii, has_envelope_ascii}
 use Rattle.imap_views.proofs.GivenEnvelopes.{chosen_given, envelope_given}
 use Rattle.imap_views.proofs.GivenStructures.{structure_given}
 use Rattle.imap_views.proofs.SectionPlaces.{tree_has_header, tree_header_has_block}
-use Rattle.imap_views.proofs.TreeHeaders.{HasHeader, tree_headers}
 
 -- ---- sections that are headers
 
@@ -62,18 +57,6 @@ header_named : (outlines : List Outline) (path : List ℕ) (span : Span) → sec
 header_named outlines [] span is = header_first outlines span _ refl is
 header_named outlines (n ∷ path) span is = header_behind outlines span (named_by outlines (n ∷ path)) is
 
--- each header is ASCII, where its fields are
-entity_ascii : (octets : List ℕ) (entities : List Entity) → AllByRecursion (HasHeader octets) entities
-    → AllByRecursion (λ (entity : Entity). AllByRecursion (λ raw. list_all is_ascii raw ≡ true) (raws_of octets entity.block)) entities
-    → (number : ℕ) (outline : Outline) → slice_get (outlines_of entities) number ≡ Some outline → list_all is_ascii (slice_range octets outline.at outline.body) ≡ true
-entity_ascii octets [] have raws number outline is = absurd cc
-entity_ascii octets (entity ∷ entities) have raws zero outline is =
-    let fields = joined_ascii octets entity.block.fields raws.0 in
-    let end = have.0.end_ascii in
-    let header : list_all is_ascii (slice_range octets entity.at entity.body) ≡ true = rw (have.0.whole) (search (pass-append, fields, end)) in
-    subst (λ (one : Outline). list_all is_ascii (slice_range octets one.at one.body) ≡ true) (same_Some _ _ is) header
-entity_ascii octets (entity ∷ entities) have raws (suc number) outline is = entity_ascii octets entities have.1 raws.1 number outline is
-
 -- ---- what a legacy session is shown
 
 -- an ASCII header with a block
@@ -90,7 +73,7 @@ module _ (meanings : Meanings) (are : AreMeanings meanings) (octets : List ℕ) 
   ascii_header path span is =
       let found : section (outlines_of blocks.entities) path Header ≡ Some span = ap (λ outlines. section outlines path Header) outlines_are ∙ is in
       let named = header_named (outlines_of blocks.entities) path span found in
-      let header = entity_ascii octets blocks.entities (tree_headers octets blocks.entities blocks.tree) blocks.ascii named.number named.outline named.is_outline in
+      let header = header_ascii octets (outlines_of blocks.entities) named.number named.outline (tree_ascii octets blocks.entities blocks blocks.tree) named.is_outline in
       record {
         block = tree_header_has_block octets blocks.entities blocks.tree path span found;
         ascii = subst (λ (one : Span). list_all is_ascii (take one.len (drop one.at octets)) ≡ true) (sym named.span_is) header;

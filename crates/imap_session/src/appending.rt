@@ -1,5 +1,5 @@
 //! APPEND (RFC 3501, 6.3.11; RFC 6855, 4).
-ghost use Rattle.std.specs.Prelude.{◌≡◌, ◌<◌, None, Some, length, IfOk, IfSome, OnOk};
+ghost use Rattle.std.specs.Prelude.{◌≡◌, ◌<◌, ◌^◌, None, Some, length, IfOk, IfSome, OnOk};
 ghost use Rattle.journal_records.specs.Grammar.{IsDate};
 ghost use Rattle.kept_mail.specs.Kept.{Kept, listed};
 ghost use Rattle.session_core.specs.Desks.{IsOpen};
@@ -9,13 +9,15 @@ ghost use Rattle.session_core.specs.Meanings.{Meanings, WithMeanings};
 ghost use Rattle.imap_session.specs.Machine.{State, authenticated, completed, date_or, lacks_date};
 ghost use Rattle.imap_session.specs.Replies.{part_octets, reply_octets};
 ghost use Rattle.imap_session.specs.Session.{TakesStepAt};
-ghost use Rattle.imap_session.specs.private.Appending.{IsDateFrom, command_of, letter_step, put_changes, put_lines, put_octets as put_octets_of, put_of, words_of_put};
+ghost use Rattle.imap_session.specs.private.Appending.{IsDateFrom, WereListed, command_of, letter_step, put_changes, put_lines, put_octets as put_octets_of, put_of, words_of_put};
 ghost use Rattle.imap_session.specs.private.Selected.{KnowsSelected};
 
 use crate::folders::find_named;
 use crate::replies::{DONE, NO_SUCH_FOLDER, TOO_LARGE, answer, say};
 use crate::states::{Authenticated, Imap, ImapState, Kind, Selected};
 use journal_records::is_stored;
+use kept_mail::Listed;
+use mail_store::Store;
 use mail_wire::{Clock, Fault, Keeper, Memory, Octets, Wire, is_ended};
 use mime_tree::complete;
 use session_core::{Delivered, Outside};
@@ -150,6 +152,32 @@ fn put_words(put: Put) -> &'static [u8]
     }
 }
 
+// Lists the message that was put into the selected folder as its last one, if one was.
+fn list_put(
+    messages: &mut Vec<Listed>,
+    opened: u32,
+    put: Put,
+    flags: u8,
+    store: &Store,
+) -> Result<(), Memory>
+    requires known { opened < length store.now.kept.folders }
+    requires were { WereListed store.now.kept opened flags put messages.old.items }
+    requires few { length messages.old.items < 2 ^ 32 }
+    ensures listing { OnOk result (messages.new.items ≡ listed store.now.kept opened) }
+    ensures few { OnOk result (length messages.new.items < 2 ^ 32) }
+{
+    let Put::In(folder) = put else {
+        return Ok(());
+    };
+    if folder != opened {
+        return Ok(());
+    }
+    let id = (store.message_count() - 1) as u32;
+    let uid = store.uid_next(folder) - 1;
+    messages.push(Listed { id, uid, flags })?;
+    Ok(())
+}
+
 // The line that tells how many messages the selected folder has, where one was put into it.
 fn exists_line(alloc: Global, put: Put, opened: u32, count: usize) -> Result<Octets, Memory>
     ensures { IfOk result (λ line. (meanings : Meanings) (kept : Kept) → count ≡ length (listed kept opened) → line ≡ reply_octets meanings (put_lines (Some opened) kept put)) }
@@ -186,7 +214,7 @@ pub fn append<V: Kind, W: Wire, J: Keeper, C: Clock>(
     Ok(Some(V::in_authenticated(imap)))
 }
 
-/// APPEND with this date where a folder is selected, whose messages are listed anew.
+/// APPEND with this date where a folder is selected. The list of its messages is only put on, so the time is that of the message.
 pub fn append_within<V: Kind, W: Wire, J: Keeper, C: Clock>(
     selected: &mut Selected,
     tag: &[u8],
@@ -205,7 +233,13 @@ pub fn append_within<V: Kind, W: Wire, J: Keeper, C: Clock>(
     ensures keeps { Keeps outside.old outside.new (fault_of result) }
 {
     let put = put_letter::<V, W, J, C>(selected.account, letter, date, outside)?;
-    selected.messages = outside.store().list(selected.folder)?;
+    list_put(
+        &mut selected.messages,
+        selected.folder,
+        put,
+        letter.flags,
+        outside.store(),
+    )?;
     let count = selected.messages.len();
     let lines = exists_line(outside.alloc(), put, selected.folder, count)?;
     answer(lines, tag, put_words(put), outside)

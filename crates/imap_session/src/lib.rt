@@ -6,6 +6,7 @@ mod commands;
 mod expunging;
 mod fetching;
 mod folders;
+pub mod laws;
 mod messages;
 mod replies;
 mod sections;

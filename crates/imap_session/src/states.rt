@@ -28,10 +28,10 @@ pub struct Selected {
     pub messages: Vec<Listed>,
 }
 
-//                        +-- ENABLE, CREATE, LIST, STATUS
+//                        +-- ENABLE, CREATE, LIST, STATUS, APPEND
 //                        v     |
 // NotAuthenticated --LOGIN--> Authenticated --SELECT, EXAMINE--> Selected --+ FETCH, STORE, EXPUNGE, CHECK,
-//                                       ^                         |   ^     | CREATE, LIST, STATUS, SELECT, EXAMINE
+//                                       ^                         |   ^     | CREATE, LIST, STATUS, APPEND, SELECT, EXAMINE
 //                                       +-- CLOSE, or no folder --+   +-----+
 //
 /// A session in a state, of a kind.

@@ -66,6 +66,41 @@ fn what_is_no_message_for_a_folder_is_refused(rt: HostRuntime) -> Result<(), Fai
     Ok(())
 }
 
+// Two messages of INBOX, the second of them seen.
+const TWO: &[u8] =
+    b"\0\0\0\x2e\x04\0\0\0\0\0\0\0\0\x1a01-Jan-1970 00:00:00 +0000\0\0\0\x06A: 1\r\n\0\0\0\x2e\x04\0\0\0\0\x01\0\0\0\x1a01-Jan-1970 00:00:00 +0000\0\0\0\x06A: 2\r\n";
+
+#[test]
+fn what_is_refused_is_not_listed(rt: HostRuntime) -> Result<(), Fail> {
+    let alloc = rt.alloc();
+    let journal = journal_of(alloc, &[])?;
+    let rows: [Row; 6] = [
+        LOGIN,
+        (
+            b"s SELECT INBOX\r\n",
+            b"* 0 EXISTS\r\n* 0 RECENT\r\n* FLAGS (\\Answered \\Flagged \\Deleted \\Seen \\Draft)\r\n* OK [UIDVALIDITY 1] ok\r\n* OK [UIDNEXT 1] ok\r\n* OK [PERMANENTFLAGS (\\Answered \\Flagged \\Deleted \\Seen \\Draft)] ok\r\ns OK [READ-WRITE] done\r\n",
+        ),
+        (
+            b"b APPEND INBOX {6}\r\nA: 1\r\n\r\n",
+            b"+ go\r\n* 1 EXISTS\r\nb OK done\r\n",
+        ),
+        (
+            b"c APPEND INBOX {3}\r\nA\0b\r\n",
+            b"+ go\r\nc NO not a message\r\n",
+        ),
+        (
+            b"d APPEND INBOX (\\Seen) {6}\r\nA: 2\r\n\r\n",
+            b"+ go\r\n* 2 EXISTS\r\nd OK done\r\n",
+        ),
+        (
+            b"e FETCH 1:* (UID FLAGS)\r\n",
+            b"* 1 FETCH (UID 1 FLAGS ())\r\n* 2 FETCH (UID 2 FLAGS (\\Seen))\r\ne OK done\r\n",
+        ),
+    ];
+    assert!(rt; keeps(alloc, &journal, &rows, TWO)?);
+    Ok(())
+}
+
 const ENABLED: &[u8] =
     b"\0\0\0\x3d\x04\0\0\0\0\0\0\0\0\x1a01-Jan-1970 00:00:00 +0000\0\0\0\x15Subject: caf\xc3\xa9\r\n\r\nx\r\n";
 

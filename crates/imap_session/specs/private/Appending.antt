@@ -1,7 +1,9 @@
 -- What comes of APPEND.
-use Rattle.std.specs.Prelude.{◌≡◌, ℕ, Bool, ◌&&◌, not, List, [], ◌∷◌, codes, Option, None, Some, if◌then◌else◌}
+use Rattle.std.specs.Prelude.{◌≡◌, ℕ, ◌<◌, Bool, ◌&&◌, not, List, [], ◌∷◌, length, codes, Option, None, Some, if◌then◌else◌}
 use Rattle.journal_records.specs.declared.records.Record.{Record}
-use Rattle.kept_mail.specs.Kept.{Kept}
+use Rattle.kept_mail.specs.Kept.{Kept, after_record, listed}
+use Rattle.kept_mail.specs.declared.kept.Listed.{Listed}
+use Rattle.kept_mail.specs.declared.limits.TheConstants.{THINGS_MAX}
 use Rattle.mail_store.specs.Changing.{append_refusal}
 use Rattle.mail_store.specs.StoreState.{StoreState}
 use Rattle.mail_store.specs.declared.changing.StoreFault.{StoreFault}
@@ -58,6 +60,18 @@ words_of_put put.NoFolder = codes "NO no such folder"
 words_of_put put.NotEnabled = codes "NO not enabled"
 words_of_put put.NoMessage = codes "NO not a message"
 words_of_put put.TooLarge = codes "NO too large"
+
+-- what the store keeps behind a letter with these flags, and what it kept before: the message that was put is the last one, or all is as it was
+abbrev pub IsBehind : (old new : Kept) → (flags : ℕ) → Put → Type 0
+IsBehind old new flags (put.In folder) =
+    (date : List ℕ) × (octets : List ℕ) × (new ≡ after_record old (appended folder flags date octets)) × (length old.messages < THINGS_MAX)
+IsBehind old new flags other = new ≡ old
+
+-- these were the messages of the opened folder before the letter
+pub record WereListed (kept : Kept) (opened flags : ℕ) (came : Put) (messages : List Listed) : Type 0 where
+  pub old : Kept
+  pub were : messages ≡ listed old opened
+  pub behind : IsBehind old kept flags came
 
 -- the date is the given one, or that of a moment that the clock told, which may tell a fixed reading
 abbrev pub IsDateFrom : (reading : Option ℕ) → (given : Option (List ℕ)) → (date : List ℕ) → Type 0

@@ -1,4 +1,4 @@
-use Rattle.std.proofs.Common.{◌∙◌, [], ℕ, List, Err, None, Ok, Some, ap, refl}
+use Rattle.std.proofs.Common.{◌∙◌, [], ℕ, List, Err, None, Ok, Some}
 use Rattle.std.proofs.lemmas.Result.{err_from_is_err_and}
 use Rattle.session_core.specs.Meanings.{Meanings}
 use Rattle.imap_session.specs.Machine.{Step, authenticated, completed, date_or, lacks_date}

@@ -5,7 +5,7 @@ use Rattle.session_core.specs.Keeps.{fault_of}
 use Rattle.imap_session.specs.Machine.{completed}
 use Rattle.imap_session.specs.Session.{KnowsFolder}
 use Rattle.imap_session.specs.private.Appending.{put_of}
-use Rattle.imap_session.proofs.AppendLemmas.{letter_broken, letter_counts, letter_told, letter_untold}
+use Rattle.imap_session.proofs.AppendLemmas.{letter_broken, letter_counts, letter_told, letter_untold, letter_were}
 use Rattle.imap_session.proofs.SelectedLemmas.{knows_anew, on_ok}
 use Rattle.imap_session.proofs.appending.append_within.Goals as goal
 
@@ -16,18 +16,24 @@ returns-in_err-put-clause-does g c = λ meanings are state.
     rw (failed.1, failed.2) (letter_broken meanings c.args.outside.now c.args.tag.now state (Some selected.folder) g.V.View.mode selected.account c.args.letter.now c.args.date.now c.put_letter.new.outside
     c.in_err-put.field-0.0 (c.in_err-put.ensures.makes meanings are))
 
-pub list-requires : goal.list-requires
-list-requires g c =
+pub list_put-requires-clause-known : goal.list_put-requires-clause-known
+list_put-requires-clause-known g c =
     let selected = c.args.selected.now in
     let letter = c.args.letter.now in
     let counts = letter_counts c.args.outside.now c.put_letter.new.outside letter.flags c.args.date.now (completed letter.octets.now)
     (λ meanings. put_of meanings g.V.View.mode selected.account c.args.outside.now.desk.store letter) c.in_ok-put.ensures.makes in
     rw (c.store.ensures, counts.folders) c.requires.known.folder_is
 
-pub returns-in_err-selected-clause-does : goal.returns-in_err-selected-clause-does
-returns-in_err-selected-clause-does g c = λ meanings are state.
+pub list_put-requires-clause-were : goal.list_put-requires-clause-were
+list_put-requires-clause-were g c =
     let selected = c.args.selected.now in
-    let failed = err_from_is_err_and c.from_residual-in_err-selected.result c.from_residual-in_err-selected.ensures.1 in
+    rw c.store.ensures (letter_were c.args.outside.now c.put_letter.new.outside g.V.View.mode selected.account c.args.letter.now c.args.date.now selected.folder selected.messages.items c.in_ok-put.put
+    c.requires.known.messages_are c.in_ok-put.ensures.put c.in_ok-put.ensures.makes)
+
+pub returns-in_err-list_put-clause-does : goal.returns-in_err-list_put-clause-does
+returns-in_err-list_put-clause-does g c = λ meanings are state.
+    let selected = c.args.selected.now in
+    let failed = err_from_is_err_and c.from_residual-in_err-list_put.result c.from_residual-in_err-list_put.ensures.1 in
     rw (failed.1, failed.2) (letter_untold meanings c.args.outside.now c.args.tag.now state (Some selected.folder) g.V.View.mode selected.account c.args.letter.now c.args.date.now c.put_letter.new.outside
     (c.in_ok-put.ensures.makes meanings are))
 
@@ -42,8 +48,8 @@ pub returns-clause-does : goal.returns-clause-does
 returns-clause-does g c = λ meanings are state.
     let selected = c.args.selected.now in
     let kept = c.put_letter.new.outside.desk.store.kept in
-    let size : c.len-count.result ≡ length c.in_ok-selected.field-0.items = omega (arith, c.len-count.ensures) in
-    let count = size ∙ ap (λ (messages : List Listed). length messages) (rw c.store.ensures at c.in_ok-selected.ensures.listing) in
+    let size : c.len-count.result ≡ length c.list_put.new.messages.items = omega (arith, c.len-count.ensures) in
+    let count = size ∙ ap (λ (messages : List Listed). length messages) (rw c.store.ensures at c.in_ok-list_put.ensures.listing) in
     letter_told meanings c.args.outside.now c.args.tag.now state (Some selected.folder) g.V.View.mode selected.account c.args.letter.now c.args.date.now c.put_letter.new.outside c.answer.new.outside
     (fault_of c.answer.result) c.in_ok-put.put c.in_ok-lines.lines (c.in_ok-put.ensures.put meanings are) (c.in_ok-lines.ensures meanings kept count) (c.in_ok-put.ensures.makes meanings are)
     (rw c.put_words.ensures at c.answer.ensures.replies)
@@ -54,6 +60,6 @@ returns-clause-known g c =
     let letter = c.args.letter.now in
     let counts = letter_counts c.args.outside.now c.put_letter.new.outside letter.flags c.args.date.now (completed letter.octets.now)
     (λ meanings. put_of meanings g.V.View.mode selected.account c.args.outside.now.desk.store letter) c.in_ok-put.ensures.makes in
-    on_ok c.answer.result (KnowsFolder c.answer.new.outside.desk.store selected.account selected.folder c.in_ok-selected.field-0.items)
-    (knows_anew c.args.outside.now c.put_letter.new.outside c.answer.new.outside selected.account selected.folder selected.messages.items c.in_ok-selected.field-0.items counts
-    c.answer.ensures.replies.leaves.desk c.requires.known (rw c.store.ensures at c.in_ok-selected.ensures.listing) c.in_ok-selected.ensures.few)
+    on_ok c.answer.result (KnowsFolder c.answer.new.outside.desk.store selected.account selected.folder c.list_put.new.messages.items)
+    (knows_anew c.args.outside.now c.put_letter.new.outside c.answer.new.outside selected.account selected.folder selected.messages.items c.list_put.new.messages.items counts
+    c.answer.ensures.replies.leaves.desk c.requires.known (rw c.store.ensures at c.in_ok-list_put.ensures.listing) c.in_ok-list_put.ensures.few)

@@ -1,4 +1,4 @@
-use Rattle.std.proofs.Common.{◌<◌, ◌^◌, length, arith, subst, IfSome, ◌+◌, ◌≤◌}
+use Rattle.std.proofs.Common.{◌<◌, ◌^◌, length, arith}
 use Rattle.surrogate_rope.specs.Served.{shown_octets}
 use Rattle.imap_session.proofs.RangeLemmas.{found_below, found_within}
 use Rattle.imap_session.proofs.sections.find.Goals as goal

@@ -1,4 +1,4 @@
-use Rattle.std.proofs.Common.{◌≡◌, ◌≤◌, ◌-◌, take, drop, None}
+use Rattle.std.proofs.Common.{◌≤◌, ◌-◌, take, drop, None}
 use Rattle.mail_wire.specs.Moves.{Gives}
 use Rattle.surrogate_rope.specs.Served.{shown_octets}
 use Rattle.session_core.specs.Around.{LeavesDesk}

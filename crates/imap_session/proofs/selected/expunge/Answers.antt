@@ -1,4 +1,4 @@
-use Rattle.std.proofs.Common.{◌∙◌, ◌++◌, Some}
+use Rattle.std.proofs.Common.{◌∙◌, ◌++◌, Some, arith}
 use Rattle.std.proofs.lemmas.Result.{err_from_is_err_and}
 use Rattle.mail_wire.specs.declared.outside.Fault.TheVariants as fault
 use Rattle.kept_mail.specs.Kept.{listed}
@@ -55,4 +55,4 @@ returns-clause-known g c =
     on_ok c.answer.result (KnowsFolder c.answer.new.outside.desk.store c.args.selected.now.account c.args.selected.now.folder c.in_ok-selected.field-0.items)
     (knows_anew c.args.outside.now c.take_deleted_out.new.outside c.answer.new.outside c.args.selected.now.account c.args.selected.now.folder
     c.args.selected.now.messages.items c.in_ok-selected.field-0.items counts c.answer.ensures.replies.leaves.desk c.requires.known
-    (rw c.store.ensures at c.in_ok-selected.ensures.listing) c.in_ok-selected.ensures.few)
+    (rw c.store.ensures at c.in_ok-selected.ensures.listing) (omega (arith, c.in_ok-selected.ensures.few)))

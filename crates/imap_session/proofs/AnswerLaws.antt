@@ -1,0 +1,357 @@
+-- Cases of all commands: those that are only answered, and those that may change the store.
+use Rattle.std.proofs.Common.{◌≡◌, ℕ, Bool, true, false, List, [], ◌∷◌, ◌++◌, Option, None, Some, refl, sym, ap, ◌∙◌, codes, if◌then◌else◌}
+use Rattle.std.specs.Prelude.{not, ◌&&◌}
+use Rattle.std.specs.List.{flat_map}
+use Rattle.std.proofs.lemmas.List.{map-append}
+use Rattle.journal_records.specs.Grammar.{kept_name}
+use Rattle.journal_records.specs.declared.records.Record.{Record}
+use Rattle.journal_records.specs.declared.records.Record.TheVariants as records
+use Rattle.kept_mail.specs.Kept.{Kept, after_record, listed, logged_in}
+use Rattle.kept_mail.specs.declared.kept.Listed.{Listed}
+use Rattle.mail_store.specs.Changing.{append_refusal, folder_refusal}
+use Rattle.mail_store.specs.StoreState.{StoreState}
+use Rattle.mail_store.specs.declared.changing.StoreFault.{StoreFault}
+use Rattle.mail_store.specs.declared.changing.StoreFault.TheVariants as refusal
+use Rattle.surrogate_cache.specs.Served.{Mode, legacy, enabled, is_enabled}
+use Rattle.session_core.specs.Acts.{Act, changes, changes_in, gives}
+use Rattle.session_core.specs.Meanings.{Meanings}
+use Rattle.session_core.proofs.DoneLemmas.{changes_in-acts, changes_in-append}
+use Rattle.imap_grammar.specs.declared.command.Command.{Command}
+use Rattle.imap_grammar.specs.declared.command.Command.TheVariants as command
+use Rattle.imap_grammar.specs.declared.command.Set.{Set}
+use Rattle.imap_grammar.specs.declared.command.StatusItem.{StatusItem}
+use Rattle.imap_grammar.specs.declared.command.StoreOp.{StoreOp}
+use Rattle.imap_mailboxes.specs.Sets.{is_refused}
+use Rattle.imap_session.specs.Answering.{adds_to_store, changes_store, EndsTagged}
+use Rattle.imap_session.specs.Machine.{State, Step, Numbered, answers, append_in, append_unless, appended, asks_utf8, authenticated, authenticated_step, chosen, closing_up, common_step, completed, create_by, create_unless, date_or, deleted_ids, done, ended, ends_with, enable_step, exists_lines, expunge_step, fetch_one, fetch_reply, folder_lines, folder_named, for_each, list_lines, login_by, mailbox_step, names_folder, no_such_message, not_authenticated, not_authenticated_step, opened_in, opened_words, refused_as_read_only, reply, says, select_by, selected, selected_step, status_by, status_line, step, store_one, store_step, tagged, taken_out, untagged, with_uid}
+use Rattle.imap_session.specs.Replies.{ReplyPart}
+
+-- ---- commands that are only answered
+
+-- what holds of a step that only answers holds of these
+module _ (P : Step → Type 0) (tag : List ℕ) (answered : (words : List ℕ) (parts : List ReplyPart) (state : State) → P (answers tag words parts state)) where
+  said_only : (words : List ℕ) (state : State) → P (says tag words state)
+  said_only words state = answered words [] state
+
+  common_all : (state : State) (said : Command) → P (common_step tag state said)
+  common_all state command.Capability = answered done (untagged (codes "CAPABILITY IMAP4rev1 ENABLE UTF8=ACCEPT") ∷ []) state
+  common_all state command.Noop = said_only done state
+  common_all state command.Check = said_only (codes "BAD out of order") state
+  common_all state command.Logout = answered done (untagged (codes "BYE bye") ∷ []) ended
+  common_all state (command.Login user password) = said_only (codes "BAD out of order") state
+  common_all state (command.Enable words) = said_only (codes "BAD out of order") state
+  common_all state (command.Select written) = said_only (codes "BAD out of order") state
+  common_all state (command.Examine written) = said_only (codes "BAD out of order") state
+  common_all state (command.Create written) = said_only (codes "BAD out of order") state
+  common_all state (command.List reference pattern) = said_only (codes "BAD out of order") state
+  common_all state (command.Status written items) = said_only (codes "BAD out of order") state
+  common_all state (command.Append written flags date in_utf8 octets) = said_only (codes "BAD out of order") state
+  common_all state (command.Fetch by_uid set items) = said_only (codes "BAD out of order") state
+  common_all state (command.Store by_uid set op silent flags) = said_only (codes "BAD out of order") state
+  common_all state command.Expunge = said_only (codes "BAD out of order") state
+  common_all state command.Close = said_only (codes "BAD out of order") state
+  common_all state command.NotHere = said_only (codes "NO not here") state
+
+  login_all : (found : Option ℕ) → P (login_by tag found)
+  login_all None = said_only (codes "NO no") not_authenticated
+  login_all (Some account) = said_only done (authenticated legacy account)
+
+  enable_all : (mode : Mode) (account : ℕ) (asked : Bool) → P (enable_step tag mode account asked)
+  enable_all legacy account true = answered done (untagged (codes "ENABLED UTF8=ACCEPT") ∷ []) (authenticated enabled account)
+  enable_all legacy account false = answered done (untagged (codes "ENABLED") ∷ []) (authenticated legacy account)
+  enable_all enabled account asked = answered done (untagged (codes "ENABLED") ∷ []) (authenticated enabled account)
+
+  select_all : (mode : Mode) (account : ℕ) (read_only : Bool) (store : StoreState) (found : Option ℕ) → P (select_by tag mode account read_only store found)
+  select_all mode account read_only store None = said_only (codes "NO no such folder") (authenticated mode account)
+  select_all mode account read_only store (Some folder) = answered (opened_words read_only) (folder_lines store folder read_only) (selected mode account folder read_only)
+
+  status_all : (state : State) (mode : Mode) (store : StoreState) (items : List StatusItem) (found : Option ℕ) → P (status_by tag state mode store items found)
+  status_all state mode store items None = said_only (codes "NO no such folder") state
+  status_all state mode store items (Some folder) = answered done (status_line mode store folder items) state
+
+  unauthenticated_all : (meanings : Meanings) (store : StoreState) (said : Command) → P (not_authenticated_step meanings tag store said)
+  unauthenticated_all meanings store command.Capability = common_all not_authenticated command.Capability
+  unauthenticated_all meanings store command.Noop = common_all not_authenticated command.Noop
+  unauthenticated_all meanings store command.Check = common_all not_authenticated command.Check
+  unauthenticated_all meanings store command.Logout = common_all not_authenticated command.Logout
+  unauthenticated_all meanings store (command.Login user password) = login_all (logged_in meanings.path_of store.kept user password)
+  unauthenticated_all meanings store (command.Enable words) = common_all not_authenticated (command.Enable words)
+  unauthenticated_all meanings store (command.Select written) = common_all not_authenticated (command.Select written)
+  unauthenticated_all meanings store (command.Examine written) = common_all not_authenticated (command.Examine written)
+  unauthenticated_all meanings store (command.Create written) = common_all not_authenticated (command.Create written)
+  unauthenticated_all meanings store (command.List reference pattern) = common_all not_authenticated (command.List reference pattern)
+  unauthenticated_all meanings store (command.Status written items) = common_all not_authenticated (command.Status written items)
+  unauthenticated_all meanings store (command.Append written flags date in_utf8 octets) = common_all not_authenticated (command.Append written flags date in_utf8 octets)
+  unauthenticated_all meanings store (command.Fetch by_uid set items) = common_all not_authenticated (command.Fetch by_uid set items)
+  unauthenticated_all meanings store (command.Store by_uid set op silent flags) = common_all not_authenticated (command.Store by_uid set op silent flags)
+  unauthenticated_all meanings store command.Expunge = common_all not_authenticated command.Expunge
+  unauthenticated_all meanings store command.Close = common_all not_authenticated command.Close
+  unauthenticated_all meanings store command.NotHere = common_all not_authenticated command.NotHere
+
+  mailbox_all : (meanings : Meanings) (now : List ℕ) (state : State) (mode : Mode) (account : ℕ) (store : StoreState) (said : Command)
+      → (adds_to_store said ≡ true → P (mailbox_step meanings now tag state mode account store said)) → P (mailbox_step meanings now tag state mode account store said)
+  mailbox_all meanings now state mode account store command.Capability more = common_all state command.Capability
+  mailbox_all meanings now state mode account store command.Noop more = common_all state command.Noop
+  mailbox_all meanings now state mode account store command.Check more = common_all state command.Check
+  mailbox_all meanings now state mode account store command.Logout more = common_all state command.Logout
+  mailbox_all meanings now state mode account store (command.Login user password) more = common_all state (command.Login user password)
+  mailbox_all meanings now state mode account store (command.Enable words) more = common_all state (command.Enable words)
+  mailbox_all meanings now state mode account store (command.Select written) more = select_all mode account false store (folder_named meanings mode store account written)
+  mailbox_all meanings now state mode account store (command.Examine written) more = select_all mode account true store (folder_named meanings mode store account written)
+  mailbox_all meanings now state mode account store (command.Create written) more = more refl
+  mailbox_all meanings now state mode account store (command.List reference pattern) more = answered done (list_lines mode store account reference pattern) state
+  mailbox_all meanings now state mode account store (command.Status written items) more = status_all state mode store items (folder_named meanings mode store account written)
+  mailbox_all meanings now state mode account store (command.Append written flags date in_utf8 octets) more = more refl
+  mailbox_all meanings now state mode account store (command.Fetch by_uid set items) more = common_all state (command.Fetch by_uid set items)
+  mailbox_all meanings now state mode account store (command.Store by_uid set op silent flags) more = common_all state (command.Store by_uid set op silent flags)
+  mailbox_all meanings now state mode account store command.Expunge more = common_all state command.Expunge
+  mailbox_all meanings now state mode account store command.Close more = common_all state command.Close
+  mailbox_all meanings now state mode account store command.NotHere more = common_all state command.NotHere
+
+  authenticated_all : (meanings : Meanings) (now : List ℕ) (mode : Mode) (account : ℕ) (store : StoreState) (said : Command)
+      → (adds_to_store said ≡ true → P (mailbox_step meanings now tag (authenticated mode account) mode account store said)) → P (authenticated_step meanings now tag mode account store said)
+  authenticated_all meanings now mode account store command.Capability more = mailbox_all meanings now (authenticated mode account) mode account store command.Capability more
+  authenticated_all meanings now mode account store command.Noop more = mailbox_all meanings now (authenticated mode account) mode account store command.Noop more
+  authenticated_all meanings now mode account store command.Check more = mailbox_all meanings now (authenticated mode account) mode account store command.Check more
+  authenticated_all meanings now mode account store command.Logout more = mailbox_all meanings now (authenticated mode account) mode account store command.Logout more
+  authenticated_all meanings now mode account store (command.Login user password) more = mailbox_all meanings now (authenticated mode account) mode account store (command.Login user password) more
+  authenticated_all meanings now mode account store (command.Enable words) more = enable_all mode account (asks_utf8 words)
+  authenticated_all meanings now mode account store (command.Select written) more = mailbox_all meanings now (authenticated mode account) mode account store (command.Select written) more
+  authenticated_all meanings now mode account store (command.Examine written) more = mailbox_all meanings now (authenticated mode account) mode account store (command.Examine written) more
+  authenticated_all meanings now mode account store (command.Create written) more = mailbox_all meanings now (authenticated mode account) mode account store (command.Create written) more
+  authenticated_all meanings now mode account store (command.List reference pattern) more = mailbox_all meanings now (authenticated mode account) mode account store (command.List reference pattern) more
+  authenticated_all meanings now mode account store (command.Status written items) more = mailbox_all meanings now (authenticated mode account) mode account store (command.Status written items) more
+  authenticated_all meanings now mode account store (command.Append written flags date in_utf8 octets) more = mailbox_all meanings now (authenticated mode account) mode account store (command.Append written flags date in_utf8 octets) more
+  authenticated_all meanings now mode account store (command.Fetch by_uid set items) more = mailbox_all meanings now (authenticated mode account) mode account store (command.Fetch by_uid set items) more
+  authenticated_all meanings now mode account store (command.Store by_uid set op silent flags) more = mailbox_all meanings now (authenticated mode account) mode account store (command.Store by_uid set op silent flags) more
+  authenticated_all meanings now mode account store command.Expunge more = mailbox_all meanings now (authenticated mode account) mode account store command.Expunge more
+  authenticated_all meanings now mode account store command.Close more = mailbox_all meanings now (authenticated mode account) mode account store command.Close more
+  authenticated_all meanings now mode account store command.NotHere more = mailbox_all meanings now (authenticated mode account) mode account store command.NotHere more
+
+  selected_all : (meanings : Meanings) (now : List ℕ) (mode : Mode) (account folder : ℕ) (read_only : Bool) (store : StoreState) (said : Command)
+      → (changes_store said ≡ true → P (selected_step meanings now tag mode account folder read_only store said)) → P (selected_step meanings now tag mode account folder read_only store said)
+  selected_all meanings now mode account folder read_only store command.Capability more = mailbox_all meanings now (selected mode account folder read_only) mode account store command.Capability more
+  selected_all meanings now mode account folder read_only store command.Noop more = mailbox_all meanings now (selected mode account folder read_only) mode account store command.Noop more
+  selected_all meanings now mode account folder read_only store command.Check more = said_only done (selected mode account folder read_only)
+  selected_all meanings now mode account folder read_only store command.Logout more = mailbox_all meanings now (selected mode account folder read_only) mode account store command.Logout more
+  selected_all meanings now mode account folder read_only store (command.Login user password) more = mailbox_all meanings now (selected mode account folder read_only) mode account store (command.Login user password) more
+  selected_all meanings now mode account folder read_only store (command.Enable words) more = mailbox_all meanings now (selected mode account folder read_only) mode account store (command.Enable words) more
+  selected_all meanings now mode account folder read_only store (command.Select written) more = mailbox_all meanings now (selected mode account folder read_only) mode account store (command.Select written) more
+  selected_all meanings now mode account folder read_only store (command.Examine written) more = mailbox_all meanings now (selected mode account folder read_only) mode account store (command.Examine written) more
+  selected_all meanings now mode account folder read_only store (command.Create written) more = more refl
+  selected_all meanings now mode account folder read_only store (command.List reference pattern) more = mailbox_all meanings now (selected mode account folder read_only) mode account store (command.List reference pattern) more
+  selected_all meanings now mode account folder read_only store (command.Status written items) more = mailbox_all meanings now (selected mode account folder read_only) mode account store (command.Status written items) more
+  selected_all meanings now mode account folder read_only store (command.Append written flags date in_utf8 octets) more = more refl
+  selected_all meanings now mode account folder read_only store (command.Fetch by_uid set items) more = more refl
+  selected_all meanings now mode account folder read_only store (command.Store by_uid set op silent flags) more = more refl
+  selected_all meanings now mode account folder read_only store command.Expunge more = more refl
+  selected_all meanings now mode account folder read_only store command.Close more = more refl
+  selected_all meanings now mode account folder read_only store command.NotHere more = mailbox_all meanings now (selected mode account folder read_only) mode account store command.NotHere more
+
+-- ---- what changes nothing
+
+abbrev IsQuiet : Step → Type 0
+IsQuiet taken = changes_in taken.acts ≡ []
+
+reply_quiet : (parts : List ReplyPart) → changes_in (reply parts) ≡ []
+reply_quiet parts = changes_in-acts [] parts
+
+answers_quiet : (tag words : List ℕ) (parts : List ReplyPart) (state : State) → IsQuiet (answers tag words parts state)
+answers_quiet tag words parts state = ap changes_in (sym (map-append gives parts (tagged tag words ∷ []))) ∙ reply_quiet (parts ++ tagged tag words ∷ [])
+
+none_true : {P : Type 0} (b : Bool) → b ≡ false → b ≡ true → P
+none_true b other is = let clash = sym other ∙ is in absurd cc
+
+adds_quiet : (said : Command) → changes_store said ≡ false → adds_to_store said ≡ false
+adds_quiet command.Capability other = refl
+adds_quiet command.Noop other = refl
+adds_quiet command.Check other = refl
+adds_quiet command.Logout other = refl
+adds_quiet (command.Login user password) other = refl
+adds_quiet (command.Enable words) other = refl
+adds_quiet (command.Select written) other = refl
+adds_quiet (command.Examine written) other = refl
+adds_quiet (command.Create written) other = other
+adds_quiet (command.List reference pattern) other = refl
+adds_quiet (command.Status written items) other = refl
+adds_quiet (command.Append written flags date in_utf8 octets) other = other
+adds_quiet (command.Fetch by_uid set items) other = refl
+adds_quiet (command.Store by_uid set op silent flags) other = refl
+adds_quiet command.Expunge other = refl
+adds_quiet command.Close other = refl
+adds_quiet command.NotHere other = refl
+
+pub others_quiet : (meanings : Meanings) (now tag : List ℕ) (state : State) (store : StoreState) (said : Command) → changes_store said ≡ false → changes_in (step meanings now state store tag said).acts ≡ []
+unfolding step
+others_quiet meanings now tag not_authenticated store said other = unauthenticated_all IsQuiet tag (answers_quiet tag) meanings store said
+others_quiet meanings now tag (authenticated mode account) store said other =
+    authenticated_all IsQuiet tag (answers_quiet tag) meanings now mode account store said (none_true (adds_to_store said) (adds_quiet said other))
+others_quiet meanings now tag (selected mode account folder read_only) store said other =
+    selected_all IsQuiet tag (answers_quiet tag) meanings now mode account folder read_only store said (none_true (changes_store said) other)
+others_quiet meanings now tag ended store said other = refl
+
+pub before_quiet : (meanings : Meanings) (now tag : List ℕ) (store : StoreState) (said : Command) → changes_in (step meanings now not_authenticated store tag said).acts ≡ []
+unfolding step
+before_quiet meanings now tag store said = unauthenticated_all IsQuiet tag (answers_quiet tag) meanings store said
+
+-- ---- what is read only
+
+each_quiet : {T : Type 0} (act : T → List (Act ReplyPart)) → ((one : T) → changes_in (act one) ≡ []) → (all : List T) → changes_in (flat_map act all) ≡ []
+each_quiet act quiet [] = refl
+each_quiet act quiet (one ∷ others) = changes_in-append (act one) (flat_map act others) ∙ rw (quiet one, each_quiet act quiet others) refl
+
+ends_quiet : (tag words : List ℕ) (acts : List (Act ReplyPart)) (state : State) → changes_in acts ≡ [] → IsQuiet (ends_with tag words acts state)
+ends_quiet tag words acts state quiet = changes_in-append acts (reply (tagged tag words ∷ [])) ∙ rw quiet refl
+
+quiet_if : (b : Bool) (x y : Step) → IsQuiet x → IsQuiet y → IsQuiet (if b then x else y)
+quiet_if true x y one two = one
+quiet_if false x y one two = two
+
+each_step_quiet : (tag : List ℕ) (state : State) (by_uid : Bool) (set : Set) (kept : List Listed) (act : Numbered → List (Act ReplyPart)) → ((one : Numbered) → changes_in (act one) ≡ [])
+    → IsQuiet (for_each tag state by_uid set kept act)
+each_step_quiet tag state by_uid set kept act quiet =
+    quiet_if (is_refused by_uid set kept) (no_such_message tag state) (ends_with tag done (flat_map act (chosen by_uid set kept)) state) refl
+    (ends_quiet tag done (flat_map act (chosen by_uid set kept)) state (each_quiet act quiet (chosen by_uid set kept)))
+
+examined_all : (meanings : Meanings) (now tag : List ℕ) (mode : Mode) (account folder : ℕ) (store : StoreState) (said : Command) → adds_to_store said ≡ false → changes_store said ≡ true
+    → IsQuiet (selected_step meanings now tag mode account folder true store said)
+examined_all meanings now tag mode account folder store command.Capability other is = absurd cc
+examined_all meanings now tag mode account folder store command.Noop other is = absurd cc
+examined_all meanings now tag mode account folder store command.Check other is = absurd cc
+examined_all meanings now tag mode account folder store command.Logout other is = absurd cc
+examined_all meanings now tag mode account folder store (command.Login user password) other is = absurd cc
+examined_all meanings now tag mode account folder store (command.Enable words) other is = absurd cc
+examined_all meanings now tag mode account folder store (command.Select written) other is = absurd cc
+examined_all meanings now tag mode account folder store (command.Examine written) other is = absurd cc
+examined_all meanings now tag mode account folder store (command.Create written) other is = absurd cc
+examined_all meanings now tag mode account folder store (command.List reference pattern) other is = absurd cc
+examined_all meanings now tag mode account folder store (command.Status written items) other is = absurd cc
+examined_all meanings now tag mode account folder store (command.Append written flags date in_utf8 octets) other is = absurd cc
+examined_all meanings now tag mode account folder store (command.Fetch by_uid set items) other is =
+    each_step_quiet tag (selected mode account folder true) by_uid set (listed store.kept folder) (fetch_one meanings mode store by_uid true items)
+    (λ one. reply_quiet (fetch_reply meanings mode store one.number one.listed (with_uid by_uid items)))
+examined_all meanings now tag mode account folder store (command.Store by_uid set op silent flags) other is = refl
+examined_all meanings now tag mode account folder store command.Expunge other is = refl
+examined_all meanings now tag mode account folder store command.Close other is = refl
+examined_all meanings now tag mode account folder store command.NotHere other is = absurd cc
+
+pub examined_quiet : (meanings : Meanings) (now tag : List ℕ) (mode : Mode) (account folder : ℕ) (store : StoreState) (said : Command) → adds_to_store said ≡ false
+    → changes_in (step meanings now (selected mode account folder true) store tag said).acts ≡ []
+unfolding step
+examined_quiet meanings now tag mode account folder store said other =
+    selected_all IsQuiet tag (answers_quiet tag) meanings now mode account folder true store said (examined_all meanings now tag mode account folder store said other)
+
+-- ---- the line that ends the replies
+
+ends_tagged : (tag words : List ℕ) (acts : List (Act ReplyPart)) (state : State) → EndsTagged tag (ends_with tag words acts state)
+ends_tagged tag words acts state = (acts, words, refl)
+
+answers_tagged : (tag words : List ℕ) (parts : List ReplyPart) (state : State) → EndsTagged tag (answers tag words parts state)
+answers_tagged tag words parts state = ends_tagged tag words (reply parts) state
+
+tagged_if : (tag : List ℕ) (b : Bool) (x y : Step) → EndsTagged tag x → EndsTagged tag y → EndsTagged tag (if b then x else y)
+tagged_if tag true x y one two = one
+tagged_if tag false x y one two = two
+
+each_tagged : (tag : List ℕ) (state : State) (by_uid : Bool) (set : Set) (kept : List Listed) (act : Numbered → List (Act ReplyPart)) → EndsTagged tag (for_each tag state by_uid set kept act)
+each_tagged tag state by_uid set kept act =
+    tagged_if tag (is_refused by_uid set kept) (no_such_message tag state) (ends_with tag done (flat_map act (chosen by_uid set kept)) state)
+    (answers_tagged tag (codes "BAD no such message") [] state) (ends_tagged tag done (flat_map act (chosen by_uid set kept)) state)
+
+created_tagged : (tag : List ℕ) (state : State) (account : ℕ) (kept : List ℕ) (refused : Option StoreFault) → EndsTagged tag (create_unless tag state account kept refused)
+created_tagged tag state account kept None = ends_tagged tag done (changes (records.Folder account kept ∷ []) ∷ []) state
+created_tagged tag state account kept (Some refusal.Exists) = answers_tagged tag (codes "NO exists") [] state
+created_tagged tag state account kept (Some refusal.NoSuch) = answers_tagged tag (codes "NO too large") [] state
+created_tagged tag state account kept (Some refusal.TooLarge) = answers_tagged tag (codes "NO too large") [] state
+created_tagged tag state account kept (Some refusal.Keeper) = answers_tagged tag (codes "NO too large") [] state
+created_tagged tag state account kept (Some refusal.Memory) = answers_tagged tag (codes "NO too large") [] state
+
+create_tagged : (tag : List ℕ) (state : State) (account : ℕ) (store : StoreState) (found : Option (List ℕ)) → EndsTagged tag (create_by tag state account store found)
+create_tagged tag state account store None = answers_tagged tag (codes "NO bad name") [] state
+create_tagged tag state account store (Some given) =
+    let kept = kept_name given in
+    let refused = folder_refusal store.kept account given in
+    tagged_if tag (names_folder kept) (create_unless tag state account kept refused) (says tag (codes "NO bad name") state) (created_tagged tag state account kept refused)
+    (answers_tagged tag (codes "NO bad name") [] state)
+
+put_tagged : (tag : List ℕ) (state : State) (opened : Option ℕ) (kept : Kept) (folder : ℕ) (made : Record) (refused : Option StoreFault) → EndsTagged tag (append_unless tag state opened kept folder made refused)
+put_tagged tag state opened kept folder made None = ends_tagged tag done (changes (made ∷ []) ∷ reply (exists_lines opened (after_record kept made) folder)) state
+put_tagged tag state opened kept folder made (Some other) = answers_tagged tag (codes "NO too large") [] state
+
+append_tagged : (meanings : Meanings) (tag : List ℕ) (state : State) (opened : Option ℕ) (mode : Mode) (store : StoreState) (flags : ℕ) (date : List ℕ) (in_utf8 : Bool) (octets : List ℕ) (found : Option ℕ)
+    → EndsTagged tag (append_in meanings tag state opened mode store flags date in_utf8 octets found)
+append_tagged meanings tag state opened mode store flags date in_utf8 octets None = answers_tagged tag (codes "NO no such folder") [] state
+append_tagged meanings tag state opened mode store flags date in_utf8 octets (Some folder) =
+    let whole = completed octets in
+    let unless : Option StoreFault → Step = append_unless tag state opened store.kept folder (appended folder flags date whole) in
+    let without : Step = says tag (codes "NO not a message") state in
+    tagged_if tag (in_utf8 && not (is_enabled mode)) (says tag (codes "NO not enabled") state) (if meanings.has_tree whole then unless (append_refusal store whole) else without)
+    (answers_tagged tag (codes "NO not enabled") [] state)
+    (tagged_if tag (meanings.has_tree whole) (unless (append_refusal store whole)) without (put_tagged tag state opened store.kept folder (appended folder flags date whole) (append_refusal store whole)) (answers_tagged tag (codes "NO not a message") [] state))
+
+added_tagged : (meanings : Meanings) (now tag : List ℕ) (state : State) (mode : Mode) (account : ℕ) (store : StoreState) (said : Command) → adds_to_store said ≡ true
+    → EndsTagged tag (mailbox_step meanings now tag state mode account store said)
+added_tagged meanings now tag state mode account store command.Capability is = absurd cc
+added_tagged meanings now tag state mode account store command.Noop is = absurd cc
+added_tagged meanings now tag state mode account store command.Check is = absurd cc
+added_tagged meanings now tag state mode account store command.Logout is = absurd cc
+added_tagged meanings now tag state mode account store (command.Login user password) is = absurd cc
+added_tagged meanings now tag state mode account store (command.Enable words) is = absurd cc
+added_tagged meanings now tag state mode account store (command.Select written) is = absurd cc
+added_tagged meanings now tag state mode account store (command.Examine written) is = absurd cc
+added_tagged meanings now tag state mode account store (command.Create written) is = create_tagged tag state account store (meanings.name_of (is_enabled mode) written)
+added_tagged meanings now tag state mode account store (command.List reference pattern) is = absurd cc
+added_tagged meanings now tag state mode account store (command.Status written items) is = absurd cc
+added_tagged meanings now tag state mode account store (command.Append written flags date in_utf8 octets) is =
+    append_tagged meanings tag state (opened_in state) mode store flags (date_or now date) in_utf8 octets (folder_named meanings mode store account written)
+added_tagged meanings now tag state mode account store (command.Fetch by_uid set items) is = absurd cc
+added_tagged meanings now tag state mode account store (command.Store by_uid set op silent flags) is = absurd cc
+added_tagged meanings now tag state mode account store command.Expunge is = absurd cc
+added_tagged meanings now tag state mode account store command.Close is = absurd cc
+added_tagged meanings now tag state mode account store command.NotHere is = absurd cc
+
+store_tagged : (tag : List ℕ) (state : State) (folder : ℕ) (read_only : Bool) (store : StoreState) (by_uid : Bool) (set : Set) (op : StoreOp) (silent : Bool) (named : ℕ)
+    → EndsTagged tag (store_step tag state folder read_only store by_uid set op silent named)
+store_tagged tag state folder read_only store by_uid set op silent named =
+    let act = store_one by_uid silent op named in
+    tagged_if tag read_only (refused_as_read_only tag state) (for_each tag state by_uid set (listed store.kept folder) act) (answers_tagged tag (codes "NO read only") [] state)
+    (each_tagged tag state by_uid set (listed store.kept folder) act)
+
+expunge_tagged : (tag : List ℕ) (state : State) (read_only : Bool) (messages : List Listed) → EndsTagged tag (expunge_step tag state read_only messages)
+expunge_tagged tag state read_only messages =
+    let acts = taken_out (deleted_ids messages) ++ reply (closing_up 1 messages) in
+    tagged_if tag read_only (refused_as_read_only tag state) (ends_with tag done acts state) (answers_tagged tag (codes "NO read only") [] state) (ends_tagged tag done acts state)
+
+changed_tagged : (meanings : Meanings) (now tag : List ℕ) (mode : Mode) (account folder : ℕ) (read_only : Bool) (store : StoreState) (said : Command) → changes_store said ≡ true
+    → EndsTagged tag (selected_step meanings now tag mode account folder read_only store said)
+changed_tagged meanings now tag mode account folder read_only store command.Capability is = absurd cc
+changed_tagged meanings now tag mode account folder read_only store command.Noop is = absurd cc
+changed_tagged meanings now tag mode account folder read_only store command.Check is = absurd cc
+changed_tagged meanings now tag mode account folder read_only store command.Logout is = absurd cc
+changed_tagged meanings now tag mode account folder read_only store (command.Login user password) is = absurd cc
+changed_tagged meanings now tag mode account folder read_only store (command.Enable words) is = absurd cc
+changed_tagged meanings now tag mode account folder read_only store (command.Select written) is = absurd cc
+changed_tagged meanings now tag mode account folder read_only store (command.Examine written) is = absurd cc
+changed_tagged meanings now tag mode account folder read_only store (command.Create written) is =
+    added_tagged meanings now tag (selected mode account folder read_only) mode account store (command.Create written) refl
+changed_tagged meanings now tag mode account folder read_only store (command.List reference pattern) is = absurd cc
+changed_tagged meanings now tag mode account folder read_only store (command.Status written items) is = absurd cc
+changed_tagged meanings now tag mode account folder read_only store (command.Append written flags date in_utf8 octets) is =
+    added_tagged meanings now tag (selected mode account folder read_only) mode account store (command.Append written flags date in_utf8 octets) refl
+changed_tagged meanings now tag mode account folder read_only store (command.Fetch by_uid set items) is =
+    each_tagged tag (selected mode account folder read_only) by_uid set (listed store.kept folder) (fetch_one meanings mode store by_uid read_only items)
+changed_tagged meanings now tag mode account folder read_only store (command.Store by_uid set op silent flags) is =
+    store_tagged tag (selected mode account folder read_only) folder read_only store by_uid set op silent flags
+changed_tagged meanings now tag mode account folder read_only store command.Expunge is = expunge_tagged tag (selected mode account folder read_only) read_only (listed store.kept folder)
+changed_tagged meanings now tag mode account folder read_only store command.Close is =
+    ends_tagged tag done (if read_only then [] else taken_out (deleted_ids (listed store.kept folder))) (authenticated mode account)
+changed_tagged meanings now tag mode account folder read_only store command.NotHere is = absurd cc
+
+pub step_tagged : (meanings : Meanings) (now tag : List ℕ) (state : State) (store : StoreState) (said : Command) → ¬ (state ≡ ended) → EndsTagged tag (step meanings now state store tag said)
+unfolding step
+step_tagged meanings now tag not_authenticated store said goes = unauthenticated_all (EndsTagged tag) tag (answers_tagged tag) meanings store said
+step_tagged meanings now tag (authenticated mode account) store said goes =
+    authenticated_all (EndsTagged tag) tag (answers_tagged tag) meanings now mode account store said (added_tagged meanings now tag (authenticated mode account) mode account store said)
+step_tagged meanings now tag (selected mode account folder read_only) store said goes =
+    selected_all (EndsTagged tag) tag (answers_tagged tag) meanings now mode account folder read_only store said (changed_tagged meanings now tag mode account folder read_only store said)
+step_tagged meanings now tag ended store said goes = absurd (goes refl)

@@ -1,0 +1,27 @@
+-- Which commands may change the store, and how each is answered.
+use Rattle.std.specs.Prelude.{◌≡◌, ◌++◌, ℕ, Bool, true, false, List, [], ◌∷◌}
+use Rattle.session_core.specs.Acts.{Act}
+use Rattle.imap_grammar.specs.declared.command.Command.{Command}
+use Rattle.imap_grammar.specs.declared.command.Command.TheVariants as command
+use Rattle.imap_session.specs.Machine.{Step, reply, tagged}
+use Rattle.imap_session.specs.Replies.{ReplyPart}
+
+-- the command puts something into the store that wasn't there, a folder or a message
+abbrev pub adds_to_store : Command → Bool
+adds_to_store (command.Create written) = true
+adds_to_store (command.Append written flags date in_utf8 octets) = true
+adds_to_store other = false
+
+-- it does so, or changes messages of the selected folder or takes them out
+abbrev pub changes_store : Command → Bool
+changes_store (command.Create written) = true
+changes_store (command.Append written flags date in_utf8 octets) = true
+changes_store (command.Fetch by_uid set items) = true
+changes_store (command.Store by_uid set op silent flags) = true
+changes_store command.Expunge = true
+changes_store command.Close = true
+changes_store other = false
+
+-- the last act of the step is the line with the command's tag
+abbrev pub EndsTagged : (tag : List ℕ) → Step → Type 0
+EndsTagged tag taken = (before : List (Act ReplyPart)) × (words : List ℕ) × (taken.acts ≡ before ++ reply (tagged tag words ∷ []))

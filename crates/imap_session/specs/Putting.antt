@@ -1,0 +1,81 @@
+-- What comes of an APPEND: its message is put, or one of four causes is told.
+use Rattle.std.specs.Prelude.{◌≡◌, ◌⊎◌, ◌<◌, ◌≤◌, ◌+◌, ◌==◌, ◌++◌, ℕ, Bool, true, List, [], ◌∷◌, length, codes, Option, None, Some, if◌then◌else◌}
+use Rattle.std.specs.Fmt.{decimal}
+use Rattle.journal_records.specs.Stored.{IsStored}
+use Rattle.kept_mail.specs.Kept.{Kept, listed}
+use Rattle.kept_mail.specs.declared.limits.TheConstants.{THINGS_MAX}
+use Rattle.mail_store.specs.StoreState.{StoreState}
+use Rattle.surrogate_cache.specs.Served.{Mode, legacy, enabled}
+use Rattle.session_core.specs.Acts.{changes}
+use Rattle.session_core.specs.Meanings.{Meanings}
+use Rattle.imap_grammar.specs.declared.command.Command.{Command}
+use Rattle.imap_grammar.specs.declared.command.Command.TheVariants as command
+use Rattle.imap_session.specs.Machine.{State, Step, appended, authenticated, completed, date_or, done, ends_with, folder_named, opened_in, reply, says, selected, untagged}
+use Rattle.imap_session.specs.Replies.{ReplyPart}
+
+-- what an APPEND says
+pub record Said : Type 0 where
+  pub written : List ℕ
+  pub flags : ℕ
+  pub date : Option (List ℕ)
+  pub in_utf8 : Bool
+  pub octets : List ℕ
+
+abbrev pub append_of : Said → Command
+append_of said = command.Append said.written said.flags said.date said.in_utf8 said.octets
+
+-- the session is authenticated, of this mode and for this account, whether a folder is selected or not
+abbrev pub IsAuthenticated : Mode → (account : ℕ) → State → Type 0
+IsAuthenticated mode account state = (state ≡ authenticated mode account) ⊎ ((folder : ℕ) × (read_only : Bool) × (state ≡ selected mode account folder read_only))
+
+-- the store takes octets as a message more: they are no larger than a message may be, and it has room for one
+pub record HasRoomFor (store : StoreState) (octets : List ℕ) : Type 0 where
+  pub size : length octets ≤ store.message_max
+  pub messages : length store.kept.messages < THINGS_MAX
+
+-- The message may be put into this folder: it is the one that is named, data in the form with UTF8 come from a session that enabled it, and the
+-- octets, the last line complete, have a tree, for which the store has room.
+pub record MayBePut (meanings : Meanings) (mode : Mode) (account : ℕ) (store : StoreState) (said : Said) (folder : ℕ) : Type 0 where
+  pub named : folder_named meanings mode store account said.written ≡ Some folder
+  pub form : said.in_utf8 ≡ true → mode ≡ enabled
+  pub tree : IsStored (completed said.octets)
+  pub room : HasRoomFor store (completed said.octets)
+
+-- the selected folder has one message more than it had, where this one was put into it
+abbrev pub one_more : (opened : Option ℕ) → Kept → (folder : ℕ) → List ReplyPart
+one_more None kept folder = []
+one_more (Some opened) kept folder = if opened == folder then untagged (decimal (length (listed kept folder) + 1) ++ codes " EXISTS") ∷ [] else []
+
+-- the message is put last in the folder, and then that is told; the state stays
+abbrev pub put_step : (now tag : List ℕ) → State → StoreState → Said → (folder : ℕ) → Step
+put_step now tag state store said folder =
+    ends_with tag done (changes (appended folder said.flags (date_or now said.date) (completed said.octets) ∷ []) ∷ reply (one_more (opened_in state) store.kept folder)) state
+
+-- why a message isn't put
+pub data Cause : Type 0 where
+  no_folder : Cause
+  not_enabled : Cause
+  no_message : Cause
+  too_large : Cause
+
+abbrev pub words_of_cause : Cause → List ℕ
+words_of_cause no_folder = codes "NO no such folder"
+words_of_cause not_enabled = codes "NO not enabled"
+words_of_cause no_message = codes "NO not a message"
+words_of_cause too_large = codes "NO too large"
+
+abbrev pub IsCause : Meanings → Mode → (account : ℕ) → StoreState → Said → Cause → Type 0
+IsCause meanings mode account store said no_folder = folder_named meanings mode store account said.written ≡ None
+IsCause meanings mode account store said not_enabled = (said.in_utf8 ≡ true) × (mode ≡ legacy)
+IsCause meanings mode account store said no_message = ¬ IsStored (completed said.octets)
+IsCause meanings mode account store said too_large = ¬ HasRoomFor store (completed said.octets)
+
+-- it is put into the folder that is named
+abbrev pub IsPut : Meanings → (now tag : List ℕ) → State → Mode → (account : ℕ) → StoreState → Said → Step → Type 0
+IsPut meanings now tag state mode account store said taken =
+    (folder : ℕ) × (folder_named meanings mode store account said.written ≡ Some folder) × (taken ≡ put_step now tag state store said folder)
+
+-- a cause is told and nothing else, and nothing changes
+abbrev pub IsRefused : Meanings → (tag : List ℕ) → State → Mode → (account : ℕ) → StoreState → Said → Step → Type 0
+IsRefused meanings tag state mode account store said taken =
+    (cause : Cause) × IsCause meanings mode account store said cause × (taken ≡ says tag (words_of_cause cause) state)

@@ -1,0 +1,54 @@
+//! Laws of what APPEND puts into folders, of which commands change the store and how each is answered, and of the store behind a stream.
+ghost use Rattle.std.specs.Prelude.{◌≡◌, ◌≢◌, ◌⊎◌, ◌∷◌, [], ℕ, List, false, true};
+ghost use Rattle.mail_store.specs.Following.{records_of};
+ghost use Rattle.mail_store.specs.StoreState.{StoreState, with_records};
+ghost use Rattle.surrogate_cache.specs.Served.{Mode};
+ghost use Rattle.session_core.specs.Acts.{changes_in};
+ghost use Rattle.session_core.specs.Meanings.{Meanings, TellsTrees};
+ghost use Rattle.session_core.specs.Turns.{all_turns};
+ghost use Rattle.imap_grammar.specs.declared.command.Command.{Command};
+ghost use Rattle.imap_session.specs.Answering.{EndsTagged, adds_to_store, changes_store};
+ghost use Rattle.imap_session.specs.Machine.{State, appended, completed, date_or, ended, not_authenticated, out_of_order, says, selected, step};
+ghost use Rattle.imap_session.specs.Putting.{Cause, IsAuthenticated, IsPut, IsRefused, MayBePut, Said, append_of, put_step, words_of_cause};
+ghost use Rattle.imap_session.specs.Session.{Machine, next_turn};
+
+/// In an authenticated session an APPEND into a folder that is there puts its message, where the octets, the last line complete, have a tree
+/// and the store has room for them, and the form with UTF8 comes from a session that enabled it: the one change is that message, put last with its
+/// flags and its date or that of the moment, and the reply is OK. Otherwise nothing changes, and the reply is the line that tells the cause.
+/// Before login it is out of order.
+pub fn whole_messages_are_put()
+    ensures put { (meanings : Meanings) (now tag : List ℕ) (state : State) (mode : Mode) (account : ℕ) (store : StoreState) (said : Said) (folder : ℕ)
+        → TellsTrees meanings.has_tree → IsAuthenticated mode account state → MayBePut meanings mode account store said folder
+        → step meanings now state store tag (append_of said) ≡ put_step now tag state store said folder }
+    ensures change { (now tag : List ℕ) (state : State) (store : StoreState) (said : Said) (folder : ℕ)
+        → changes_in (put_step now tag state store said folder).acts ≡ (appended folder said.flags (date_or now said.date) (completed said.octets) ∷ []) ∷ [] }
+    ensures either { (meanings : Meanings) (now tag : List ℕ) (state : State) (mode : Mode) (account : ℕ) (store : StoreState) (said : Said)
+        → TellsTrees meanings.has_tree → IsAuthenticated mode account state
+        → let taken = step meanings now state store tag (append_of said) in
+        IsPut meanings now tag state mode account store said taken ⊎ IsRefused meanings tag state mode account store said taken }
+    ensures none { (tag : List ℕ) (state : State) (cause : Cause) → changes_in (says tag (words_of_cause cause) state).acts ≡ [] }
+    ensures before { (meanings : Meanings) (now tag : List ℕ) (store : StoreState) (said : Said)
+        → step meanings now not_authenticated store tag (append_of said) ≡ out_of_order tag not_authenticated }
+{}
+
+/// Only CREATE, APPEND, STORE, FETCH, EXPUNGE and CLOSE may change the store, and no command does before login. Where a folder was opened by EXAMINE
+/// only what adds something to the store changes it.
+pub fn few_commands_change_the_store()
+    ensures others { (meanings : Meanings) (now tag : List ℕ) (state : State) (store : StoreState) (said : Command) → changes_store said ≡ false
+        → changes_in (step meanings now state store tag said).acts ≡ [] }
+    ensures before { (meanings : Meanings) (now tag : List ℕ) (store : StoreState) (said : Command) → changes_in (step meanings now not_authenticated store tag said).acts ≡ [] }
+    ensures examined { (meanings : Meanings) (now tag : List ℕ) (mode : Mode) (account folder : ℕ) (store : StoreState) (said : Command) → adds_to_store said ≡ false
+        → changes_in (step meanings now (selected mode account folder true) store tag said).acts ≡ [] }
+{}
+
+/// Until a session has ended each command is answered: all that it does is done before the line with its tag is given, which is the last.
+pub fn each_command_is_answered()
+    ensures { (meanings : Meanings) (now tag : List ℕ) (state : State) (store : StoreState) (said : Command) → state ≢ ended
+        → EndsTagged tag (step meanings now state store tag said) }
+{}
+
+/// Behind a stream the machine's store is the one before it with the changes that its commands make.
+pub fn the_store_has_the_changes()
+    ensures { (meanings : Meanings) (machine : Machine) (octets : List ℕ) → let turn = all_turns (next_turn meanings) machine octets in
+        turn.after.store ≡ with_records machine.store (records_of (changes_in turn.parts)) }
+{}
