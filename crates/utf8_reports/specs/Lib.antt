@@ -1,0 +1,6 @@
+pub mod Fields
+pub mod Recipients
+pub mod Destinations
+pub mod Shown
+pub mod Reports
+pub mod private
