@@ -1,0 +1,11 @@
+pub mod Plans
+pub mod Replies
+pub mod Pieces
+pub mod Offers
+pub mod Said
+pub mod Letters
+pub mod Relay
+pub mod Within
+pub mod Standing
+pub mod Settling
+pub mod private

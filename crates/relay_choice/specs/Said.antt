@@ -1,0 +1,77 @@
+-- What a client says (RFC 5321, 4.1.1; RFC 6152, 3; RFC 6531, 3.4).
+use Rattle.std.specs.Prelude.{ℕ, List, [], ◌∷◌, ◌++◌, Bool, true, false, ◌&&◌, ◌||◌, not, if◌then◌else◌, Option, None, Some, codes, unwrap_or}
+use Rattle.std.specs.List.{list_any}
+use Rattle.mail_wire.specs.Dots.{missing_end, stuffed}
+use Rattle.mail_wire.specs.Lines.{crlf}
+use Rattle.mail_wire.specs.Octets.{is_high}
+use Rattle.ace_domains.specs.Domains.{normal_form}
+use Rattle.address_grammar.specs.declared.Address.{Address}
+use Rattle.address_grammar.specs.Addresses.{local_text}
+use Rattle.relay_choice.specs.declared.plans.Form.{Form}
+use Rattle.relay_choice.specs.declared.plans.Form.TheVariants as form
+use Rattle.relay_choice.specs.declared.plans.Demands.{Demands}
+use Rattle.relay_choice.specs.declared.plans.Offer.{Offer}
+use Rattle.relay_choice.specs.declared.letters.Recipient.{Recipient}
+use Rattle.relay_choice.specs.declared.letters.Letter.{Letter}
+
+-- ---- addresses
+
+-- a domain, in A-labels where it isn't ASCII and SMTPUTF8 isn't offered
+abbrev pub said_domain : Offer → List ℕ → List ℕ
+said_domain offer domain = if not offer.smtputf8 && is_high domain then unwrap_or (normal_form domain) domain else domain
+
+-- an address, the local part of which stays as it is
+abbrev pub said_address : Offer → Address → List ℕ
+said_address offer address = local_text address.local ++ 64 ∷ said_domain offer address.domain
+
+-- a path in angle brackets; the null path has no address (RFC 5321, 4.5.5)
+abbrev pub said_path : Offer → Option Address → List ℕ
+said_path offer None = codes "<>"
+said_path offer (Some address) = 60 ∷ (said_address offer address ++ 62 ∷ [])
+
+-- ---- commands
+
+abbrev pub ehlo_line : (name : List ℕ) → List ℕ
+ehlo_line name = codes "EHLO " ++ (name ++ crlf)
+
+abbrev pub is_ascii_form : Form → Bool
+is_ascii_form form.Ascii = true
+is_ascii_form form.Normal = false
+is_ascii_form form.Utf8 = false
+
+-- The header, the path or one of these recipients isn't ASCII, so that the message asks for SMTPUTF8 (RFC 6531, 3.4).
+abbrev pub needs_smtputf8 : Demands → List Recipient → Bool
+needs_smtputf8 demands recipients =
+    demands.header || not (is_ascii_form demands.path) || list_any (λ (recipient : Recipient). not (is_ascii_form recipient.form)) recipients
+
+abbrev pub eight_word : Bool → List ℕ
+eight_word true = codes " BODY=8BITMIME"
+eight_word false = []
+
+abbrev pub smtputf8_word : Bool → List ℕ
+smtputf8_word true = codes " SMTPUTF8"
+smtputf8_word false = []
+
+-- the parameters are asked for only where the server offers them
+abbrev pub mail_line : Offer → Letter → (sent : List Recipient) → List ℕ
+mail_line offer letter sent =
+    codes "MAIL FROM:" ++ (said_path offer letter.path ++ (eight_word (letter.demands.eight && offer.eight)
+    ++ (smtputf8_word (offer.smtputf8 && needs_smtputf8 letter.demands sent) ++ crlf)))
+
+abbrev pub rcpt_line : Offer → Recipient → List ℕ
+rcpt_line offer recipient = codes "RCPT TO:" ++ (said_path offer (Some recipient.address) ++ crlf)
+
+abbrev pub data_line : List ℕ
+data_line = codes "DATA\r\n"
+
+abbrev pub reset_line : List ℕ
+reset_line = codes "RSET\r\n"
+
+abbrev pub quit_line : List ℕ
+quit_line = codes "QUIT\r\n"
+
+-- ---- the data
+
+-- a message as data: a dot before each line that begins with one, and the line of one dot that ends them (RFC 5321, 4.5.2)
+abbrev pub data_text : List ℕ → List ℕ
+data_text octets = stuffed octets ++ (missing_end octets ++ codes ".\r\n")

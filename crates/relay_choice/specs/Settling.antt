@@ -1,0 +1,47 @@
+-- What the acts of a run say of its letters.
+use Rattle.std.specs.Prelude.{◌≡◌, ℕ, ◌<◌, ◌≤◌, List, [], ◌∷◌, false, None, Some, length, slice_get}
+use Rattle.std.specs.Option.{option_map_or}
+use Rattle.relay_choice.specs.declared.plans.Offer.{Offer}
+use Rattle.relay_choice.specs.declared.replies.Reply.{Reply}
+use Rattle.relay_choice.specs.declared.letters.Letter.{Letter}
+use Rattle.relay_choice.specs.declared.letters.Outcome.{Outcome}
+use Rattle.relay_choice.specs.declared.letters.Outcome.TheVariants as outcome
+use Rattle.relay_choice.specs.declared.letters.Act.{Act}
+use Rattle.relay_choice.specs.declared.letters.Act.TheVariants as act
+use Rattle.relay_choice.specs.Offers.{offer_of}
+use Rattle.relay_choice.specs.Relay.{sent_to}
+
+-- the number of the letter that an act settles
+abbrev pub numbers_in : Act → List ℕ
+numbers_in (act.Say octets) = []
+numbers_in (act.SayData number) = []
+numbers_in (act.Settle number outcomes) = number ∷ []
+
+-- The letter of this number is there, and has as many recipients as there are outcomes.
+pub record AreItsOutcomes (letters : List Letter) (number : ℕ) (outcomes : List Outcome) : Type 0 where
+  pub letter : Letter
+  pub there : slice_get letters number ≡ Some letter
+  pub each : length outcomes ≡ length letter.recipients
+
+-- The letter of this number is there, and by this offer it is sent to somebody.
+pub record IsSentToSome (offer : Offer) (letters : List Letter) (number : ℕ) : Type 0 where
+  pub letter : Letter
+  pub there : slice_get letters number ≡ Some letter
+  pub some : 0 < length (sent_to offer letter)
+
+-- What the second reply offers, which is the one to EHLO. Before it nothing is offered.
+abbrev pub offer_in : List Reply → Offer
+offer_in replies = option_map_or offer_of (slice_get replies 1) (record { smtputf8 = false; eight = false })
+
+-- codes that replies have (RFC 5321, 4.2)
+abbrev pub IsCode : ℕ → Type 0
+IsCode code = (200 ≤ code) × (code ≤ 599)
+
+abbrev pub HasCode : Reply → Type 0
+HasCode reply = IsCode reply.code
+
+-- an outcome whose code, if there is one, is that of a reply
+abbrev pub IsFitOutcome : Outcome → Type 0
+IsFitOutcome outcome.Sent = Unit {0}
+IsFitOutcome (outcome.Refused detail None) = Unit {0}
+IsFitOutcome (outcome.Refused detail (Some code)) = IsCode code

@@ -1,0 +1,45 @@
+//! What a client keeps.
+ghost use Rattle.std.specs.List.{All};
+ghost use Rattle.relay_choice.specs.Letters.{IsAddressed};
+ghost use Rattle.relay_choice.specs.Within.{HasItsLetter};
+
+use crate::letters::Letters;
+use crate::plans::Offer;
+use mail_wire::{Items, Octets};
+use std::alloc::Global;
+
+// What the next reply answers:
+//
+//   Greeting -> Ehlo -> Mail -> Rcpt .. Rcpt -> Data -> End -> the next letter's Mail, or QUIT
+//                         |             |         |
+//                         +-> Reset <---+         +-> the next letter's Mail, or QUIT
+//                               |
+//                               +-> the next letter's Mail, or QUIT
+#[derive(Clone, Copy, Debug, PartialEq, Eq)]
+pub enum Awaited {
+    Greeting,
+    Ehlo,
+    Mail,
+    /// RCPT for the recipient before this place.
+    Rcpt(usize),
+    Data,
+    /// The end of the data.
+    End,
+    Reset,
+}
+
+/// A client that awaits a reply.
+#[derive(Debug, Drop)]
+pub struct Client {
+    pub alloc: Global,
+    pub name: Octets,
+    pub letters: Letters,
+    // The number of the letter that it is at.
+    pub at: usize,
+    pub offer: Offer,
+    pub awaited: Awaited,
+    // The codes of the answers to RCPT, or of the one to MAIL for each recipient, where that refused them.
+    pub answers: Items<u16>,
+    ghost within: { HasItsLetter awaited at letters },
+    ghost addressed: { All IsAddressed letters },
+}

@@ -1,0 +1,265 @@
+//! Whole runs over the octets of a server, which come one by one: what is said, and what comes of the recipients.
+ghost use Rattle.std.specs.Prelude.{IfOk, IfSome};
+ghost use Rattle.std.specs.List.{All};
+ghost use Rattle.relay_choice.specs.Letters.{HasTextDomain, IsAddressed};
+
+use address_grammar::Address;
+use mail_wire::{Items, Octets};
+use mime_tree::read_tree;
+use relay_choice::{
+    Act, Acts, Client, Letter, Letters, Outcome, ReplyRead, ReplyReader, Taken, Turn, letter_of,
+    push_data, read_reply,
+};
+use std::alloc::Global;
+use std::test::Fail;
+
+// The local part and the domain of an address.
+type Parts<'a> = (&'a str, &'a str);
+
+// A message of a queue: its path, none for the null path, its recipients, and its octets.
+struct Queued<'a> {
+    path: Option<Parts<'a>>,
+    recipients: &'a [Parts<'a>],
+    octets: &'a [u8],
+}
+
+fn address_of(alloc: Global, parts: Parts) -> Result<Address, Fail>
+    ensures { IfOk result HasTextDomain }
+{
+    let (local, domain) = parts;
+    Ok(Address {
+        local: Octets::from_slice(alloc, local.as_bytes())?,
+        domain: Octets::from_slice(alloc, domain.as_bytes())?,
+    })
+}
+
+fn addresses_of(alloc: Global, all: &[Parts]) -> Result<Items<Address>, Fail>
+    ensures { IfOk result (All HasTextDomain) }
+{
+    let mut made = Items::new(alloc);
+    for parts in all {
+        made.push(address_of(alloc, *parts)?)?;
+    }
+    Ok(made)
+}
+
+fn path_of(alloc: Global, parts: Option<Parts>) -> Result<Option<Address>, Fail>
+    ensures { IfOk result (λ path. IfSome path HasTextDomain) }
+{
+    match parts {
+        Some(parts) => Ok(Some(address_of(alloc, parts)?)),
+        None => Ok(None),
+    }
+}
+
+// The letter of a message; none of octets that are no message.
+fn queued_letter(alloc: Global, queued: &Queued) -> Result<Option<Letter>, Fail>
+    ensures { IfOk result (λ found. IfSome found IsAddressed) }
+{
+    let Ok(tree) = read_tree(alloc, queued.octets) else {
+        return Ok(None);
+    };
+    let path = path_of(alloc, queued.path)?;
+    let recipients = addresses_of(alloc, queued.recipients)?;
+    Ok(Some(letter_of(alloc, path, recipients, queued.octets, &tree)?))
+}
+
+fn queued_letters(alloc: Global, queue: &[Queued]) -> Result<Option<Letters>, Fail>
+    ensures { IfOk result (λ found. IfSome found (All IsAddressed)) }
+{
+    let mut letters = Items::new(alloc);
+    for queued in queue {
+        match queued_letter(alloc, queued)? {
+            Some(letter) => letters.push(letter)?,
+            None => return Ok(None),
+        }
+    }
+    Ok(Some(letters))
+}
+
+fn put_outcome(made: &mut Octets, outcome: Outcome) -> Result<(), Fail> {
+    match outcome {
+        Outcome::Sent => made.push_slice(b" sent")?,
+        Outcome::Refused { detail, code } => {
+            made.push_slice(b" 5.")?;
+            made.push(b'0' + detail % 10)?;
+            if code.is_some() {
+                made.push_slice(b" coded")?;
+            }
+        }
+    }
+    Ok(())
+}
+
+// What acts give, and what is settled in brackets.
+fn put_acts(made: &mut Octets, acts: &Acts, queue: &[Queued]) -> Result<(), Fail> {
+    for act in acts.as_slice() {
+        match act {
+            Act::Say(octets) => made.push_slice(octets.as_slice())?,
+            Act::SayData(number) => {
+                if let Some(queued) = queue.get(*number) {
+                    push_data(made, queued.octets)?;
+                }
+            }
+            Act::Settle(_, outcomes) => {
+                made.push(b'[')?;
+                for outcome in outcomes.as_slice() {
+                    put_outcome(made, *outcome)?;
+                }
+                made.push_slice(b" ]\r\n")?;
+            }
+        }
+    }
+    Ok(())
+}
+
+// What a run over the server's octets gives, and `!` and the octets that stop it.
+fn run(alloc: Global, letters: Letters, queue: &[Queued], peer: &[u8]) -> Result<Octets, Fail>
+    requires { All IsAddressed letters }
+{
+    let mut made = Octets::new(alloc);
+    let name = Octets::from_slice(alloc, b"example.org")?;
+    let mut client = Client::new(alloc, name, letters);
+    let mut reader = ReplyReader::new(alloc);
+    for octet in peer.chunks(1) {
+        match reader.take(octet)? {
+            Taken::Begun(longer) => reader = longer,
+            Taken::Decided { octets, .. } => {
+                let ReplyRead::Whole { reply, .. } = read_reply(alloc, octets.as_slice())? else {
+                    made.push(b'!')?;
+                    made.push_slice(octets.as_slice())?;
+                    return Ok(made);
+                };
+                match client.take(&reply)? {
+                    Turn::Goes { client: next, acts } => {
+                        put_acts(&mut made, &acts, queue)?;
+                        client = next;
+                    }
+                    Turn::Ends(acts) => {
+                        put_acts(&mut made, &acts, queue)?;
+                        return Ok(made);
+                    }
+                    Turn::Stops => {
+                        made.push(b'!')?;
+                        made.push_slice(octets.as_slice())?;
+                        return Ok(made);
+                    }
+                }
+                reader = ReplyReader::new(alloc);
+            }
+        }
+    }
+    made.push(b'?')?;
+    Ok(made)
+}
+
+fn gives(alloc: Global, queue: &[Queued], peer: &[u8], wanted: &str) -> Result<bool, Fail> {
+    let Some(letters) = queued_letters(alloc, queue)? else {
+        return Ok(false);
+    };
+    let made = run(alloc, letters, queue, peer)?;
+    Ok(made.as_slice() == wanted.as_bytes())
+}
+
+const HIGH: Queued = Queued {
+    path: Some(("a", "example.org")),
+    recipients: &[("josé", "example.com")],
+    octets: b"Subject: \xc3\xa9\r\n\r\n",
+};
+
+const OFFERS_EIGHT: &[u8] = b"220 x\r\n250-x\r\n250 8BITMIME\r\n";
+
+#[test]
+fn a_utf8_header_is_sent_to_no_server_without_smtputf8(rt: HostRuntime) -> Result<(), Fail> {
+    let wanted = "EHLO example.org\r\n[ 5.9 ]\r\nQUIT\r\n";
+    assert!(rt; gives(rt.alloc(), &[HIGH], OFFERS_EIGHT, wanted)?);
+    Ok(())
+}
+
+#[test]
+fn a_refused_recipient_keeps_his_code_when_the_transaction_is_reset(
+    rt: HostRuntime,
+) -> Result<(), Fail> {
+    let alloc = rt.alloc();
+    let peer = b"220 x\r\n250-x\r\n250-8BITMIME\r\n250 SMTPUTF8\r\n250 ok\r\n550 no\r\n250 ok\r\n";
+    let wanted =
+        "EHLO example.org\r\nMAIL FROM:<a@example.org> BODY=8BITMIME SMTPUTF8\r\nRCPT TO:<josé@example.com>\r\nRSET\r\n[ 5.0 coded ]\r\nQUIT\r\n";
+    assert!(rt; gives(alloc, &[HIGH], peer, wanted)?);
+    let peer =
+        b"220 x\r\n250-x\r\n250-8BITMIME\r\n250 SMTPUTF8\r\n250 ok\r\n550 no\r\n451 x\r\n250 x\r\n";
+    let wanted =
+        "EHLO example.org\r\nMAIL FROM:<a@example.org> BODY=8BITMIME SMTPUTF8\r\nRCPT TO:<josé@example.com>\r\nRSET\r\n!451 x\r\n";
+    assert!(rt; gives(alloc, &[HIGH], peer, wanted)?);
+    Ok(())
+}
+
+const PLAIN: Queued = Queued {
+    path: None,
+    recipients: &[("ann", "example.com"), ("bob", "bücher.example")],
+    octets: b"A: b\r\n\r\n.x",
+};
+
+#[test]
+fn data_go_to_those_who_were_accepted(rt: HostRuntime) -> Result<(), Fail> {
+    let alloc = rt.alloc();
+    let said =
+        "EHLO example.org\r\nMAIL FROM:<>\r\nRCPT TO:<ann@example.com>\r\nRCPT TO:<bob@xn--bcher-kva.example>\r\nDATA\r\nA: b\r\n\r\n..x\r\n.\r\n";
+    let peer = b"220 x\r\n250 x\r\n250 ok\r\n250 ok\r\n550 no\r\n354 go\r\n250 ok\r\n";
+    let wanted = format!(in alloc; "{said}[ sent 5.0 coded ]\r\nQUIT\r\n")?;
+    assert!(rt; gives(alloc, &[PLAIN], peer, &wanted)?);
+    let peer = b"220 x\r\n250 x\r\n250 ok\r\n250 ok\r\n550 no\r\n354 go\r\n554 no\r\n";
+    let wanted = format!(in alloc; "{said}[ 5.0 coded 5.0 coded ]\r\nQUIT\r\n")?;
+    assert!(rt; gives(alloc, &[PLAIN], peer, &wanted)?);
+    let peer = b"220 x\r\n250 x\r\n250 ok\r\n250 ok\r\n550 no\r\n354 go\r\n452 x\r\n";
+    let wanted = format!(in alloc; "{said}!452 x\r\n")?;
+    assert!(rt; gives(alloc, &[PLAIN], peer, &wanted)?);
+    Ok(())
+}
+
+#[test]
+fn refused_data_and_a_refused_path_fail_all_recipients(rt: HostRuntime) -> Result<(), Fail> {
+    let alloc = rt.alloc();
+    let peer = b"220 x\r\n250 x\r\n250 ok\r\n250 ok\r\n250 ok\r\n554 no\r\n";
+    let wanted =
+        "EHLO example.org\r\nMAIL FROM:<>\r\nRCPT TO:<ann@example.com>\r\nRCPT TO:<bob@xn--bcher-kva.example>\r\nDATA\r\n[ 5.0 coded 5.0 coded ]\r\nQUIT\r\n";
+    assert!(rt; gives(alloc, &[PLAIN], peer, wanted)?);
+    let peer = b"220 x\r\n250 x\r\n550 no\r\n250 ok\r\n";
+    let wanted = "EHLO example.org\r\nMAIL FROM:<>\r\nRSET\r\n[ 5.0 coded 5.0 coded ]\r\nQUIT\r\n";
+    assert!(rt; gives(alloc, &[PLAIN], peer, wanted)?);
+    Ok(())
+}
+
+#[test]
+fn nothing_is_said_after_a_reply_that_stops_the_run(rt: HostRuntime) -> Result<(), Fail> {
+    let alloc = rt.alloc();
+    assert!(rt; gives(alloc, &[PLAIN], b"554 no\r\n250 x\r\n", "!554 no\r\n")?);
+    assert!(rt;
+        gives(
+            alloc,
+            &[PLAIN],
+            b"220 x\r\n502 no\r\n250 x\r\n",
+            "EHLO example.org\r\n!502 no\r\n"
+        )?
+    );
+    assert!(rt; gives(alloc, &[PLAIN], b"220 x\r\n2xy", "EHLO example.org\r\n!2x")?);
+    assert!(rt;
+        gives(
+            alloc,
+            &[PLAIN],
+            b"220 x\r\n250-x\r\n",
+            "EHLO example.org\r\n?"
+        )?
+    );
+    Ok(())
+}
+
+#[test]
+fn letters_follow_each_other(rt: HostRuntime) -> Result<(), Fail> {
+    let alloc = rt.alloc();
+    let peer =
+        b"220 x\r\n250-x\r\n250 8BITMIME\r\n250 ok\r\n250 ok\r\n250 ok\r\n354 go\r\n250 ok\r\n";
+    let wanted =
+        "EHLO example.org\r\n[ 5.9 ]\r\nMAIL FROM:<>\r\nRCPT TO:<ann@example.com>\r\nRCPT TO:<bob@xn--bcher-kva.example>\r\nDATA\r\nA: b\r\n\r\n..x\r\n.\r\n[ sent sent ]\r\n[ 5.9 ]\r\nQUIT\r\n";
+    assert!(rt; gives(alloc, &[HIGH, PLAIN, HIGH], peer, wanted)?);
+    Ok(())
+}
