@@ -162,13 +162,13 @@ indexes-entry kept i (Some entry) x room may =
     rw count (AreIndexes-entry kept i entry x room.0 room.1 may)
 
 pub AreIndexes-delivered : (kept : Kept) (i : Indexes) (max : ℕ) (delivery : Delivery) (copies : List Message) (one : Option Record) (entry : Option Entry)
-    (messages : List Message) (entries : List Entry) (contents : List Content) (previous : List (Option ℕ)) (recipients : ℕ) (numbers : List ℕ) → AreIndexes kept i → IsStored delivery.local_octets → IsDate delivery.date
+    (messages : List Message) (entries : List Entry) (contents : List Content) (previous : List (Option ℕ)) (recipients : ℕ) (counts : List (ℕ × ℕ)) → AreIndexes kept i → IsStored delivery.local_octets → IsDate delivery.date
     → (has_large_octets max delivery || has_many_things kept delivery) ≡ false → copies ≡ map (copied delivery.date delivery.local_octets) (inboxes_of kept delivery.local)
     → option_to_list one ≡ queued delivery → entry ≡ option_and_then entry_of one → messages ≡ kept.messages ++ copies → entries ≡ kept.entries ++ option_to_list entry
     → AreChained messages contents previous → length contents ≡ length i.contents → recipients ≡ i.recipients + recipient_count (option_to_list entry)
-    → IfSome entry IsKeptEntry → numbers ≡ i.open_entries ++ opened (length kept.entries) entry
-    → AreIndexes (record kept { messages = messages; entries = entries }) (record i { contents = contents; previous = previous; recipients = recipients; open_entries = numbers })
-AreIndexes-delivered kept i max delivery copies one entry messages entries contents previous recipients numbers x tree dated small c is e m n chained count r may o =
+    → IfSome entry IsKeptEntry → counts ≡ i.open_entries ++ opened (length kept.entries) entry
+    → AreIndexes (record kept { messages = messages; entries = entries }) (record i { contents = contents; previous = previous; recipients = recipients; open_entries = counts })
+AreIndexes-delivered kept i max delivery copies one entry messages entries contents previous recipients counts x tree dated small c is e m n chained count r may o =
     let copy = copied delivery.date delivery.local_octets in
     let inboxes = inboxes_of kept delivery.local in
     let stored : AreStored copies = subst AreStored (sym c) (record {

@@ -24,11 +24,12 @@ use Rattle.kept_mail.specs.Kept.{Kept, first_folder, first_named, change_at, set
 use Rattle.kept_mail.specs.private.Names.{kept_first, PutsName, first_name, folder_key, has_key, first_mailbox}
 use Rattle.kept_mail.specs.Records.{recipient_count}
 use Rattle.journal_records.specs.Stored.{IsStored}
-use Rattle.mail_store.specs.Queue.{IsKeptEntry, open_numbers}
+use Rattle.mail_store.specs.Queue.{IsKeptEntry, open_counts}
 use Rattle.mail_store.specs.StoreState.{Indexes, AreIndexes, AreStored}
 use Rattle.mail_store.specs.private.Queue.{opened}
 use Rattle.kept_mail.proofs.ChainLemmas.{AreChained-folder, AreChained-same}
-use Rattle.mail_store.proofs.QueueLemmas.{kept-settled, open_numbers-push}
+use Rattle.mail_store.proofs.QueueLemmas.{kept-settled}
+use Rattle.mail_store.proofs.WaitingLemmas.{open_counts-push}
 use Rattle.mail_store.proofs.FolderLemmas.{and_first, and_second, and_none, bytes_differ, first_named-push_found, first_named-push_none, first_named-push_other, inbox_named, names_push}
 use Rattle.kept_mail.proofs.SameMessages.{AreSameMessages, date_of, length-same, length-change_at, octets_of, part-same}
 
@@ -376,7 +377,7 @@ AreIndexes-entry kept i e h room short may =
       mailboxes_is = h.mailboxes_is;
       locals_is = h.locals_is;
       recipients_is = ap (λ (n : ℕ). n + length e.recipients) h.recipients_is ∙ sym count;
-      open_is = ap (λ (l : List ℕ). l ++ opened (length kept.entries) (Some e)) h.open_is ∙ sym (open_numbers-push kept.entries e);
+      open_is = ap (λ (l : List (ℕ × ℕ)). l ++ opened (length kept.entries) (Some e)) h.open_is ∙ sym (open_counts-push kept.entries e);
       domains_are_texts = h.domains_are_texts;
       folders_are_named = h.folders_are_named;
       messages_are_stored = h.messages_are_stored;
@@ -398,9 +399,9 @@ recipient_count-change_at index (e ∷ es) zero =
 recipient_count-change_at index (e ∷ es) (suc at) =
     sum_by-cons width e (change_at (without index) es at) ∙ ap (λ (n : ℕ). length e.recipients + n) (recipient_count-change_at index es at) ∙ sym (sum_by-cons width e es)
 
-pub AreIndexes-settled : (kept : Kept) (i : Indexes) (entry index : ℕ) (numbers : List ℕ) → AreIndexes kept i → numbers ≡ open_numbers (change_at (without index) kept.entries entry)
-    → AreIndexes (record kept { entries = change_at (without index) kept.entries entry }) (record i { open_entries = numbers })
-AreIndexes-settled kept i entry index numbers h is =
+pub AreIndexes-settled : (kept : Kept) (i : Indexes) (entry index : ℕ) (counts : List (ℕ × ℕ)) → AreIndexes kept i → counts ≡ open_counts (change_at (without index) kept.entries entry)
+    → AreIndexes (record kept { entries = change_at (without index) kept.entries entry }) (record i { open_entries = counts })
+AreIndexes-settled kept i entry index counts h is =
     let count = recipient_count-change_at index kept.entries entry in
     record {
       folder_count = h.folder_count;

@@ -1,5 +1,6 @@
 pub mod FolderLemmas
 pub mod QueueLemmas
+pub mod WaitingLemmas
 pub mod FlagLemmas
 pub mod IndexLemmas
 pub mod MailboxLemmas
@@ -19,3 +20,4 @@ pub mod AccountLemmas
 pub mod DeliveryLemmas
 pub mod EntryLemmas
 pub mod AppendLemmas
+pub mod QueueCounts

@@ -1,17 +1,12 @@
--- Which entries and recipients wait, and the index of the entries.
-use Rattle.std.proofs.Common.{◌≡◌, ℕ, zero, suc, ◌+◌, ◌<◌, ◌≤◌, Bool, true, false, cond, List, [], ◌∷◌, ◌++◌, length, take, map, get_or, Option, Some, None, Result, Ok, Err, refl, sym, ap, subst, ◌∙◌, arith, inl, inr, append-nil, append_assoc, length-take-le, le-ltb, eq-eqb, ne_eqb}
+-- Which entries and recipients wait, and what is told of them.
+use Rattle.std.proofs.Common.{◌≡◌, ℕ, zero, suc, ◌+◌, ◌<◌, ◌≤◌, Bool, cond, List, [], ◌∷◌, ◌++◌, length, take, map, get_or, Option, Some, None, Result, Ok, Err, sym, ap, subst, ◌∙◌, arith, inl, inr, append-nil, append_assoc, length-take-le}
 use Rattle.std.specs.Prelude.{slice_get, IfOk, IfSome, ◌^◌}
-use Rattle.std.specs.List.{All, AllZip, AllByRecursion, list_any}
-use Rattle.std.specs.Ordering.{nat_cmp}
-use Rattle.std.specs.declared.cmp.Ordering.TheVariants.{Equal, Greater}
-use Rattle.std.specs.BTreeMap.{is_at}
-use Rattle.std.specs.BTreeSet.{insert_key}
-use Rattle.std.specs.Set.{remove_key}
-use Rattle.std.proofs.lemmas.Bool.{cases_Bool, or_left, or_right}
+use Rattle.std.specs.List.{All, AllZip, AllByRecursion}
+use Rattle.std.proofs.lemmas.Bool.{cases_Bool}
 use Rattle.std.proofs.lemmas.List.{take_more}
 use Rattle.std.proofs.lemmas.List.Elements.{All-from_recursion, recursion_from_All, All-map}
 use Rattle.std.proofs.lemmas.List.Sums.{sum_by-cons}
-use Rattle.std.proofs.lemmas.Option.{slice_get-get_or}
+use Rattle.std.proofs.lemmas.Option.{none-some, slice_get-get_or}
 use Rattle.mail_wire.specs.declared.values.Memory.{Memory}
 use Rattle.address_grammar.specs.declared.Address.{Address}
 use Rattle.address_grammar.specs.Paths.{ComesInPath, in_angles}
@@ -20,44 +15,21 @@ use Rattle.journal_records.specs.Addresses.{IsKeptAddress}
 use Rattle.kept_mail.specs.declared.kept.Recipient.{Recipient}
 use Rattle.kept_mail.specs.declared.kept.Entry.{Entry}
 use Rattle.kept_mail.specs.Kept.{Kept, change_at, settled, waiting, without}
-use Rattle.kept_mail.specs.Records.{AreRecords, IsInOrder, IsUnsettled, IsWaiting, recipient_count}
+use Rattle.kept_mail.specs.Records.{AreRecords, IsInOrder, IsUnsettled, recipient_count}
 use Rattle.mail_store.specs.declared.queue.Queued.{Queued}
 use Rattle.mail_store.specs.declared.queue.Unsettled.{Unsettled}
 use Rattle.mail_store.specs.Queue.{HasPaths, IsKeptEntry, IsQueue, IsQueued, IsQueuedAt, IsTextOfPath, IsUnsettledAt, is_open, open_numbers, places_where, waits}
-use Rattle.mail_store.specs.private.Queue.{PutsUnsettled, is_opened, opened}
+use Rattle.mail_store.specs.private.Queue.{PutsUnsettled}
 use Rattle.mail_store.proofs.ChangeLemmas.{slice_get_within}
 
-some_is : {T : Type 0} (x y : T) → Some x ≡ Some y → x ≡ y
-some_is x y e = cc
-
-none_is : {T : Type 0} (x : T) → None ≡ Some x → ⊥
-none_is x e = cc
-
 pub slice_get_below : {T : Type 0} (xs : List T) (i : ℕ) (x : T) → slice_get xs i ≡ Some x → i < length xs
-slice_get_below xs i x e = slice_get_within xs i (λ none. none_is x (sym none ∙ e))
+slice_get_below xs i x e = slice_get_within xs i (λ none. none-some x (sym none ∙ e))
 
 zip-push : {A B : Type 0} (R : A → B → Type 0) (xs : List A) (ys : List B) (x : A) (y : B) → AllZip R xs ys → R x y → AllZip R (xs ++ x ∷ []) (ys ++ y ∷ [])
 zip-push R [] [] x y h r = (r, tt)
 zip-push R [] (b ∷ ys) x y h r = absurd h
 zip-push R (a ∷ xs) [] x y h r = absurd h
 zip-push R (a ∷ xs) (b ∷ ys) x y h r = (h.0, zip-push R xs ys x y h.1 r)
-
--- ---- keys in order
-
-cmp_same : (n m : ℕ) → n ≡ m → nat_cmp n m ≡ Equal
-cmp_same n m e = rw (le-ltb n m (omega (arith, e)), eq-eqb n m e) refl
-
-cmp_above : (n m : ℕ) → m < n → nat_cmp n m ≡ Greater
-cmp_above n m lt = rw (le-ltb n m (omega (arith, lt)), ne_eqb n m (λ e. omega (arith, e, lt))) refl
-
--- a key above all goes last
-insert_last : (n : ℕ) (ks : List ℕ) → AllByRecursion (λ k. k < n) ks → insert_key nat_cmp ks n ≡ ks ++ n ∷ []
-insert_last n [] below = refl
-insert_last n (k ∷ ks) below = rw (cmp_above n k below.0) (ap (λ l. k ∷ l) (insert_last n ks below.1))
-
-remove_last : (n : ℕ) (ks : List ℕ) → AllByRecursion (λ k. k < n) ks → remove_key (is_at (nat_cmp n)) (ks ++ n ∷ []) ≡ ks
-remove_last n [] below = rw (cmp_same n n refl) refl
-remove_last n (k ∷ ks) below = rw (cmp_above n k below.0) (ap (λ l. k ∷ l) (remove_last n ks below.1))
 
 -- ---- places
 
@@ -83,62 +55,8 @@ module _ {T : Type 0} (test : T → Bool) where
         | inr other ↦ rw other rest
       ]
 
-  module _ (change : T → T) where
-    -- a change that leaves the test
-    places_kept : (at i : ℕ) (xs : List T) (x y : T) → slice_get xs i ≡ Some x → slice_get (change_at change xs i) i ≡ Some y → test x ≡ true → test y ≡ true
-        → places_where test at (change_at change xs i) ≡ places_where test at xs
-    places_kept at i [] x y e f t u = absurd (none_is x e)
-    places_kept at zero (z ∷ xs) x y e f t u =
-        let was : test z ≡ true = ap test (some_is z x e) ∙ t in
-        let is : test (change z) ≡ true = ap test (some_is (change z) y f) ∙ u in
-        rw (was, is) refl
-    places_kept at (suc i) (z ∷ xs) x y e f t u =
-        let ih = places_kept (at + 1) i xs x y e f t u in
-        elim (cases_Bool (test z)) [
-          | inl here ↦ rw here (ap (λ l. at ∷ l) ih)
-          | inr other ↦ rw other ih
-        ]
-
-    -- one that doesn't takes the place away
-    places_lost : (n at i : ℕ) (xs : List T) (x y : T) → n ≡ at + i → slice_get xs i ≡ Some x → slice_get (change_at change xs i) i ≡ Some y → test x ≡ true → test y ≡ false
-        → places_where test at (change_at change xs i) ≡ remove_key (is_at (nat_cmp n)) (places_where test at xs)
-    places_lost n at i [] x y place e f t u = absurd (none_is x e)
-    places_lost n at zero (z ∷ xs) x y place e f t u =
-        let was : test z ≡ true = ap test (some_is z x e) ∙ t in
-        let is : test (change z) ≡ false = ap test (some_is (change z) y f) ∙ u in
-        rw (was, is, cmp_same n at (omega (arith, place))) refl
-    places_lost n at (suc i) (z ∷ xs) x y place e f t u =
-        let ih = places_lost n (at + 1) i xs x y (omega (arith, place)) e f t u in
-        elim (cases_Bool (test z)) [
-          | inl here ↦ rw (here, cmp_above n at (omega (arith, place))) (ap (λ l. at ∷ l) ih)
-          | inr other ↦ rw other ih
-        ]
-
--- ---- the entry that comes next
-
 numbers_below : (es : List Entry) → AllByRecursion (λ k. k < length es) (open_numbers es)
 numbers_below es = places_below is_open (length es) 0 es (omega arith)
-
-pub open_last : (es : List Entry) (entry : Option Entry) (keys : List ℕ) → is_opened entry ≡ true → keys ≡ open_numbers es → insert_key nat_cmp keys (length es) ≡ open_numbers es ++ opened (length es) entry
-open_last es entry keys some is = rw some (ap (λ ks. insert_key nat_cmp ks (length es)) is ∙ insert_last (length es) (open_numbers es) (numbers_below es))
-
-pub open_none : (es : List Entry) (entry : Option Entry) (keys : List ℕ) → is_opened entry ≡ false → keys ≡ open_numbers es → keys ≡ open_numbers es ++ opened (length es) entry
-open_none es entry keys none is = rw none (is ∙ sym (append-nil (open_numbers es)))
-
-pub close_last : (es : List Entry) (entry : Option Entry) (keys : List ℕ) → is_opened entry ≡ true → keys ≡ open_numbers es ++ opened (length es) entry → remove_key (is_at (nat_cmp (length es))) keys ≡ open_numbers es
-close_last es entry keys some is =
-    let last : keys ≡ open_numbers es ++ length es ∷ [] = rw some at is in
-    ap (remove_key (is_at (nat_cmp (length es)))) last ∙ remove_last (length es) (open_numbers es) (numbers_below es)
-
-pub close_none : (es : List Entry) (entry : Option Entry) (keys : List ℕ) → is_opened entry ≡ false → keys ≡ open_numbers es ++ opened (length es) entry → keys ≡ open_numbers es
-close_none es entry keys none is =
-    let last : keys ≡ open_numbers es ++ [] = rw none at is in
-    last ∙ append-nil (open_numbers es)
-
-pub open_numbers-push : (es : List Entry) (entry : Entry) → open_numbers (es ++ entry ∷ []) ≡ open_numbers es ++ opened (length es) (Some entry)
-open_numbers-push es entry =
-    let plain : 0 + length es ≡ length es = omega arith in
-    places-push is_open 0 es entry ∙ ap (λ (n : ℕ). open_numbers es ++ cond (is_open entry) (n ∷ []) []) plain
 
 -- ---- entries that may be kept
 
@@ -173,48 +91,6 @@ entries_kept index (e ∷ es) (suc at) h = (h.0, entries_kept index es at h.1)
 
 pub kept-settled : (index : ℕ) (es : List Entry) (at : ℕ) → All IsKeptEntry es → All IsKeptEntry (change_at (without index) es at)
 kept-settled index es at h = All-from_recursion IsKeptEntry (change_at (without index) es at) (entries_kept index es at (recursion_from_All IsKeptEntry es h))
-
--- ---- a recipient that is settled
-
-waits_among : (rs : List Recipient) (index : ℕ) → IsWaiting (slice_get rs index) → list_any waits rs ≡ true
-waits_among [] index h = absurd h
-waits_among (r ∷ rs) zero h = or_left r.waits (list_any waits rs) h
-waits_among (r ∷ rs) (suc index) h = or_right r.waits (list_any waits rs) (waits_among rs index h)
-
-was_open : (o : Option Entry) (index : ℕ) → IsUnsettled o index → (x : Entry) × (o ≡ Some x) × (is_open x ≡ true)
-was_open None index h = absurd h
-was_open (Some x) index h = (x, refl, waits_among x.recipients index h)
-
--- what stands at a changed place
-slice_get-changed : {T : Type 0} (change : T → T) (xs : List T) (i : ℕ) (x : T) → slice_get xs i ≡ Some x → slice_get (change_at change xs i) i ≡ Some (change x)
-slice_get-changed change [] i x e = absurd (none_is x e)
-slice_get-changed change (y ∷ xs) zero x e = ap (λ z. Some (change z)) (some_is y x e)
-slice_get-changed change (y ∷ xs) (suc i) x e = slice_get-changed change xs i x e
-
-pub settled_within : (es new : List Entry) (at index : ℕ) → IsUnsettled (slice_get es at) index → new ≡ change_at (without index) es at → at < length new
-settled_within es new at index h is =
-    let was = was_open (slice_get es at) index h in
-    subst (λ (l : List Entry). at < length l) (sym is) (slice_get_below (change_at (without index) es at) at (without index was.0) (slice_get-changed (without index) es at was.0 was.1))
-
--- the entry that stands there now
-stands : (es new : List Entry) (at index : ℕ) (y : Entry) → IsUnsettled (slice_get es at) index → new ≡ change_at (without index) es at → y ≡ get_or new at y
-    → slice_get (change_at (without index) es at) at ≡ Some y
-stands es new at index y h is e =
-    let there : slice_get new at ≡ Some y = slice_get-get_or new at y (settled_within es new at index h is) ∙ ap (λ (x : Entry). Some x) (sym e) in
-    ap (λ (l : List Entry). slice_get l at) (sym is) ∙ there
-
-pub stays_open : (es new : List Entry) (at index : ℕ) (y : Entry) (keys : List ℕ) → IsUnsettled (slice_get es at) index → new ≡ change_at (without index) es at → y ≡ get_or new at y
-    → is_open y ≡ true → keys ≡ open_numbers es → keys ≡ open_numbers new
-stays_open es new at index y keys h is e still k =
-    let was = was_open (slice_get es at) index h in
-    k ∙ sym (places_kept is_open (without index) 0 at es was.0 y was.1 (stands es new at index y h is e) was.2 still) ∙ ap open_numbers (sym is)
-
-pub is_closed : (es new : List Entry) (at index : ℕ) (y : Entry) (keys : List ℕ) → IsUnsettled (slice_get es at) index → new ≡ change_at (without index) es at → y ≡ get_or new at y
-    → is_open y ≡ false → keys ≡ open_numbers es → remove_key (is_at (nat_cmp at)) keys ≡ open_numbers new
-is_closed es new at index y keys h is e closed k =
-    let was = was_open (slice_get es at) index h in
-    ap (remove_key (is_at (nat_cmp at))) k
-    ∙ sym (places_lost is_open (without index) at 0 at es was.0 y (omega arith) was.1 (stands es new at index y h is e) was.2 closed) ∙ ap open_numbers (sym is)
 
 -- ---- what is told
 

@@ -1,6 +1,6 @@
 -- The queue: which entries and recipients wait, and what is told of them.
-use Rattle.std.specs.Prelude.{◌≡◌, ◌⊎◌, ℕ, ◌+◌, List, [], ◌∷◌, Bool, Option, Some, None, IfSome, slice_get, if◌then◌else◌}
-use Rattle.std.specs.List.{All, AllZip, list_any}
+use Rattle.std.specs.Prelude.{◌≡◌, ◌⊎◌, ℕ, ◌+◌, List, [], ◌∷◌, length, count_by, Bool, Option, Some, None, IfSome, slice_get, if◌then◌else◌}
+use Rattle.std.specs.List.{All, AllZip, list_any, sum_by}
 use Rattle.address_grammar.specs.declared.Address.{Address}
 use Rattle.address_grammar.specs.Paths.{ComesInPath}
 use Rattle.journal_records.specs.Addresses.{IsTextOfAddress, IsKeptAddress}
@@ -15,6 +15,11 @@ abbrev pub places_where : {T : Type 0} → (T → Bool) → ℕ → List T → L
 places_where test at [] = []
 places_where test at (x ∷ xs) = if test x then at ∷ places_where test (at + 1) xs else places_where test (at + 1) xs
 
+-- the same places, each with a number of what stands there
+abbrev pub sizes_where : {T : Type 0} → (T → Bool) → (T → ℕ) → ℕ → List T → List (ℕ × ℕ)
+sizes_where test size at [] = []
+sizes_where test size at (x ∷ xs) = if test x then (at, size x) ∷ sizes_where test size (at + 1) xs else sizes_where test size (at + 1) xs
+
 -- the recipient isn't settled
 abbrev pub waits : Recipient → Bool
 waits recipient = recipient.waits
@@ -26,6 +31,14 @@ is_open entry = list_any waits entry.recipients
 -- the numbers of the entries with a recipient who isn't settled
 abbrev pub open_numbers : List Entry → List ℕ
 open_numbers entries = places_where is_open 0 entries
+
+-- how many recipients of the entry aren't settled
+abbrev pub waiting_count : Entry → ℕ
+waiting_count entry = count_by waits entry.recipients
+
+-- the same entries, each with how many of its recipients aren't settled
+abbrev pub open_counts : List Entry → List (ℕ × ℕ)
+open_counts entries = sizes_where is_open waiting_count 0 entries
 
 -- the text is that of a path; the null path has none
 abbrev pub IsTextOfPath : List ℕ → Option Address → Type 0
@@ -65,3 +78,7 @@ pub record IsKeptEntry (entry : Entry) : Type 0 where
   pub path : (entry.path ≡ []) ⊎ IsKeptAddress entry.path
   pub addresses : All (λ recipient. IsKeptAddress recipient.address) entry.recipients
   pub stored : IsStored entry.octets
+
+-- how many recipients wait of whom is told
+abbrev pub told_count : List Queued → ℕ
+told_count queue = sum_by (λ (one : Queued). length one.unsettled) queue

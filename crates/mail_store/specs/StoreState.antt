@@ -13,7 +13,7 @@ use Rattle.kept_mail.specs.Kept.{Kept, after_all, inbox_of, first_named}
 use Rattle.kept_mail.specs.private.Names.{first_name, first_mailbox, folder_key}
 use Rattle.kept_mail.specs.Records.{recipient_count}
 use Rattle.journal_records.specs.Stored.{IsStored}
-use Rattle.mail_store.specs.Queue.{open_numbers, IsKeptEntry}
+use Rattle.mail_store.specs.Queue.{open_counts, IsKeptEntry}
 
 pub record StoreState : Type 0 where
   -- the fold of the records
@@ -41,7 +41,7 @@ pub record AreStored (messages : List Message) : Type 0 where
 
 -- What is kept beside for speed: how many messages each folder had, and the last of them; the message before each message in
 -- its folder; each account's INBOX; the first folder of each other name of an account; the first account of each mailbox and
--- the first number of each domain; how many recipients the queue ever had; and the entries with a recipient who isn't settled.
+-- the first number of each domain; how many recipients the queue ever had; and how many of each open entry aren't settled.
 pub record Indexes : Type 0 where
   pub contents : List Content
   pub previous : List (Option ℕ)
@@ -50,7 +50,7 @@ pub record Indexes : Type 0 where
   pub mailboxes : List ℕ → Option ℕ
   pub locals : List ℕ → Option ℕ
   pub recipients : ℕ
-  pub open_entries : List ℕ
+  pub open_entries : List (ℕ × ℕ)
 
 -- no kind of things passes its limit
 pub record AreFew (kept : Kept) : Type 0 where
@@ -73,7 +73,7 @@ pub record AreIndexes (kept : Kept) (indexes : Indexes) : Type 0 where
   pub mailboxes_is : WithPaths (λ path_of. (key : List ℕ) → indexes.mailboxes key ≡ first_mailbox path_of key 0 kept.accounts)
   pub locals_is : (name : List ℕ) → indexes.locals name ≡ first_name name 0 kept.domains
   pub recipients_is : indexes.recipients ≡ recipient_count kept.entries
-  pub open_is : indexes.open_entries ≡ open_numbers kept.entries
+  pub open_is : indexes.open_entries ≡ open_counts kept.entries
   pub domains_are_texts : All IsDomainText kept.domains
   pub folders_are_named : All (λ folder. IsFolderName folder.name) kept.folders
   pub messages_are_stored : AreStored kept.messages

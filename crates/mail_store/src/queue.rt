@@ -2,6 +2,9 @@
 ghost use Rattle.std.specs.Prelude.{◌≡◌, ◌⊎◌, ◌≤◌, ◌<◌, ◌+◌, ◌∷◌, ◌++◌, [], length, slice_get, IfOk, OnOk, OnErr, Some, false, option_map};
 ghost use Rattle.std.specs.List.{All, AllZip};
 ghost use Rattle.std.specs.Option.{option_to_list};
+ghost use Rattle.std.specs.BTreeMap.{is_at};
+ghost use Rattle.std.specs.Map.{set_value};
+ghost use Rattle.std.specs.Ordering.{nat_cmp};
 ghost use Rattle.mail_wire.specs.Keeping.{HasKeeperCause};
 ghost use Rattle.journal_records.specs.Addresses.{IsAddressText, IsKeptAddress, IsTextOfAddress};
 ghost use Rattle.journal_records.specs.Spelling.{record_text as record_text_of};
@@ -11,8 +14,8 @@ ghost use Rattle.kept_mail.specs.Kept.{change_at, without};
 ghost use Rattle.kept_mail.specs.Records.{IsUnsettled, recipient_count};
 ghost use Rattle.kept_mail.specs.declared.limits.TheConstants.{THINGS_MAX};
 ghost use Rattle.mail_store.specs.Changing.{Changes, IsRefusedAs, settle_refusal};
-ghost use Rattle.mail_store.specs.Queue.{HasPaths, IsKeptEntry, IsQueue, IsQueued, IsTextOfPath, IsUnsettledAt, is_open as is_open_of, open_numbers, places_where, waits};
-ghost use Rattle.mail_store.specs.private.Queue.{PutsUnsettled, is_opened as is_opened_of, opened};
+ghost use Rattle.mail_store.specs.Queue.{HasPaths, IsKeptEntry, IsQueue, IsQueued, IsTextOfPath, IsUnsettledAt, open_counts, places_where, told_count, waiting_count as waiting_count_of, waits};
+ghost use Rattle.mail_store.specs.private.Queue.{IsAwaited, PutsUnsettled, awaited as awaited_of, count_at, opened};
 
 use crate::changing::StoreFault;
 use crate::storing::Store;
@@ -22,7 +25,7 @@ use journal_records::{Record, read_text, record_text};
 use kept_mail::{Entry, Parcel, Recipient, is_unsettled, put_entry, settle_at};
 use mail_wire::{Items, Keeper, Memory, Octets};
 use std::alloc::Global;
-use std::collections::BTreeSet;
+use std::collections::BTreeMap;
 
 /// A recipient who waits: the place in the entry, and the address.
 #[derive(Debug, Drop)]
@@ -39,86 +42,104 @@ pub struct Queued {
     pub unsettled: Items<Unsettled>,
 }
 
-// Whether a recipient of the entry waits.
-fn is_open(entry: &Entry) -> bool
-    ensures { result ≡ is_open_of entry.now }
+// How many recipients of the entry wait.
+fn waiting_count(entry: &Entry) -> usize
+    ensures { result ≡ waiting_count_of entry.now }
 {
     let recipients = entry.recipients.as_slice();
-    recipients.iter().any(|recipient| recipient.waits)
+    recipients
+        .iter()
+        .filter(|recipient| recipient.waits)
+        .count()
 }
 
-// Whether there is an entry with a recipient who waits.
-fn is_opened(entry: &Option<Entry>) -> bool
-    ensures { result ≡ is_opened_of entry.now }
+// How many of an entry wait, where there is one.
+fn awaited(entry: &Option<Entry>) -> usize
+    ensures { result ≡ awaited_of entry.now }
 {
     match entry {
-        Some(entry) => is_open(entry),
-        None => false,
+        Some(entry) => waiting_count(entry),
+        None => 0,
     }
 }
 
-/// Puts the number of the entry that comes next among those of open ones, where it is open.
+/// Counts who waits of the entry that comes next, where somebody does.
 pub fn open_next(
-    numbers: &mut BTreeSet<u32>,
+    counts: &mut BTreeMap<u32, usize>,
     entries: &[Entry],
     entry: &Option<Entry>,
 ) -> Result<(), Memory>
-    requires numbers { numbers.old.keys ≡ open_numbers entries.now }
+    requires counts { counts.old.entries ≡ open_counts entries.now }
     requires few { length entries.now ≤ THINGS_MAX }
-    ensures ok { OnOk result (numbers.new.keys ≡ open_numbers entries.now ++ opened (length entries.now) entry.now) }
-    ensures err { OnErr result (numbers.new.keys ≡ numbers.old.keys) }
+    ensures ok { OnOk result (counts.new.entries ≡ open_counts entries.now ++ opened (length entries.now) entry.now) }
+    ensures err { OnErr result (counts.new.entries ≡ counts.old.entries) }
 {
-    if is_opened(entry) {
-        numbers.insert(entries.len() as u32)?;
+    let count = awaited(entry);
+    if count > 0 {
+        counts.insert(entries.len() as u32, count)?;
     }
     Ok(())
 }
 
-/// Takes the number of a parcel's entry back, which wasn't written.
-pub fn close_next(numbers: &mut BTreeSet<u32>, entries: &[Entry], parcel: Parcel)
-    requires numbers { numbers.old.keys ≡ open_numbers entries.now ++ opened (length entries.now) parcel.waiting.entry }
+/// Takes the count of a parcel's entry back, which wasn't written.
+pub fn close_next(counts: &mut BTreeMap<u32, usize>, entries: &[Entry], parcel: Parcel)
+    requires counts { counts.old.entries ≡ open_counts entries.now ++ opened (length entries.now) parcel.waiting.entry }
     requires few { length entries.now ≤ THINGS_MAX }
-    ensures { numbers.new.keys ≡ open_numbers entries.now }
+    ensures { counts.new.entries ≡ open_counts entries.now }
 {
-    if is_opened(&parcel.waiting.entry) {
+    if awaited(&parcel.waiting.entry) > 0 {
         let number = entries.len() as u32;
-        let _was = numbers.remove(&number);
+        let _was = counts.remove(&number);
     }
 }
 
 /// Puts an entry last, and counts its recipients.
 pub fn put_next(
     entries: &mut Vec<Entry>,
-    numbers: &mut BTreeSet<u32>,
+    counts: &mut BTreeMap<u32, usize>,
     recipients: &mut usize,
     entry: Option<Entry>,
 ) -> Result<(), Memory>
-    requires numbers { numbers.old.keys ≡ open_numbers entries.old.items }
+    requires counts { counts.old.entries ≡ open_counts entries.old.items }
     requires few { length entries.old.items ≤ THINGS_MAX }
     requires few_recipients { recipients.old + recipient_count (option_to_list entry) ≤ THINGS_MAX }
     ensures entries { OnOk result (entries.new.items ≡ entries.old.items ++ option_to_list entry) }
-    ensures numbers { OnOk result (numbers.new.keys ≡ numbers.old.keys ++ opened (length entries.old.items) entry) }
+    ensures counts { OnOk result (counts.new.entries ≡ counts.old.entries ++ opened (length entries.old.items) entry) }
     ensures recipients { OnOk result (recipients.new ≡ recipients.old + recipient_count (option_to_list entry)) }
     ensures same_entries { OnErr result (entries.new.items ≡ entries.old.items) }
-    ensures same_numbers { OnErr result (numbers.new.keys ≡ numbers.old.keys) }
+    ensures same_counts { OnErr result (counts.new.entries ≡ counts.old.entries) }
     ensures same_recipients { OnErr result (recipients.new ≡ recipients.old) }
 {
     entries.reserve(1)?;
-    open_next(numbers, entries, &entry)?;
+    open_next(counts, entries, &entry)?;
     put_entry(entries, recipients, entry);
     Ok(())
 }
 
-/// A recipient is done with, and the entry is open no longer where nobody of it waits.
-pub fn settle_open(entries: &mut Vec<Entry>, numbers: &mut BTreeSet<u32>, at: u32, index: u32)
+// One recipient fewer of the entry of this number waits. Answers how many still do.
+fn count_down(counts: &mut BTreeMap<u32, usize>, number: u32) -> usize
+    requires { IsAwaited counts.old.entries number }
+    ensures was { count_at number counts.old.entries ≡ Some (result + 1) }
+    ensures is { counts.new.entries ≡ set_value (is_at (nat_cmp number)) counts.old.entries result }
+{
+    let Some(count) = counts.get_mut(&number) else {
+        unreachable!();
+    };
+    *count -= 1;
+    *count
+}
+
+/// A recipient is done with, and the entry is open no longer where nobody of it waits. The others aren't looked at.
+pub fn settle_open(entries: &mut Vec<Entry>, counts: &mut BTreeMap<u32, usize>, at: u32, index: u32)
     requires unsettled { IsUnsettled (slice_get entries.old.items at) index }
-    requires numbers { numbers.old.keys ≡ open_numbers entries.old.items }
+    requires counts { counts.old.entries ≡ open_counts entries.old.items }
     ensures entries { entries.new.items ≡ change_at (without index) entries.old.items at }
-    ensures numbers { numbers.new.keys ≡ open_numbers entries.new.items }
+    ensures counts { counts.new.entries ≡ open_counts entries.new.items }
 {
     settle_at(entries, at, index);
-    if !is_open(&entries[at as usize]) {
-        let _was = numbers.remove(&at);
+    let left = count_down(counts, at);
+    if left == 0 {
+        let _was = counts.remove(&at);
     }
 }
 
@@ -191,16 +212,16 @@ fn tell_entry(alloc: Global, number: u32, entry: &Entry) -> Result<Queued, Memor
 // What is told of the open entries.
 fn tell_entries(
     alloc: Global,
-    numbers: &BTreeSet<u32>,
+    counts: &BTreeMap<u32, usize>,
     entries: &[Entry],
 ) -> Result<Items<Queued>, Memory>
-    requires numbers { numbers.now.keys ≡ open_numbers entries.now }
+    requires counts { counts.now.entries ≡ open_counts entries.now }
     requires kept { All IsKeptEntry entries.now }
     requires few { recipient_count entries.now ≤ THINGS_MAX }
     ensures { IfOk result (IsQueue entries.now) }
 {
     let mut queue = Vec::new(alloc);
-    for number in numbers {
+    for number in counts.keys() {
         let entry = &entries[*number as usize];
         queue.push(tell_entry(alloc, *number, entry)?)?;
     }
@@ -220,6 +241,7 @@ impl Store {
         ensures queue { IfOk result (IsQueue self.now.kept.entries) }
         ensures known { IfOk result (All (λ one. one.entry < length self.now.kept.entries)) }
         ensures paths { IfOk result (All HasPaths) }
+        ensures few { IfOk result (λ queue. told_count queue ≤ THINGS_MAX) }
     {
         tell_entries(self.alloc, &self.open_entries, &self.entries)
     }

@@ -25,7 +25,7 @@ use kept_mail::{
 };
 use mail_wire::{Memory, Octets};
 use std::alloc::Global;
-use std::collections::{BTreeMap, BTreeSet};
+use std::collections::BTreeMap;
 use std::marker::Model;
 
 /// The store of a mail system.
@@ -53,8 +53,8 @@ pub struct Store {
     pub(crate) locals: BTreeMap<Vec<u8>, u32>,
     // how many recipients the queue ever had
     pub(crate) recipients: usize,
-    // the entries with a recipient who waits
-    pub(crate) open_entries: BTreeSet<u32>,
+    // how many recipients of each open entry wait
+    pub(crate) open_entries: BTreeMap<u32, usize>,
 }
 
 impl Model for Store {
@@ -108,7 +108,7 @@ impl Store {
             mailboxes: BTreeMap::new(alloc),
             locals: BTreeMap::new(alloc),
             recipients: 0,
-            open_entries: BTreeSet::new(alloc),
+            open_entries: BTreeMap::new(alloc),
         }
     }
 

@@ -14,6 +14,10 @@ use std::test::Fail;
 const QUEUE: [u8; 194] =
     *b"MAILJNL1\0\0\x006\x07\0\0\0\0\0\0\0\x02\0\0\0\x07c@z.org\0\0\0\x07d@z.org\0\0\0\x13Subject: \xc3\xa9\r\n\r\n.x\r\n\0\0\x003\x07\0\0\0\x07b@y.org\0\0\0\x01\0\0\0\x08\xc3\xa9@z.org\0\0\0\x13Subject: \xc3\xa9\r\n\r\n.x\r\n\0\0\x00+\x07\0\0\0\0\0\0\0\x01\0\0\0\x07c@z.org\0\0\0\x13Subject: \xc3\xa9\r\n\r\n.x\r\n\0\0\0\x09\x08\0\0\0\0\0\0\0\0\0\0\0\x09\x08\0\0\0\x02\0\0\0\0";
 
+// A message for `c@z.org`, `d@z.org` and `e@z.org`, and one for `c@z.org`.
+const THREE: [u8; 124] =
+    *b"MAILJNL1\0\0\0A\x07\0\0\0\0\0\0\0\x03\0\0\0\x07c@z.org\0\0\0\x07d@z.org\0\0\0\x07e@z.org\0\0\0\x13Subject: \xc3\xa9\r\n\r\n.x\r\n\0\0\0+\x07\0\0\0\0\0\0\0\x01\0\0\0\x07c@z.org\0\0\0\x13Subject: \xc3\xa9\r\n\r\n.x\r\n";
+
 const TWO_WAIT: &[u8] = b"0 <> 1 d@z.org;1 <b@y.org> 0 \xc3\xa9@z.org;";
 
 const ONE_WAITS: &[u8] = b"1 <b@y.org> 0 \xc3\xa9@z.org;";
@@ -78,17 +82,18 @@ fn tells_again(alloc: Global, octets: &[u8], told: &[u8]) -> Result<bool, Fail> 
     tells(&store, alloc, told)
 }
 
-// Whether taking the second recipient of an entry off answers this.
+// Whether taking a recipient of an entry off answers this.
 fn settles(
     store: &mut Store,
     keeper: &mut MemKeeper,
     entry: u32,
+    index: u32,
     answer: Result<(), StoreFault>,
 ) -> Result<bool, Fail> {
     if store.failed() {
         return Err(Fail::from("failed"));
     }
-    Ok(store.settle(keeper, entry, 1) == answer)
+    Ok(store.settle(keeper, entry, index) == answer)
 }
 
 // Whether the second recipient of the first entry goes, once, and is gone in the journal too.
@@ -102,7 +107,7 @@ fn goes_once(alloc: Global) -> Result<bool, Fail> {
         (0, Err(StoreFault::NoSuch)),
     ];
     for (entry, answer) in rows {
-        if !settles(&mut store, &mut keeper, entry, answer)? {
+        if !settles(&mut store, &mut keeper, entry, 1, answer)? {
             return Ok(false);
         }
     }
@@ -111,11 +116,29 @@ fn goes_once(alloc: Global) -> Result<bool, Fail> {
     Ok(written && again && tells(&store, alloc, ONE_WAITS)?)
 }
 
+// Whether the queue is told rightly whenever a recipient of three went, not in their order, and so is that of the journal.
+fn go_in_turn(alloc: Global) -> Result<bool, Fail> {
+    let mut keeper = keeper_of(alloc, &THREE, NEVER)?;
+    let mut store = Store::open(alloc, &mut keeper, 1000)?;
+    let rows: [(u32, &[u8]); 3] = [
+        (1, b"0 <> 0 c@z.org 2 e@z.org;1 <> 0 c@z.org;"),
+        (2, b"0 <> 0 c@z.org;1 <> 0 c@z.org;"),
+        (0, b"1 <> 0 c@z.org;"),
+    ];
+    for (index, told) in rows {
+        let gone = settles(&mut store, &mut keeper, 0, index, Ok(()))?;
+        if !gone || !tells(&store, alloc, told)? || !tells_again(alloc, keeper.octets(), told)? {
+            return Ok(false);
+        }
+    }
+    Ok(true)
+}
+
 // Whether a recipient stays where the keeper fails.
 fn stays(alloc: Global, call: u64) -> Result<bool, Fail> {
     let mut keeper = keeper_of(alloc, &QUEUE, call)?;
     let mut store = Store::open(alloc, &mut keeper, 1000)?;
-    let told = settles(&mut store, &mut keeper, 0, Err(StoreFault::Keeper))?;
+    let told = settles(&mut store, &mut keeper, 0, 1, Err(StoreFault::Keeper))?;
     Ok(told && store.failed() && tells(&store, alloc, TWO_WAIT)?)
 }
 
@@ -153,6 +176,12 @@ fn a_queue_may_be_empty(rt: HostRuntime) -> Result<(), Fail> {
 #[test]
 fn a_recipient_goes_once(rt: HostRuntime) -> Result<(), Fail> {
     assert!(rt; goes_once(rt.alloc())?);
+    Ok(())
+}
+
+#[test]
+fn recipients_go_in_any_order(rt: HostRuntime) -> Result<(), Fail> {
+    assert!(rt; go_in_turn(rt.alloc())?);
     Ok(())
 }
 

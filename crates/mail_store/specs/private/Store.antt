@@ -24,7 +24,7 @@ indexes_of a = record {
   mailboxes = number_named a.mailboxes;
   locals = number_named a.locals;
   recipients = a.recipients;
-  open_entries = a.open_entries.keys;
+  open_entries = a.open_entries.entries;
 }
 
 abbrev pub state_of : Inside → StoreState

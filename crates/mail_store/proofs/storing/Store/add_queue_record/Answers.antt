@@ -27,7 +27,7 @@ invariant_of-self-2 c =
     let may = kept-queued (kept_of c.self.inside) c.args.path c.args.addresses c.args.octets c.in_ok-entry.entry order c.in_ok-entry.ensures in
     let put = c.in_ok-put_next.ensures in
     record {
-      indexes = rw (put.entries, put.recipients, put.numbers)
+      indexes = rw (put.entries, put.recipients, put.counts)
           (indexes-entry (kept_of c.self.inside) (indexes_of c.self.inside) (Some c.in_ok-entry.entry) c.self.invariant.indexes room may);
       message_bound = c.self.invariant.message_bound;
     }

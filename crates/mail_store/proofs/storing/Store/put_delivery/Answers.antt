@@ -8,7 +8,7 @@ use Rattle.kept_mail.specs.Deliveries.{inboxes_of, delivered}
 use Rattle.kept_mail.specs.private.Delivering.{copied, delivery_text}
 use Rattle.kept_mail.specs.Kept.{after_all}
 use Rattle.kept_mail.specs.Records.{AreRecords}
-use Rattle.mail_store.specs.Queue.{open_numbers}
+use Rattle.mail_store.specs.Queue.{open_counts}
 use Rattle.mail_store.specs.private.Queue.{opened}
 use Rattle.mail_store.specs.private.Store.{kept_of, indexes_of, state_of}
 use Rattle.mail_store.specs.StoreState.{StoreState}
@@ -42,14 +42,14 @@ invariant_of-self-in-Ok g c =
     let messages = c.put_parcel.ensures.messages ∙ ap (λ (l : List Message). l ++ parcel.copies.items) c.in-Ok.ensures.messages in
     let entries = c.put_parcel.ensures.entries ∙ ap (λ (l : List Entry). l ++ option_to_list parcel.waiting.entry) c.in-Ok.ensures.entries in
     let deliverable = subst (λ s. IsDeliverable s delivery) (sym c.self.view_is) c.requires.deliverable in
-    let told : c.open_next.new.numbers.keys ≡ open_numbers c.self.inside.entries.items ++ opened (length c.self.inside.entries.items) parcel.waiting.entry = rw (← c.deref.ensures.value) c.in_ok-open_next.ensures.ok in
-    let numbers = told ∙ ap (λ (l : List ℕ). l ++ opened (length c.self.inside.entries.items) parcel.waiting.entry) (sym c.self.invariant.indexes.open_is) in
+    let told : c.open_next.new.counts.entries ≡ open_counts c.self.inside.entries.items ++ opened (length c.self.inside.entries.items) parcel.waiting.entry = rw (← c.deref.ensures.value) c.in_ok-open_next.ensures.ok in
+    let counts = told ∙ ap (λ (l : List (ℕ × ℕ)). l ++ opened (length c.self.inside.entries.items) parcel.waiting.entry) (sym c.self.invariant.indexes.open_is) in
     record {
       indexes = AreIndexes-delivered (kept_of c.self.inside) (indexes_of c.self.inside) c.self.inside.message_max delivery parcel.copies.items entry.0 parcel.waiting.entry
-          c.put_parcel.new.messages.items c.put_parcel.new.entries.items c.put_parcel.new.contents.items c.put_parcel.new.previous.items c.put_parcel.new.recipients c.open_next.new.numbers.keys
+          c.put_parcel.new.messages.items c.put_parcel.new.entries.items c.put_parcel.new.contents.items c.put_parcel.new.previous.items c.put_parcel.new.recipients c.open_next.new.counts.entries
           c.self.invariant.indexes c.requires.deliverable.local_tree c.requires.deliverable.dated small copies entry.1 entry.2 messages entries
           c.put_parcel.ensures.chained c.put_parcel.ensures.count c.put_parcel.ensures.recipients
-          (entry-kept (state_of c.self.inside) delivery entry.0 parcel.waiting.entry deliverable entry.1 entry.2) numbers;
+          (entry-kept (state_of c.self.inside) delivery entry.0 parcel.waiting.entry deliverable entry.1 entry.2) counts;
       message_bound = c.self.invariant.message_bound;
     }
 

@@ -1,3 +1,4 @@
+use Rattle.mail_store.proofs.QueueCounts.{told_few}
 use Rattle.mail_store.proofs.QueueLemmas.{told_known, told_paths}
 use Rattle.mail_store.proofs.storing.Store.queue.Goals as goal
 
@@ -7,3 +8,6 @@ returns-clause-known c =
 
 pub returns-clause-paths : goal.returns-clause-paths
 returns-clause-paths c = told_paths c.tell_entries.result c.deref.result.now c.tell_entries.ensures
+
+pub returns-clause-few : goal.returns-clause-few
+returns-clause-few c = told_few c.tell_entries.result c.self.inside.entries.items c.self.invariant.indexes.few.recipients (rw c.deref.ensures.value at c.tell_entries.ensures)

@@ -3,7 +3,7 @@ use Rattle.std.specs.Prelude.{slice_get}
 use Rattle.std.proofs.lemmas.Result.{err_from_is_err_and}
 use Rattle.journal_records.specs.declared.records.Record.TheVariants as records
 use Rattle.kept_mail.specs.Records.{IsUnsettled}
-use Rattle.mail_store.specs.Queue.{open_numbers}
+use Rattle.mail_store.specs.Queue.{open_counts}
 use Rattle.mail_store.specs.StoreState.{StoreState}
 use Rattle.mail_store.specs.private.Store.{kept_of, indexes_of, state_of}
 use Rattle.mail_store.proofs.ChangeLemmas.{changes-unwritten, changes-written, text-one}
@@ -23,8 +23,8 @@ returns-in_err-write-clause-changes g c =
 
 pub invariant_of-self-2 : goal.invariant_of-self-2
 invariant_of-self-2 g c = record {
-  indexes = rw c.settle_open.ensures.entries (AreIndexes-settled (kept_of c.self.inside) (indexes_of c.self.inside) c.args.entry c.args.index c.settle_open.new.numbers.keys c.self.invariant.indexes
-      (c.settle_open.ensures.numbers ∙ ap open_numbers c.settle_open.ensures.entries));
+  indexes = rw c.settle_open.ensures.entries (AreIndexes-settled (kept_of c.self.inside) (indexes_of c.self.inside) c.args.entry c.args.index c.settle_open.new.counts.entries c.self.invariant.indexes
+      (c.settle_open.ensures.counts ∙ ap open_counts c.settle_open.ensures.entries));
   message_bound = c.self.invariant.message_bound;
 }
 
