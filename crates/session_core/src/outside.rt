@@ -362,6 +362,7 @@ impl<'w, 'k, 'c, W: Wire, J: Keeper, C: Clock> Outside<'w, 'k, 'c, W, J, C> {
         requires deliverable { IsDeliverable self.old.desk.store delivery.now }
         ensures came { IfOk result (λ came. came ≡ came_of (delivery_refusal self.old.desk.store delivery.now)) }
         ensures makes { Makes self.old self.new (fault_of result) (changes_of self.old.desk.store delivery.now) }
+        ensures wire { ¬ (result ≡ Err Fault.Wire) }
         ensures keeps { Keeps self.old self.new (fault_of result) }
     {
         deliver_to(&mut self.desk.store, self.keeper, delivery)
@@ -419,6 +420,7 @@ impl<'w, 'k, 'c, W: Wire, J: Keeper, C: Clock> Outside<'w, 'k, 'c, W, J, C> {
         requires opens { IsOpen self.old.desk }
         requires waits { settle_refusal self.old.desk.store.kept entry index ≡ None }
         ensures makes { Makes self.old self.new (fault_of result) ((records.Settle entry index ∷ []) ∷ []) }
+        ensures wire { ¬ (result ≡ Err Fault.Wire) }
         ensures keeps { Keeps self.old self.new (fault_of result) }
     {
         settle_in(&mut self.desk.store, self.keeper, entry, index)
