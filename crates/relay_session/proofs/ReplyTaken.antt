@@ -1,0 +1,196 @@
+-- What octets that decide come to, by what the client does of them.
+use Rattle.std.proofs.Common.{◌≡◌, inl, inr, ℕ, List, [], ◌∷◌, ◌++◌, length, Option, None, Some, Ok, Err, refl, sym, subst, arith}
+use Rattle.std.specs.Prelude.{All}
+use Rattle.std.proofs.lemmas.List.{take_all}
+use Rattle.address_grammar.specs.declared.Address.{Address}
+use Rattle.mail_store.specs.declared.queue.Queued.{Queued}
+use Rattle.mail_wire.specs.declared.outside.Fault.{Fault}
+use Rattle.mail_wire.specs.declared.outside.Fault.TheVariants as fault
+use Rattle.relay_choice.specs.Relay.{behind_acts, finished}
+use Rattle.relay_choice.specs.Replies.{IsDecided, IsNoFront, IsReply, IsReplyRead}
+use Rattle.relay_choice.specs.Standing.{TakesLeave as LeavesLast, rest_of}
+use Rattle.relay_choice.specs.declared.letters.Act.{Act as ClientAct}
+use Rattle.relay_choice.specs.declared.replies.Reply.{Reply}
+use Rattle.relay_choice.specs.declared.replies.ReplyRead.{ReplyRead}
+use Rattle.relay_choice.specs.declared.replies.ReplyRead.TheVariants as read
+use Rattle.relay_choice.specs.declared.states.Client.{Client}
+use Rattle.relay_choice.proofs.ReplyReads.{decided_once, read_once}
+use Rattle.session_core.specs.Around.{Around}
+use Rattle.session_core.specs.Keeps.{Keeps}
+use Rattle.relay_session.specs.Letters.{Mailbag}
+use Rattle.relay_session.specs.Relaying.{RelaysTo}
+use Rattle.relay_session.specs.declared.ends.LeftCause.TheVariants as cause
+use Rattle.relay_session.specs.declared.ends.Tally.{Tally}
+use Rattle.relay_session.specs.declared.running.Run.{Run}
+use Rattle.relay_session.specs.private.Acting.{ActsBy, AreKnown, AreOpenFrom, CanCount, IsActIn, KeepsQueue, SettleFrom, settled_count}
+use Rattle.relay_session.specs.private.Running.{IsAtWork, IsRunning}
+use Rattle.relay_session.proofs.ClientActs.{IsDue, due_in, due_room, due_settle}
+use Rattle.relay_session.proofs.RunEnds.{ReplyComes, breaks_run, wire_ends}
+use Rattle.relay_session.proofs.RunFinishes.{FinishesBy, all_ends, finishes_by, part_ends}
+use Rattle.relay_session.proofs.RunPieces.{end_of}
+use Rattle.relay_session.proofs.RunSteps.{acts_so_far, codes_more, counts_so, goes_by, goes_on, running_on}
+use Rattle.relay_session.proofs.SameReplies.{same_whole}
+use Rattle.session_core.proofs.MeaningLemmas.{meanings_given}
+use Rattle.journal_records.specs.Addresses.{WithPaths}
+
+-- ---- what the octets are
+
+whole_none : (reply : Reply) (used count : ℕ) → read.Whole reply used ≡ read.NotReply count → ⊥
+whole_none reply used count same = cc
+
+whole_read : (octets : List ℕ) (reply : Reply) → IsReply octets reply → IsReplyRead octets (read.Whole reply (length octets))
+whole_read octets reply is = (omega arith, subst (λ (l : List ℕ). IsReply l reply) (sym (take_all (length octets) octets (omega arith))) is)
+
+none_read : (octets : List ℕ) → IsNoFront octets → IsReplyRead octets (read.NotReply (length octets))
+none_read octets none = (omega arith, subst IsNoFront (sym (take_all (length octets) octets (omega arith))) none)
+
+-- a reply that they begin with is all of them
+pub reply_is : (octets : List ℕ) (reply : Reply) (used : ℕ) → IsDecided octets → IsReplyRead octets (read.Whole reply used) → IsReply octets reply
+reply_is octets reply used (inl (other, is)) found =
+    subst (IsReply octets) (sym (same_whole reply other used (length octets) (read_once octets (read.Whole reply used) (read.Whole other (length octets)) found (whole_read octets other is)))) is
+reply_is octets reply used (inr none) found =
+    absurd (whole_none reply used (length octets) (read_once octets (read.Whole reply used) (read.NotReply (length octets)) found (none_read octets none)))
+
+-- octets that are no reply begin none
+pub none_is : (octets : List ℕ) (found : ReplyRead) → IsDecided octets → IsReplyRead octets found → ((reply : Reply) (used : ℕ) → found ≡ read.Whole reply used → ⊥) → IsNoFront octets
+none_is octets (read.Whole reply used) decided found not = absurd (not reply used refl)
+none_is octets read.More decided found not = absurd (decided_once octets decided found)
+none_is octets (read.NotReply used) (inl (reply, is)) found not =
+    absurd (whole_none reply (length octets) used (read_once octets (read.Whole reply (length octets)) (read.NotReply used) (whole_read octets reply is) found))
+none_is octets (read.NotReply used) (inr none) found not = none
+
+-- ---- the acts that are due
+
+-- what doing acts requires
+pub record CanBeDone (now : Around) (queue : List Queued) (tally : Tally) (acts : List ClientAct) : Type 0 where
+  pub known : AreKnown now.desk.store.kept queue
+  pub within : All (IsActIn queue) acts
+  pub order : (place : ℕ) × AreOpenFrom now.desk.store.kept queue place × SettleFrom place acts
+  pub room : CanCount tally acts
+
+due_done : (before now : Around) (bag : Mailbag before.desk.store.kept) (queue : List Queued) (run : Run) (pending : List ℕ) (work : IsAtWork before now bag run pending) (reply : Reply) (acts : List ClientAct)
+    → bag.queue ≡ queue → IsDue before bag work.replies reply acts → CanBeDone now queue run.tally acts
+due_done before now bag queue run pending work reply acts same due =
+    subst (λ (l : List Queued). CanBeDone now l run.tally acts) same (record {
+      known = work.known;
+      within = due_in before bag work.replies reply acts due;
+      order = (settled_count (acts_so_far before bag work.replies), work.unsettled, due_settle before bag work.replies reply acts due);
+      room = due_room before bag work.replies reply acts run.tally due (counts_so before now bag run pending work);
+    })
+
+-- a run that this is of
+abbrev pub IsOfSome : (now : Around) → List Queued → Run → (octets : List ℕ) → Type 0
+IsOfSome now queue run octets = (before : Around) × (bag : Mailbag before.desk.store.kept) × (rest : List ℕ) × (bag.queue ≡ queue) × IsAtWork before now bag run (octets ++ rest)
+
+pub going_done : (now : Around) (queue : List Queued) (run : Run) (octets : List ℕ) (reply : Reply) (next : Client) (acts : List ClientAct) → IsOfSome now queue run octets → IsReply octets reply
+    → ((left : List Reply) → rest_of run.client (reply ∷ left) ≡ behind_acts acts (rest_of next left)) → CanBeDone now queue run.tally acts
+going_done now queue run octets reply next acts (before, bag, rest, same, work) is comes =
+    let by = goes_by before now bag run (octets ++ rest) work next reply acts comes in
+    due_done before now bag queue run (octets ++ rest) work reply acts same (record { codes = codes_more before now bag run (octets ++ rest) octets work reply is; run_acts = by.run_acts })
+
+pub ending_done : (now : Around) (queue : List Queued) (run : Run) (octets : List ℕ) (reply : Reply) (acts : List ClientAct) → IsOfSome now queue run octets → IsReply octets reply
+    → ((left : List Reply) → rest_of run.client (reply ∷ left) ≡ record { acts = acts; end = finished }) → CanBeDone now queue run.tally acts
+ending_done now queue run octets reply acts (before, bag, rest, same, work) is comes =
+    let by = finishes_by before now bag run (octets ++ rest) work reply acts comes in
+    due_done before now bag queue run (octets ++ rest) work reply acts same (record { codes = codes_more before now bag run (octets ++ rest) octets work reply is; run_acts = by.0 })
+
+-- ---- the run goes on
+
+of_queue : (path_of : List ℕ → Option (Option Address)) (a b : Around) (queue other : List Queued) (acts : List ClientAct) (old new : Tally) (met : Option Fault) → other ≡ queue → ActsBy path_of a b queue acts old new met
+    → ActsBy path_of a b other acts old new met
+of_queue path_of a b queue other acts old new met same by = subst (λ (l : List Queued). ActsBy path_of a b l acts old new met) (sym same) by
+
+kept_queue : (a b : Around) (queue other : List Queued) (acts : List ClientAct) → other ≡ queue → KeepsQueue a b queue acts → KeepsQueue a b other acts
+kept_queue a b queue other acts same keeps = subst (λ (l : List Queued). KeepsQueue a b l acts) (sym same) keeps
+
+-- the client and the tally behind a reply
+abbrev pub run_behind : Run → Client → Tally → Run
+run_behind run client tally = record { client = client; reader = run.reader; tally = tally }
+
+-- a reply was read by a reader that is anew, and the acts that it leads to were done
+pub record DoneBy (a b : Around) (queue : List Queued) (run : Run) (octets : List ℕ) (reply : Reply) (next : Client) (acts : List ClientAct) (new : Tally) : Type 0 where
+  pub anew : run.reader.octets ≡ []
+  pub is : IsReply octets reply
+  pub comes : (left : List Reply) → rest_of run.client (reply ∷ left) ≡ behind_acts acts (rest_of next left)
+  pub done : WithPaths (λ path_of. ActsBy path_of a b queue acts run.tally new None)
+  pub stays : KeepsQueue a b queue acts
+  pub keeps : Keeps a b None
+
+pub runs_behind : (a b : Around) (queue : List Queued) (run : Run) (octets : List ℕ) (reply : Reply) (next : Client) (acts : List ClientAct) (new : Tally) → DoneBy a b queue run octets reply next acts new
+    → WithPaths (λ path_of. (before : Around) (bag : Mailbag before.desk.store.kept) (rest : List ℕ) → bag.queue ≡ queue → IsRunning path_of before a bag run (octets ++ rest)
+    → IsRunning path_of before b bag (run_behind run next new) rest)
+runs_behind a b queue run octets reply next acts new done path_of reads before bag rest same running =
+    let by = of_queue path_of a b queue bag.queue acts run.tally new None same (done.done path_of reads) in
+    running_on path_of before a b bag run (run_behind run next new) octets rest reply acts by.0 by.1 running refl done.anew done.is done.comes by.2 by.3 (kept_queue a b queue bag.queue acts same done.stays) done.keeps
+
+pub works_behind : (a b : Around) (queue : List Queued) (run : Run) (octets : List ℕ) (reply : Reply) (next : Client) (acts : List ClientAct) (new : Tally) → DoneBy a b queue run octets reply next acts new
+    → (before : Around) (bag : Mailbag before.desk.store.kept) (rest : List ℕ) → bag.queue ≡ queue → IsAtWork before a bag run (octets ++ rest) → IsAtWork before b bag (run_behind run next new) rest
+works_behind a b queue run octets reply next acts new done before bag rest same work =
+    let path_of = meanings_given.0.path_of in
+    let by = of_queue path_of a b queue bag.queue acts run.tally new None same (done.done path_of meanings_given.1.paths) in
+    (goes_on path_of before a b bag run (run_behind run next new) octets rest reply acts by.0 by.1 work refl done.anew done.is done.comes by.2 by.3 (kept_queue a b queue bag.queue acts same done.stays) done.keeps).work
+
+-- ---- the run ends
+
+-- a reply was read by a reader that is anew, and a fault was met in the acts that it leads to
+pub record FailsBy (a b : Around) (queue : List Queued) (run : Run) (octets : List ℕ) (reply : Reply) (acts : List ClientAct) (new : Tally) (met : Fault) : Type 0 where
+  pub anew : run.reader.octets ≡ []
+  pub is : IsReply octets reply
+  pub done : WithPaths (λ path_of. ActsBy path_of a b queue acts run.tally new (Some met))
+
+reply_comes : (before a : Around) (bag : Mailbag before.desk.store.kept) (run : Run) (octets rest : List ℕ) (reply : Reply) (next : Client) (acts : List ClientAct) (work : IsAtWork before a bag run (octets ++ rest))
+    → run.reader.octets ≡ [] → IsReply octets reply → ((left : List Reply) → rest_of run.client (reply ∷ left) ≡ behind_acts acts (rest_of next left)) → ReplyComes before a bag run octets rest work reply acts
+reply_comes before a bag run octets rest reply next acts work anew is comes =
+    record { anew = anew; is = is; run_acts = (goes_by before a bag run (octets ++ rest) work next reply acts comes).run_acts }
+
+pub going_wire : (a b : Around) (queue : List Queued) (run : Run) (octets : List ℕ) (reply : Reply) (next : Client) (acts : List ClientAct) (new : Tally) → FailsBy a b queue run octets reply acts new fault.Wire
+    → ((left : List Reply) → rest_of run.client (reply ∷ left) ≡ behind_acts acts (rest_of next left))
+    → WithPaths (λ path_of. (before : Around) (bag : Mailbag before.desk.store.kept) (rest : List ℕ) → bag.queue ≡ queue → IsRunning path_of before a bag run (octets ++ rest)
+    → RelaysTo path_of before b bag (Ok (end_of new (Some cause.Wire))))
+going_wire a b queue run octets reply next acts new fails comes path_of reads before bag rest same running =
+    wire_ends path_of before a b bag run octets rest reply acts new running (reply_comes before a bag run octets rest reply next acts running.work fails.anew fails.is comes)
+    (goes_by before a bag run (octets ++ rest) running.work next reply acts comes).waiting
+    (of_queue path_of a b queue bag.queue acts run.tally new (Some fault.Wire) same (fails.done path_of reads))
+
+broken_by : (path_of : List ℕ → Option (Option Address)) (before a b : Around) (bag : Mailbag before.desk.store.kept) (run : Run) (octets rest : List ℕ) (reply : Reply) (acts : List ClientAct) (new : Tally) (met : Fault)
+    (running : IsRunning path_of before a bag run (octets ++ rest)) → ReplyComes before a bag run octets rest running.work reply acts → (met ≡ fault.Wire → ⊥) → ActsBy path_of a b bag.queue acts run.tally new (Some met)
+    → RelaysTo path_of before b bag (Err met)
+broken_by path_of before a b bag run octets rest reply acts new fault.Wire running comes fine by = absurd (fine refl)
+broken_by path_of before a b bag run octets rest reply acts new fault.Keeper running comes fine by = breaks_run path_of before a b bag run octets rest reply acts fault.Keeper running comes fine by
+broken_by path_of before a b bag run octets rest reply acts new fault.Memory running comes fine by = breaks_run path_of before a b bag run octets rest reply acts fault.Memory running comes fine by
+
+pub going_fault : (a b : Around) (queue : List Queued) (run : Run) (octets : List ℕ) (reply : Reply) (next : Client) (acts : List ClientAct) (new : Tally) (met : Fault) → FailsBy a b queue run octets reply acts new met
+    → ((left : List Reply) → rest_of run.client (reply ∷ left) ≡ behind_acts acts (rest_of next left)) → (met ≡ fault.Wire → ⊥)
+    → WithPaths (λ path_of. (before : Around) (bag : Mailbag before.desk.store.kept) (rest : List ℕ) → bag.queue ≡ queue → IsRunning path_of before a bag run (octets ++ rest) → RelaysTo path_of before b bag (Err met))
+going_fault a b queue run octets reply next acts new met fails comes fine path_of reads before bag rest same running =
+    broken_by path_of before a b bag run octets rest reply acts new met running (reply_comes before a bag run octets rest reply next acts running.work fails.anew fails.is comes) fine
+    (of_queue path_of a b queue bag.queue acts run.tally new (Some met) same (fails.done path_of reads))
+
+finish : (before a : Around) (bag : Mailbag before.desk.store.kept) (run : Run) (octets rest : List ℕ) (reply : Reply) (acts : List ClientAct) (work : IsAtWork before a bag run (octets ++ rest))
+    → run.reader.octets ≡ [] → IsReply octets reply → ((left : List Reply) → rest_of run.client (reply ∷ left) ≡ record { acts = acts; end = finished }) → FinishesBy before a bag run octets rest work reply acts
+finish before a bag run octets rest reply acts work anew is comes =
+    let by = finishes_by before a bag run (octets ++ rest) work reply acts comes in
+    record { comes = record { anew = anew; is = is; run_acts = by.0 }; finishes = by.1 }
+
+pub ending_all : (a b : Around) (queue : List Queued) (run : Run) (octets : List ℕ) (reply : Reply) (acts : List ClientAct) (new : Tally) → run.reader.octets ≡ [] → IsReply octets reply
+    → ((left : List Reply) → rest_of run.client (reply ∷ left) ≡ record { acts = acts; end = finished }) → WithPaths (λ path_of. ActsBy path_of a b queue acts run.tally new None)
+    → WithPaths (λ path_of. (before : Around) (bag : Mailbag before.desk.store.kept) (rest : List ℕ) → bag.queue ≡ queue → IsRunning path_of before a bag run (octets ++ rest)
+    → RelaysTo path_of before b bag (Ok (end_of new None)))
+ending_all a b queue run octets reply acts new anew is comes done path_of reads before bag rest same running =
+    let by = of_queue path_of a b queue bag.queue acts run.tally new None same (done path_of reads) in
+    all_ends path_of before a b bag run octets rest reply acts new by.0 by.1 running (finish before a bag run octets rest reply acts running.work anew is comes) by.2 by.3
+
+pub ending_wire : (a b : Around) (queue : List Queued) (run : Run) (octets : List ℕ) (reply : Reply) (acts : List ClientAct) (new : Tally) → FailsBy a b queue run octets reply acts new fault.Wire
+    → ((left : List Reply) → rest_of run.client (reply ∷ left) ≡ record { acts = acts; end = finished }) → LeavesLast acts → Keeps a b (Some fault.Wire)
+    → WithPaths (λ path_of. (before : Around) (bag : Mailbag before.desk.store.kept) (rest : List ℕ) → bag.queue ≡ queue → IsRunning path_of before a bag run (octets ++ rest)
+    → RelaysTo path_of before b bag (Ok (end_of new None)))
+ending_wire a b queue run octets reply acts new fails comes leave keeps path_of reads before bag rest same running =
+    part_ends path_of before a b bag run octets rest reply acts new running (finish before a bag run octets rest reply acts running.work fails.anew fails.is comes) leave
+    (of_queue path_of a b queue bag.queue acts run.tally new (Some fault.Wire) same (fails.done path_of reads)) keeps
+
+pub ending_fault : (a b : Around) (queue : List Queued) (run : Run) (octets : List ℕ) (reply : Reply) (acts : List ClientAct) (new : Tally) (met : Fault) → FailsBy a b queue run octets reply acts new met
+    → ((left : List Reply) → rest_of run.client (reply ∷ left) ≡ record { acts = acts; end = finished }) → (met ≡ fault.Wire → ⊥)
+    → WithPaths (λ path_of. (before : Around) (bag : Mailbag before.desk.store.kept) (rest : List ℕ) → bag.queue ≡ queue → IsRunning path_of before a bag run (octets ++ rest) → RelaysTo path_of before b bag (Err met))
+ending_fault a b queue run octets reply acts new met fails comes fine path_of reads before bag rest same running =
+    broken_by path_of before a b bag run octets rest reply acts new met running (finish before a bag run octets rest reply acts running.work fails.anew fails.is comes).comes fine
+    (of_queue path_of a b queue bag.queue acts run.tally new (Some met) same (fails.done path_of reads))

@@ -1,0 +1,67 @@
+-- What the relay does by a dial, which connects it to the next server.
+use Rattle.std.specs.Prelude.{◌≡◌, ◌≢◌, ℕ, List, [], Option, None, Some, Result, Ok, Err, IsTrue}
+use Rattle.address_grammar.specs.declared.Address.{Address}
+use Rattle.journal_records.specs.Addresses.{WithPaths}
+use Rattle.mail_store.specs.Queue.{IsQueue, open_numbers, told_count}
+use Rattle.mail_store.specs.declared.queue.Queued.{Queued}
+use Rattle.mail_wire.specs.Causes.{Rose}
+use Rattle.mail_wire.specs.DialTelling.{DialTelling, IsDialled}
+use Rattle.mail_wire.specs.KeeperTelling.{KeeperTelling}
+use Rattle.mail_wire.specs.Telling.{Telling}
+use Rattle.mail_wire.specs.declared.outside.Fault.{Fault}
+use Rattle.mail_wire.specs.declared.outside.Fault.TheVariants as fault
+use Rattle.session_core.specs.Around.{Around, Loans}
+use Rattle.session_core.specs.declared.desk.Desk.{Desk}
+use Rattle.relay_session.specs.Relaying.{RelaysBy}
+use Rattle.relay_session.specs.declared.ends.LeftCause.TheVariants as cause
+use Rattle.relay_session.specs.declared.ends.RelayEnd.{RelayEnd}
+
+-- the outside of a relay that isn't connected, as contracts see it
+pub record AroundDial : Type 0 where
+  pub dial : DialTelling
+  pub keeper : KeeperTelling
+  -- the reading of a clock that tells a fixed one
+  pub clock : Option ℕ
+  pub desk : Desk
+
+-- the same over a wire, in the place of the dial
+abbrev pub over_wire : AroundDial → Telling → Loans → Around
+over_wire around wire loans = record { wire = wire; keeper = around.keeper; clock = around.clock; desk = around.desk; loans = loans }
+
+-- Nothing was sent, and the desk and the keeper are as before.
+pub record StaysHome (before now : AroundDial) : Type 0 where
+  pub desk : now.desk ≡ before.desk
+  pub keeper : now.keeper ≡ before.keeper
+  pub transcript : now.dial.transcript ≡ before.dial.transcript
+
+-- The dial made a connection, on which nothing went yet, and the queue was relayed over it. Then the dial was handed it back.
+pub record RelaysOverDialled (path_of : List ℕ → Option (Option Address)) (before now : AroundDial) (result : Result RelayEnd Fault) : Type 0 where
+  pub opened : Telling
+  pub closed : Telling
+  pub loans : Loans
+  pub dialled : IsDialled before.dial opened
+  pub relays : RelaysBy path_of (over_wire before opened loans) (over_wire now closed loans) result
+  pub handed_back : now.dial.transcript ≡ closed.transcript
+
+-- what the relay does by a dial, by its answer
+pub data RelaysQueueBy (path_of : List ℕ → Option (Option Address)) (before now : AroundDial) (result : Result RelayEnd Fault) : Type 0 where
+  -- there was no memory for the queue, or for a connection
+  unbegun : result ≡ Err fault.Memory → StaysHome before now → RelaysQueueBy path_of before now result
+  -- Nobody waits in the queue, and nobody is dialled.
+  nobody_waits : open_numbers before.desk.store.kept.entries ≡ [] → now ≡ before
+      → result ≡ Ok (record { sent = 0; reported = 0; left = 0; cause = None }) → RelaysQueueBy path_of before now result
+  -- the dial failed, and everybody is left
+  unreached : (queue : List Queued) → IsQueue before.desk.store.kept.entries queue → queue ≢ [] → StaysHome before now → Rose before.dial.faults now.dial.faults
+      → result ≡ Ok (record { sent = 0; reported = 0; left = told_count queue; cause = Some cause.Dial }) → RelaysQueueBy path_of before now result
+  connected : open_numbers before.desk.store.kept.entries ≢ [] → RelaysOverDialled path_of before now result → RelaysQueueBy path_of before now result
+
+-- the same, whatever function reads paths
+abbrev pub RelaysQueue : AroundDial → AroundDial → Result RelayEnd Fault → Type 0
+RelaysQueue before now result = WithPaths (λ path_of. RelaysQueueBy path_of before now result)
+
+-- ---- why recipients are left
+
+-- The dial is told to have failed only where its count of faults rose, and the wire only where the dial didn't tell that it never fails.
+pub record HasDialCause (before now : DialTelling) (end : RelayEnd) : Type 0 where
+  pub dial : end.cause ≡ Some cause.Dial → Rose before.faults now.faults
+  pub wire : IsTrue before.server_never_fails → end.cause ≢ Some cause.Wire

@@ -1,0 +1,7 @@
+pub mod Letters
+pub mod Reporting
+pub mod Carrying
+pub mod Streams
+pub mod Relaying
+pub mod Dialling
+pub mod private

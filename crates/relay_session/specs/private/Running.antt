@@ -1,0 +1,83 @@
+-- A run in the midst of its replies.
+use Rattle.std.specs.Prelude.{◌≡◌, ℕ, ◌+◌, ◌-◌, ◌*◌, ◌≤◌, List, ◌++◌, length, IsTrue, Option, Some, Result, Ok, Err}
+use Rattle.address_grammar.specs.declared.Address.{Address}
+use Rattle.kept_mail.specs.Kept.{name_of}
+use Rattle.kept_mail.specs.declared.limits.TheConstants.{THINGS_MAX}
+use Rattle.mail_store.specs.Queue.{told_count}
+use Rattle.mail_wire.specs.Causes.{Rose}
+use Rattle.mail_wire.specs.Moves.{Moves}
+use Rattle.mail_wire.specs.Transcript.{given_of, taken_of}
+use Rattle.mail_wire.specs.declared.outside.Entry.{Entry}
+use Rattle.mail_wire.specs.declared.outside.Fault.{Fault}
+use Rattle.relay_choice.specs.Pieces.{HasBegunReply}
+use Rattle.relay_choice.specs.Relay.{behind_acts, left_count, sent_count, sent_octets, waits}
+use Rattle.relay_choice.specs.Standing.{replies_left, rest_of, standing_of}
+use Rattle.relay_choice.specs.declared.replies.TheConstants.{REPLY_LINES, REPLY_LINE_MAX}
+use Rattle.relay_choice.specs.declared.replies.Reply.{Reply}
+use Rattle.session_core.specs.Around.{Around}
+use Rattle.relay_session.specs.Letters.{Mailbag, messages_of}
+use Rattle.relay_session.specs.Relaying.{DoesRun, RelaysTo, SpeaksInTurn, run_of}
+use Rattle.relay_session.specs.Streams.{AreReplies}
+use Rattle.relay_session.specs.declared.ends.LeftCause.TheVariants as cause
+use Rattle.relay_session.specs.declared.ends.RelayEnd.{RelayEnd}
+use Rattle.relay_session.specs.declared.running.Came.{Came}
+use Rattle.relay_session.specs.declared.running.Came.TheVariants as came
+use Rattle.relay_session.specs.declared.running.Run.{Run}
+use Rattle.relay_session.specs.private.Acting.{AreKnown, AreOpenFrom, settled_count}
+
+-- The run awaits a reply, and of what was taken these octets weren't looked at. The entries that its acts have not settled are open.
+pub record IsAtWork (before now : Around) (bag : Mailbag before.desk.store.kept) (run : Run) (pending : List ℕ) : Type 0 where
+  pub entries : List Entry
+  pub moves : Moves before.wire now.wire entries
+  pub in_turn : SpeaksInTurn before bag entries
+  pub replies : List Reply
+  pub are : AreReplies (taken_of entries) replies (run.reader.octets ++ pending)
+  pub begun : HasBegunReply run.reader
+  pub given : given_of entries ≡ sent_octets (messages_of before.desk.store.kept bag.queue) (run_of before bag.letters replies).acts
+  pub messages : messages_of now.desk.store.kept bag.queue ≡ messages_of before.desk.store.kept bag.queue
+  pub name : name_of now.desk.store.kept ≡ name_of before.desk.store.kept
+  pub clock : now.clock ≡ before.clock
+  pub faults : before.wire.faults ≤ now.wire.faults
+  pub few : told_count bag.queue ≤ THINGS_MAX
+  pub few_letters : length bag.letters ≤ THINGS_MAX
+  pub known : AreKnown now.desk.store.kept bag.queue
+  pub unsettled : AreOpenFrom now.desk.store.kept bag.queue (settled_count (run_of before bag.letters replies).acts)
+  pub waiting : (run_of before bag.letters replies).end ≡ waits
+  pub goes : (left : List Reply) → run_of before bag.letters (replies ++ left) ≡ behind_acts (run_of before bag.letters replies).acts (rest_of run.client left)
+  pub sent : run.tally.sent ≡ sent_count (run_of before bag.letters replies).acts
+  pub left : run.tally.left ≡ left_count bag.letters (run_of before bag.letters replies).acts
+  pub reported : run.tally.reported ≤ settled_count (run_of before bag.letters replies).acts
+
+-- and all was done over the replies so far
+pub record IsRunning (path_of : List ℕ → Option (Option Address)) (before now : Around) (bag : Mailbag before.desk.store.kept) (run : Run) (pending : List ℕ) : Type 0 where
+  pub work : IsAtWork before now bag run pending
+  pub does : DoesRun path_of before now bag work.replies (given_of work.entries)
+  pub reported : run.tally.reported ≡ does.count
+
+-- what holds of a run that goes on
+abbrev pub OnGoes : (Run → Type 0) → Came → Type 0
+OnGoes P (came.Goes run) = P run
+OnGoes P (came.Ends end) = Unit {0}
+
+-- what holds of the end of a run
+abbrev pub OnEnds : (RelayEnd → Type 0) → Came → Type 0
+OnEnds P (came.Goes run) = Unit {0}
+OnEnds P (came.Ends end) = P end
+
+-- the run goes on, or this is how it ended
+abbrev pub CameTo : (path_of : List ℕ → Option (Option Address)) (before now : Around) (bag : Mailbag before.desk.store.kept) (pending : List ℕ) → Result Came Fault → Type 0
+CameTo path_of before now bag pending (Ok (came.Goes run)) = IsRunning path_of before now bag run pending
+CameTo path_of before now bag pending (Ok (came.Ends end)) = RelaysTo path_of before now bag (Ok end)
+CameTo path_of before now bag pending (Err met) = RelaysTo path_of before now bag (Err met)
+
+-- how many octets a run takes at most
+abbrev pub octets_left : Run → ℕ
+octets_left run = replies_left (standing_of run.client) * (REPLY_LINES * REPLY_LINE_MAX) - length run.reader.octets
+
+-- it takes so many octets fewer
+abbrev pub StaysShort : Run → (taken : List ℕ) → Came → Type 0
+StaysShort run taken came = OnGoes (λ next. octets_left next + length taken ≤ octets_left run) came
+
+-- the wire is told to have failed only where it did
+abbrev pub IsWireCause : Around → Around → RelayEnd → Type 0
+IsWireCause before now end = end.cause ≡ Some cause.Wire → Rose before.wire.faults now.wire.faults × ¬ IsTrue before.wire.never_fails

@@ -1,0 +1,5 @@
+//! Tests of relay_session.
+#![tactic(auto)]
+
+#[cfg(test)]
+mod tests;
