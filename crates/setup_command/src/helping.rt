@@ -14,7 +14,7 @@ use std::alloc::Global;
 pub const VERSION: &str = "0.9.0";
 
 // The commands, and what each does.
-const COMMANDS: [(&str, &str); 10] = [
+const COMMANDS: [(&str, &str); 11] = [
     (
         "downgrade",
         "Take one message, give its surrogate in ASCII headers",
@@ -35,6 +35,10 @@ const COMMANDS: [(&str, &str); 10] = [
         "Add the account of the words ADDRESS and PASSWORD",
     ),
     ("domain", "Make the domain of the word DOMAIN local"),
+    (
+        "relay",
+        "Send the queue to the next server HOST (host or host:port)",
+    ),
     ("gen", "Make N messages and serve them to two clients"),
     ("help", "Give this text"),
 ];

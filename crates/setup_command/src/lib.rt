@@ -12,9 +12,9 @@ pub mod word_laws;
 
 pub use adding::{run_account, run_domain};
 pub use helping::{VERSION, run_help};
-pub use refusals::tell_unopened;
+pub use refusals::{tell, tell_unopened};
 pub use statuses::{
-    ADDING_REFUSED, BAD_JOURNAL, DONE, KEEPER_FAULT, LIMIT_REACHED, MESSAGE_REFUSED,
+    ADDING_REFUSED, BAD_JOURNAL, DONE, KEEPER_FAULT, LEFT_QUEUED, LIMIT_REACHED, MESSAGE_REFUSED,
     WANT_OF_MEMORY, WIRE_FAULT, WORDS_REFUSED,
 };
-pub use word_forms::{AccountWords, read_account, read_domain};
+pub use word_forms::{AccountWords, is_plain, read_account, read_domain};

@@ -24,5 +24,8 @@ pub const LIMIT_REACHED: u8 = 6;
 /// The message has no surrogate.
 pub const MESSAGE_REFUSED: u8 = 7;
 
+/// Recipients are left in the queue.
+pub const LEFT_QUEUED: u8 = 8;
+
 /// The store refuses what is to be added.
 pub const ADDING_REFUSED: u8 = 9;

@@ -34,8 +34,8 @@ fn list_of<'a>(alloc: Global, words: &'a Words) -> Result<Vec<&'a str>, Memory>
     Ok(list)
 }
 
-// Whether the word isn't empty and doesn't begin with `-`.
-fn is_plain(word: &str) -> bool
+/// Whether the word isn't empty and doesn't begin with `-`.
+pub fn is_plain(word: &str) -> bool
     ensures { result ≡ is_plain_word word.now }
 {
     match word.as_bytes().first() {

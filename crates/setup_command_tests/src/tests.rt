@@ -203,6 +203,7 @@ fn the_text_of_help(rt: HostRuntime) -> Result<(), Fail> {
         \x20 serve      Serve ROLE (pop, smtp or imap) on PORT of 127.0.0.1, N connections\n\
         \x20 account    Add the account of the words ADDRESS and PASSWORD\n\
         \x20 domain     Make the domain of the word DOMAIN local\n\
+        \x20 relay      Send the queue to the next server HOST (host or host:port)\n\
         \x20 gen        Make N messages and serve them to two clients\n\
         \x20 help       Give this text\n";
     assert!(rt; given(alloc, &wire)?.as_slice() == text.as_bytes());
