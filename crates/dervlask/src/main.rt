@@ -5,15 +5,17 @@ mod serve;
 mod telling;
 
 use crate::serve::serve;
-use crate::telling::{JOURNAL, tell_failure};
+use crate::telling::{JOURNAL, tell_failure, tell_left};
 use mail_command::{WANT_OF_MEMORY, run, serve_words};
 use mail_wire::{FileKeeper, Memory, StdWire, SystemClock, Words};
 use std::alloc::{Alloc, Global};
 use std::env::{self, Env};
 use std::fs::{File, Files, OpenOptions};
 use std::io::{self, Eprint, Input, Print};
+use std::net::{Net, TcpListener, TcpStream};
 use std::process::ExitCode;
 use std::rt::Clock;
+use tcp_wire::TcpDial;
 
 // The words behind the program's name. Arguments that aren't UTF-8 are the words of no command: none.
 fn words<R: Env + Alloc<A = Global>>(rt: &R) -> Result<Words, Memory> {
@@ -38,13 +40,28 @@ fn root_folder<F: Files<File = File>>(files: &F) -> Option<File> {
 // Runs the command that the words name, over standard input and output, and says why it failed.
 fn run_words<T>(rt: &T, words: &Words) -> u8
 where
-    T: Files<File = File> + Clock + Input + Print + Eprint + Alloc<A = Global>,
+    T: Net<Listener = TcpListener, Stream = TcpStream>
+        + Files<File = File>
+        + Clock
+        + Input
+        + Print
+        + Eprint
+        + Alloc<A = Global>,
 {
     let mut wire = StdWire::new(rt.reader(), io::writer(rt));
     let mut keeper = FileKeeper::new(rt, JOURNAL);
+    let mut dial = TcpDial::new(rt);
     let mut clock = SystemClock::new(rt);
-    let status = run(rt.alloc(), words, &mut wire, &mut keeper, &mut clock);
+    let status = run(
+        rt.alloc(),
+        words,
+        &mut wire,
+        &mut keeper,
+        &mut dial,
+        &mut clock,
+    );
     let _told = tell_failure(rt, status, &wire, &keeper);
+    let _left = tell_left(rt, status, &dial);
     status
 }
 

@@ -1,10 +1,10 @@
 //! Tells on standard error what failed, as the system puts it.
-use mail_command::{KEEPER_FAULT, Served, WANT_OF_MEMORY, WIRE_FAULT};
+use mail_command::{KEEPER_FAULT, LEFT_QUEUED, Served, WANT_OF_MEMORY, WIRE_FAULT};
 use mail_wire::{FileKeeper, StdWire, WireFailure};
 use std::alloc::{Alloc, Global};
 use std::fs::{File, Files};
 use std::io::{self, Eprint, ErrorKind, Read, Write};
-use tcp_wire::TcpWire;
+use tcp_wire::{TcpDial, TcpWire};
 
 /// The journal, in the current folder.
 pub const JOURNAL: &str = "mail.journal";
@@ -102,5 +102,22 @@ where
         },
         Served::Memory => eprintln!(rt; "dervlask: connection {number}: out of memory"),
         Served::Limit => eprintln!(rt; "dervlask: connection {number}: it took 1 GiB"),
+    }
+}
+
+/// Says why the next server couldn't be reached, or why the connection to it failed, where recipients are left for that.
+pub fn tell_left<T, N>(rt: &T, status: u8, dial: &TcpDial<N>) -> io::Result<()>
+where
+    T: Eprint + Alloc<A = Global>,
+{
+    if status != LEFT_QUEUED {
+        return Ok(());
+    }
+    match (dial.failure(), dial.wire_failure()) {
+        (Some(error), _) => tell(rt, "next server", error),
+        (None, Some(WireFailure::Input(error) | WireFailure::Output(error))) => {
+            tell(rt, "next server", error)
+        }
+        (None, None) => Ok(()),
     }
 }

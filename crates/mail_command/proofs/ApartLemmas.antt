@@ -9,7 +9,7 @@ use Rattle.mail_command.specs.declared.roles.Role.{Role}
 use Rattle.mail_command.specs.declared.roles.Role.TheVariants as role
 use Rattle.mail_command.specs.declared.tasks.Task.TheVariants as task
 use Rattle.mail_command.specs.Running.{GivesHelp, RunsApart, RunsCheck, RunsDowngrade, RunsGen}
-use Rattle.mail_command.specs.Words.{IsApart, IsCheck, IsDowngrade, IsGen, IsNoCommand, IsSession, OpensJournal, OfSession, OfAccount, OfDomain}
+use Rattle.mail_command.specs.Words.{IsApart, IsCheck, IsDowngrade, IsGen, IsNoCommand, IsSession, OpensJournal, OfSession, OfAccount, OfDomain, OfRelay}
 use Rattle.mail_command.specs.private.Few.{MakesFew}
 use Rattle.mail_command.proofs.WordsLemmas.{differ_first, fewer}
 
@@ -62,6 +62,10 @@ apart_opens words (apart.Message task.Downgrade) is (OfDomain name also) = fewer
 apart_opens words (apart.Message task.Check) is (OfDomain name also) = fewer words _ _ is also.words_are (omega arith)
 apart_opens words (apart.Gen number) is (OfDomain name also) = differ_first words _ _ also.words_are is.words_are (omega arith)
 apart_opens words apart.Help is (OfDomain name also) = fewer words _ _ is also.words_are (omega arith)
+apart_opens words (apart.Message task.Downgrade) is (OfRelay host also) = fewer words _ _ is also.words_are (omega arith)
+apart_opens words (apart.Message task.Check) is (OfRelay host also) = fewer words _ _ is also.words_are (omega arith)
+apart_opens words (apart.Gen number) is (OfRelay host also) = differ_first words _ _ is.words_are also.words_are (omega arith)
+apart_opens words apart.Help is (OfRelay host also) = fewer words _ _ is also.words_are (omega arith)
 
 -- ---- what the words say was run
 

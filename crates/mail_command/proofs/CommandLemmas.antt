@@ -1,7 +1,7 @@
 -- What a command's words say, and what that leaves to the others.
 use Rattle.std.proofs.Common.{◌≡◌, ℕ, List, [], ◌∷◌, Option, Some, None, refl, sym, subst, ◌∙◌, inl, inr, codes}
 use Rattle.mail_wire.specs.Telling.{Telling}
-use Rattle.mail_wire.proofs.Moving.{Gives-nil}
+use Rattle.mail_wire.proofs.Moving.{Gives-nil, GivesPrefix-nil}
 use Rattle.address_grammar.specs.declared.Address.{Address}
 use Rattle.mail_store.specs.Answers.{LeavesRecords}
 use Rattle.kept_mail.specs.Kept.{Kept}
@@ -10,7 +10,8 @@ use Rattle.journal_records.specs.declared.records.Record.{Record}
 use Rattle.setup_command.specs.AddingRuns.{RunsAdding, Broken, InJournal}
 use Rattle.setup_command.specs.WordForms.{IsAccountCommand, IsDomainCommand}
 use Rattle.setup_command.proofs.FormLemmas.{account_once}
-use Rattle.mail_command.specs.Words.{IsNoCommand, OpensJournal, OfSession, OfAccount, OfDomain}
+use Rattle.mail_command.specs.Running.{BrokenOff, RefusesWords, words_refused}
+use Rattle.mail_command.specs.Words.{IsNoCommand, OpensJournal, OfSession, OfAccount, OfDomain, OfRelay}
 
 third_same : (s t p q : List ℕ) → codes "account" ∷ s ∷ p ∷ [] ≡ codes "account" ∷ t ∷ q ∷ [] → p ≡ q
 third_same s t p q same = cc
@@ -33,11 +34,15 @@ pub none_opens : (words : List (List ℕ)) → IsNoCommand words → OpensJourna
 none_opens words none (OfSession role is) = none.session role is
 none_opens words none (OfAccount address password is) = none.account address password is
 none_opens words none (OfDomain name is) = none.domain name is
+none_opens words none (OfRelay host is) = none.relay host is
 
-left_alone : (octets : Option (List ℕ)) → LeavesRecords octets octets
+pub left_alone : (octets : Option (List ℕ)) → LeavesRecords octets octets
 left_alone None = refl
 left_alone (Some octets) = inl refl
 
 -- memory was wanting for the words
 pub not_begun : (refusal : Kept → Option StoreFault) (one : Record) (octets : Option (List ℕ)) (a : Telling) → RunsAdding refusal one octets octets a a 3
 not_begun refusal one octets a = Broken (inl (inr refl)) (InJournal (Gives-nil a) (left_alone octets))
+
+pub refusal_unbegun : (a : Telling) → RefusesWords a a 3
+refusal_unbegun a = BrokenOff (GivesPrefix-nil a words_refused) (inr refl)

@@ -12,5 +12,6 @@ pub mod GeneratingLemmas
 pub mod BegunLemmas
 pub mod CourseLemmas
 pub mod SessionLemmas
+pub mod RelayLemmas
 pub mod ServeLemmas
 pub mod ConnectionLemmas

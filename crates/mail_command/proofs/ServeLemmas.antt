@@ -54,4 +54,5 @@ no_command words role port connections is = record {
   domain = λ name one. fewer words (codes "domain" ∷ name ∷ []) _ one.words_are is.words_are (omega arith);
   help = λ one. fewer words (codes "help" ∷ []) _ one is.words_are (omega arith);
   gen = λ number one. fewer words (codes "gen" ∷ one.text ∷ []) _ one.words_are is.words_are (omega arith);
+  relay = λ host one. fewer words (codes "relay" ∷ host ∷ []) _ one.words_are is.words_are (omega arith);
 }

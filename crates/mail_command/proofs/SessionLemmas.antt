@@ -35,7 +35,7 @@ use Rattle.mail_command.proofs.BegunLemmas.{begun_held}
 use Rattle.mail_command.proofs.CourseLemmas.{of_each, with_course}
 use Rattle.mail_command.proofs.RunLemmas.{some_of}
 
-quiet : (a b : Telling) → b ≡ a → Gives a b []
+pub quiet : (a b : Telling) → b ≡ a → Gives a b []
 quiet a b same = subst (λ (t : Telling). Gives a t []) (sym same) (Gives-nil a)
 
 unopened_by : (course : Course) (limits : Limits) (old new : Option (List ℕ)) (a b : Telling) (met : OpenFault) (result : Result ℕ Fault) → LeavesRecords old new

@@ -5,5 +5,6 @@ pub mod Checking
 pub mod Generating
 pub mod Outcome
 pub mod Running
+pub mod RelayRuns
 pub mod Connections
 pub mod private

@@ -1,6 +1,7 @@
 -- The words of the commands.
-use Rattle.std.specs.Prelude.{◌≡◌, ℕ, ◌<◌, ◌≤◌, List, [], ◌∷◌, codes, decimal, string_bytes, Option, Some, None}
+use Rattle.std.specs.Prelude.{◌≡◌, ℕ, ◌<◌, ◌≤◌, List, [], ◌∷◌, codes, decimal, string_bytes, true, Option, Some, None}
 use Rattle.address_grammar.specs.declared.Address.{Address}
+use Rattle.setup_command.specs.PlainWords.{is_plain_word}
 use Rattle.setup_command.specs.WordForms.{IsAccountCommand, IsDomainCommand, IsHelpCommand}
 use Rattle.mail_command.specs.declared.apart.Apart.{Apart}
 use Rattle.mail_command.specs.declared.apart.Apart.TheVariants as apart
@@ -39,6 +40,11 @@ pub record IsGen (words : List (List ℕ)) (number : ℕ) : Type 0 where
   pub words_are : words ≡ codes "gen" ∷ text ∷ []
   pub number_is : IsNumberUpTo 100000 text number
 
+-- `relay`, and the host of the next server
+pub record IsRelayCommand (words : List (List ℕ)) (host : List ℕ) : Type 0 where
+  pub words_are : words ≡ codes "relay" ∷ host ∷ []
+  pub plain : is_plain_word host ≡ true
+
 -- `serve`, the word of a protocol, a port, and how many connections are served
 pub record IsServeCommand (words : List (List ℕ)) (role : Role) (port connections : ℕ) : Type 0 where
   pub port_text : List ℕ
@@ -56,12 +62,14 @@ pub record IsNoCommand (words : List (List ℕ)) : Type 0 where
   pub domain : (name : List ℕ) → ¬ IsDomainCommand words name
   pub help : ¬ IsHelpCommand words
   pub gen : (number : ℕ) → ¬ IsGen words number
+  pub relay : (host : List ℕ) → ¬ IsRelayCommand words host
 
 -- the words of the commands that open the journal
 pub data OpensJournal (words : List (List ℕ)) : Type 0 where
   OfSession : (role : Role) → IsSession words role → OpensJournal words
   OfAccount : (address : Address) (password : List ℕ) → IsAccountCommand words address password → OpensJournal words
   OfDomain : (name : List ℕ) → IsDomainCommand words name → OpensJournal words
+  OfRelay : (host : List ℕ) → IsRelayCommand words host → OpensJournal words
 
 -- the words of a command that leaves the keeper alone
 abbrev pub IsApart : List (List ℕ) → Apart → Type 0
@@ -77,3 +85,4 @@ Names words (Some (command.Apart one)) = IsApart words one
 Names words (Some (command.Session role)) = IsSession words role
 Names words (Some (command.Account said)) = IsAccountCommand words said.address said.password
 Names words (Some (command.Domain name)) = IsDomainCommand words (string_bytes name)
+Names words (Some (command.Relay host)) = IsRelayCommand words (string_bytes host)

@@ -1,4 +1,4 @@
-//! Runs a command over a wire and a keeper.
+//! Runs a command over a wire, a keeper and a dial.
 ghost use Rattle.std.specs.Prelude.{◌≡◌, ◌≢◌, ℕ, List, [], ◌∷◌, Err, IfOk, IfErr, IfSome};
 ghost use Rattle.mail_wire.specs.Moves.{HasWireCause};
 ghost use Rattle.ace_domains.specs.Domains.{compared_form};
@@ -14,16 +14,18 @@ ghost use Rattle.setup_command.specs.Running.{IsExactJournal, HasStatusCause};
 ghost use Rattle.setup_command.specs.Statuses.{status_of};
 ghost use Rattle.setup_command.specs.WordForms.{IsAccountCommand, IsDomainCommand, IsHelpCommand};
 ghost use Rattle.mail_command.specs.Protocols.{protocol_for};
-ghost use Rattle.mail_command.specs.Words.{Names, IsNoCommand, IsDowngrade, IsCheck, IsGen, IsSession, OpensJournal};
+ghost use Rattle.mail_command.specs.Words.{Names, IsNoCommand, IsDowngrade, IsCheck, IsGen, IsRelayCommand, IsSession, OpensJournal};
+ghost use Rattle.mail_command.specs.RelayRuns.{RunsRelay};
 ghost use Rattle.mail_command.specs.Running.{RefusesWords, RunsDowngrade, RunsCheck, RunsGen, RunsSession, GivesHelp};
 ghost use Rattle.mail_command.specs.declared.roles.Role.{Role as RoleValue};
 
 use crate::apart::{Apart, run_apart};
+use crate::relaying::run_relay;
 use crate::roles::{Role, role_named};
-use crate::serving_words::gen_words;
+use crate::serving_words::{gen_words, relay_words};
 use crate::sessions::run_session;
 use crate::tasks::Task;
-use mail_wire::{Clock, Fault, Keeper, Memory, Wire, Words, give_all};
+use mail_wire::{Clock, Dial, Fault, Keeper, Memory, Wire, Words, give_all};
 use setup_command::{
     AccountWords, KEEPER_FAULT, WANT_OF_MEMORY, WIRE_FAULT, WORDS_REFUSED, read_account,
     read_domain, run_account, run_domain,
@@ -37,6 +39,8 @@ pub enum Command {
     Session(Role),
     Account(AccountWords),
     Domain(String),
+    /// The queue is sent to the server that this host names.
+    Relay(String),
 }
 
 // The command of one word.
@@ -64,6 +68,9 @@ fn command_with_values(alloc: Global, words: &Words) -> Result<Option<Command>, 
     }
     if let Some(name) = read_domain(alloc, words)? {
         return Ok(Some(Command::Domain(name)));
+    }
+    if let Some(host) = relay_words(words) {
+        return Ok(Some(Command::Relay(String::from_str(alloc, host)?)));
     }
     match gen_words(words) {
         Some(number) => Ok(Some(Command::Apart(Apart::Gen(number)))),
@@ -94,11 +101,12 @@ fn refuse_words<W: Wire>(wire: &mut W) -> Result<u8, Fault>
 }
 
 // Does what the words say.
-fn work<W: Wire, J: Keeper, C: Clock>(
+fn work<W: Wire, J: Keeper, L: Dial, C: Clock>(
     alloc: Global,
     words: &Words,
     wire: &mut W,
     keeper: &mut J,
+    dial: &mut L,
     clock: &mut C,
 ) -> Result<u8, Fault>
     ensures words { IsNoCommand words.now → RefusesWords (W.tells wire.old) (W.tells wire.new) (status_of result) }
@@ -117,8 +125,12 @@ fn work<W: Wire, J: Keeper, C: Clock>(
     ensures domain_exact { (name : List ℕ) → IsDomainCommand words.now name
         → IfSome (J.tells keeper.old).octets (λ octets. IsExactAdding (λ kept. domain_refusal kept name) octets (status_of result)) }
     ensures help { IsHelpCommand words.now → GivesHelp (W.tells wire.old) (W.tells wire.new) (status_of result) }
+    ensures relay { (host : List ℕ) → IsRelayCommand words.now host → RunsRelay LIMITS
+        (record { wire = W.tells wire.old; keeper = J.tells keeper.old; dial = L.tells dial.old; clock = C.tells clock.old })
+        (record { wire = W.tells wire.new; keeper = J.tells keeper.new; dial = L.tells dial.new; clock = C.tells clock.new }) (status_of result) }
     ensures journal { OpensJournal words.now → IfSome (J.tells keeper.old).octets (λ octets. IsExactJournal octets (status_of result)) }
     ensures untouched { ¬ OpensJournal words.now → J.tells keeper.new ≡ J.tells keeper.old }
+    ensures undialled { ((host : List ℕ) → ¬ IsRelayCommand words.now host) → L.tells dial.new ≡ L.tells dial.old }
     ensures cause { HasStatusCause (W.tells wire.old) (W.tells wire.new) (J.tells keeper.old) (J.tells keeper.new) (status_of result) }
 {
     match command_of(alloc, words)? {
@@ -132,6 +144,7 @@ fn work<W: Wire, J: Keeper, C: Clock>(
             keeper,
         ),
         Some(Command::Domain(name)) => run_domain(alloc, &name, wire, keeper),
+        Some(Command::Relay(host)) => run_relay(alloc, &host, wire, keeper, dial, clock),
         None => refuse_words(wire),
     }
 }
@@ -150,13 +163,14 @@ pub fn status_after(answer: Result<u8, Fault>) -> u8
 
 /// Runs the command that the words name, and answers its status: 0 where the work is done, 1 after a fault of the wire,
 /// 2 after one of the keeper, 3 for want of memory, 4 where the words are those of no command, 5 where the journal is bad,
-/// 6 where a session took 1 GiB without an end, 7 where the octets are no message or are more than 32 MiB, 9 where the store
-/// refuses an account or a domain.
-pub fn run<W: Wire, J: Keeper, C: Clock>(
+/// 6 where a session took 1 GiB without an end, 7 where the octets are no message or are more than 32 MiB, 8 where somebody is
+/// left in the queue, 9 where the store refuses an account or a domain.
+pub fn run<W: Wire, J: Keeper, L: Dial, C: Clock>(
     alloc: Global,
     words: &Words,
     wire: &mut W,
     keeper: &mut J,
+    dial: &mut L,
     clock: &mut C,
 ) -> u8
     ensures words { IsNoCommand words.now → RefusesWords (W.tells wire.old) (W.tells wire.new) result }
@@ -175,11 +189,15 @@ pub fn run<W: Wire, J: Keeper, C: Clock>(
     ensures domain_exact { (name : List ℕ) → IsDomainCommand words.now name
         → IfSome (J.tells keeper.old).octets (λ octets. IsExactAdding (λ kept. domain_refusal kept name) octets result) }
     ensures help { IsHelpCommand words.now → GivesHelp (W.tells wire.old) (W.tells wire.new) result }
+    ensures relay { (host : List ℕ) → IsRelayCommand words.now host → RunsRelay LIMITS
+        (record { wire = W.tells wire.old; keeper = J.tells keeper.old; dial = L.tells dial.old; clock = C.tells clock.old })
+        (record { wire = W.tells wire.new; keeper = J.tells keeper.new; dial = L.tells dial.new; clock = C.tells clock.new }) result }
     // A bad journal is told.
     ensures journal { OpensJournal words.now → IfSome (J.tells keeper.old).octets (λ octets. IsExactJournal octets result) }
-    // Other words leave the journal.
+    // Other words leave the journal, and `relay` alone dials.
     ensures untouched { ¬ OpensJournal words.now → J.tells keeper.new ≡ J.tells keeper.old }
+    ensures undialled { ((host : List ℕ) → ¬ IsRelayCommand words.now host) → L.tells dial.new ≡ L.tells dial.old }
     ensures cause { HasStatusCause (W.tells wire.old) (W.tells wire.new) (J.tells keeper.old) (J.tells keeper.new) result }
 {
-    status_after(work(alloc, words, wire, keeper, clock))
+    status_after(work(alloc, words, wire, keeper, dial, clock))
 }

@@ -1,4 +1,4 @@
-//! The commands: what the words of the command line do over a wire and a keeper.
+//! The commands: what the words of the command line do over a wire, a keeper and a dial.
 #![tactic(auto)]
 
 mod apart;
@@ -8,6 +8,7 @@ mod figures;
 mod generating;
 pub mod laws;
 mod lines;
+mod relaying;
 mod roles;
 mod serving_words;
 mod sessions;
@@ -21,5 +22,7 @@ pub use roles::{Role, serve_one};
 pub use serving_words::serve_words;
 pub use session_core::{Desk, LIMITS, Limits, Outside, Served, next_desk, open_desk};
 pub use sessions::run_session;
-pub use setup_command::{DONE, KEEPER_FAULT, WANT_OF_MEMORY, WIRE_FAULT, tell_unopened};
+pub use setup_command::{
+    DONE, KEEPER_FAULT, LEFT_QUEUED, WANT_OF_MEMORY, WIRE_FAULT, tell_unopened,
+};
 pub use tasks::{Task, reply_of};

@@ -1,11 +1,12 @@
-//! The words of `gen`, and those of `serve`, which the program itself carries out.
+//! The words of `gen` and `relay`, and those of `serve`, which the program itself carries out.
 ghost use Rattle.std.specs.Prelude.{◌≡◌, ◌≢◌, ℕ, List, [], ◌∷◌, IfSome, IfNone};
-ghost use Rattle.mail_command.specs.Words.{IsGen, IsNumberUpTo, IsServeCommand};
+ghost use Rattle.mail_command.specs.Words.{IsGen, IsNumberUpTo, IsRelayCommand, IsServeCommand};
 ghost use Rattle.mail_command.specs.declared.roles.Role.{Role as RoleValue};
 
 use crate::roles::{Role, role_named};
 use itoa::Buffer;
 use mail_wire::Words;
+use setup_command::is_plain;
 
 // The greatest port.
 const PORT_MAX: u32 = 65_535;
@@ -90,4 +91,16 @@ pub fn gen_words(words: &Words) -> Option<u32>
         return None;
     }
     number_up_to(number, MESSAGES_MAX)
+}
+
+/// The host that the words of `relay` name. Other words say nothing. It takes no memory.
+pub fn relay_words(words: &Words) -> Option<&str>
+    ensures some { IfSome result (λ host. IsRelayCommand words.now host.now) }
+    ensures none { IfNone result ((host : List ℕ) → ¬ IsRelayCommand words.now host) }
+{
+    let (name, host) = two_words(words)?;
+    if name != "relay" || !is_plain(host) {
+        return None;
+    }
+    Some(host)
 }

@@ -4,7 +4,7 @@ ghost use Rattle.session_core.specs.Desks.{WorksWithin};
 ghost use Rattle.session_core.specs.declared.desk.TheConstants.{LIMITS};
 
 use crate::in_memory::{
-    JOURNAL, LEGACY, LEGACY_REPLIES, WITHOUT_MESSAGE, given, keeper_of, wire_of,
+    JOURNAL, LEGACY, LEGACY_REPLIES, WITHOUT_MESSAGE, dial_of, given, keeper_of, wire_of,
 };
 use mail_command::{
     Desk, LIMITS, OpenFault, Outside, Role, Served, open_desk, run, serve_next, serve_one,
@@ -64,11 +64,13 @@ fn the_words_of_serve_are_no_command(rt: HostRuntime) -> Result<(), Fail> {
     let words = words_of(alloc, "serve pop 110 1")?;
     let mut wire = wire_of(alloc, LEGACY, &[], &[])?;
     let mut keeper = keeper_of(alloc, JOURNAL, &[])?;
+    let mut dial = dial_of(alloc, b"", &[])?;
     let status = run(
         alloc,
         &words,
         &mut wire,
         &mut keeper,
+        &mut dial,
         &mut FixedClock::new(0),
     );
     assert_eq!(rt; status, 4);

@@ -1,5 +1,5 @@
 //! The rows of IMAP sessions, over wires and keepers in memory.
-use crate::in_memory::{JOURNAL, WITHOUT_MESSAGE, given, keeper_of, wire_of};
+use crate::in_memory::{JOURNAL, WITHOUT_MESSAGE, dial_of, given, keeper_of, wire_of};
 use mail_command::run;
 use mail_wire::{Failure, FixedClock, MemKeeper, MemWire, Memory, Octets, Words};
 use std::alloc::Global;
@@ -92,7 +92,9 @@ const DELETED_AND_EXPUNGED: &[u8] = b"\0\0\0\x06\x05\0\0\0\0\x08\0\0\0\x05\x06\0
 fn imap(alloc: Global, wire: &mut MemWire, keeper: &mut MemKeeper) -> Result<u8, Memory> {
     let mut words = Words::none(alloc);
     words.push("imap")?;
-    Ok(run(alloc, &words, wire, keeper, &mut FixedClock::new(0)))
+    let mut dial = dial_of(alloc, b"", &[])?;
+    let mut clock = FixedClock::new(0);
+    Ok(run(alloc, &words, wire, keeper, &mut dial, &mut clock))
 }
 
 // What a session leaves that takes this input in pieces of these sizes: its status, what it was given, and the journal.

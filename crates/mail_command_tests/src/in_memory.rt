@@ -1,6 +1,8 @@
 //! Wires and keepers in memory, commands over them, a journal, and a session over it.
 use mail_command::run;
-use mail_wire::{Entry, Failure, FixedClock, MemKeeper, MemWire, Memory, Octets, Words};
+use mail_wire::{
+    Entry, Failure, FixedClock, MemDial, MemKeeper, MemServer, MemWire, Memory, Octets, Words,
+};
 use std::alloc::Global;
 
 /// The domain `example.org`, the account `ann@example.org` with the password `pw`, and a message of 25 octets.
@@ -41,6 +43,16 @@ pub fn keeper_of(alloc: Global, journal: &[u8], failures: &[Failure]) -> Result<
     ))
 }
 
+/// A dial that reaches servers that send this. Its calls with these numbers fail.
+pub fn dial_of(alloc: Global, sends: &[u8], failing: &[u64]) -> Result<MemDial, Memory> {
+    let server = MemServer {
+        sends: Octets::from_slice(alloc, sends)?,
+        sizes: Vec::new(alloc),
+        failures: Vec::new(alloc),
+    };
+    Ok(MemDial::new(alloc, server, Vec::from_slice(alloc, failing)?))
+}
+
 /// What a wire was given.
 pub fn given(alloc: Global, wire: &MemWire) -> Result<Octets, Memory> {
     let mut given = Octets::new(alloc);
@@ -66,7 +78,8 @@ pub fn answer(
     }
     let mut wire = wire_of(alloc, input, sizes, failures)?;
     let mut keeper = keeper_of(alloc, b"", &[])?;
+    let mut dial = dial_of(alloc, b"", &[])?;
     let mut clock = FixedClock::new(0);
-    let status = run(alloc, &said, &mut wire, &mut keeper, &mut clock);
+    let status = run(alloc, &said, &mut wire, &mut keeper, &mut dial, &mut clock);
     Ok((status, given(alloc, &wire)?))
 }

@@ -12,4 +12,6 @@ mod imap_tests;
 #[cfg(test)]
 mod in_memory;
 #[cfg(test)]
+mod relay_tests;
+#[cfg(test)]
 mod session_tests;

@@ -1,6 +1,6 @@
 //! The rows of sessions, over wires and keepers in memory.
 use crate::in_memory::{
-    JOURNAL, LEGACY, LEGACY_REPLIES, WITHOUT_MESSAGE, given, keeper_of, wire_of,
+    JOURNAL, LEGACY, LEGACY_REPLIES, WITHOUT_MESSAGE, dial_of, given, keeper_of, wire_of,
 };
 use mail_command::{LIMITS, Limits, Outside, Role, Served, open_desk, run, serve_one};
 use mail_wire::{Failure, FixedClock, MemKeeper, MemWire, Memory, Octets, Words};
@@ -16,7 +16,9 @@ fn status_of(
 ) -> Result<u8, Memory> {
     let mut words = Words::none(alloc);
     words.push(word)?;
-    Ok(run(alloc, &words, wire, keeper, &mut FixedClock::new(0)))
+    let mut dial = dial_of(alloc, b"", &[])?;
+    let mut clock = FixedClock::new(0);
+    Ok(run(alloc, &words, wire, keeper, &mut dial, &mut clock))
 }
 
 // The status of `pop`.

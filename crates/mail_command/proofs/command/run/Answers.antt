@@ -20,3 +20,6 @@ returns-clause-domain_exact g c = rw c.status_after.ensures c.work.ensures.domai
 
 pub returns-clause-journal : goal.returns-clause-journal
 returns-clause-journal g c = rw c.status_after.ensures c.work.ensures.journal
+
+pub returns-clause-relay : goal.returns-clause-relay
+returns-clause-relay g c = rw c.status_after.ensures c.work.ensures.relay

@@ -12,16 +12,27 @@ use Rattle.setup_command.specs.Statuses.{status_of}
 use Rattle.mail_command.specs.declared.roles.Role.{Role}
 use Rattle.mail_command.specs.Protocols.{protocol_for}
 use Rattle.mail_command.specs.Running.{RunsSession}
-use Rattle.mail_command.specs.Words.{OfSession, OfAccount, OfDomain}
+use Rattle.mail_command.specs.Words.{OfSession, OfAccount, OfDomain, OfRelay}
 use Rattle.mail_command.proofs.ApartLemmas.{apart_check, apart_downgrade, apart_few, apart_gen, apart_help, apart_names, apart_opens}
-use Rattle.mail_command.proofs.CommandLemmas.{account_at, domain_at, none_opens, not_begun}
+use Rattle.mail_command.proofs.CommandLemmas.{account_at, domain_at, none_opens, not_begun, refusal_unbegun}
+use Rattle.mail_command.proofs.RelayLemmas.{relay_unbegun}
 use Rattle.mail_command.proofs.WordsLemmas.{session_once}
 use Rattle.mail_command.proofs.command.work.Goals as goal
+
+pub returns-in_err-command-clause-words : goal.returns-in_err-command-clause-words
+returns-in_err-command-clause-words g c =
+    let failed = err_from_is_err_and c.from_residual.result c.from_residual.ensures.1 in
+    rw (failed.1, failed.2) (λ none. refusal_unbegun (g.W.Wire.tells c.args.wire.now))
 
 pub returns-in_err-command-clause-account : goal.returns-in_err-command-clause-account
 returns-in_err-command-clause-account g c =
     let failed = err_from_is_err_and c.from_residual.result c.from_residual.ensures.1 in
     rw (failed.1, failed.2) (λ address password is path_of reads. not_begun _ _ (g.J.Keeper.tells c.args.keeper.now).octets (g.W.Wire.tells c.args.wire.now))
+
+pub returns-in_err-command-clause-relay : goal.returns-in_err-command-clause-relay
+returns-in_err-command-clause-relay g c =
+    let failed = err_from_is_err_and c.from_residual.result c.from_residual.ensures.1 in
+    rw (failed.1, failed.2) (λ host is. relay_unbegun LIMITS _)
 
 pub run_apart-requires : goal.run_apart-requires
 run_apart-requires g c = apart_few c.args.words.now c.in-Some-Apart.command (rw (c.in-Some-Apart.is, c.in-Some-Apart.field-0-is) at c.in_ok-command.ensures.names)
@@ -64,6 +75,10 @@ returns-in-Some-Apart-clause-domain g c name is =
 pub returns-in-Some-Apart-clause-domain_exact : goal.returns-in-Some-Apart-clause-domain_exact
 returns-in-Some-Apart-clause-domain_exact g c name is =
     absurd (apart_opens c.args.words.now c.in-Some-Apart.command (rw (c.in-Some-Apart.is, c.in-Some-Apart.field-0-is) at c.in_ok-command.ensures.names) (OfDomain name is))
+
+pub returns-in-Some-Apart-clause-relay : goal.returns-in-Some-Apart-clause-relay
+returns-in-Some-Apart-clause-relay g c host is =
+    absurd (apart_opens c.args.words.now c.in-Some-Apart.command (rw (c.in-Some-Apart.is, c.in-Some-Apart.field-0-is) at c.in_ok-command.ensures.names) (OfRelay host is))
 
 pub returns-in-Some-Apart-clause-journal : goal.returns-in-Some-Apart-clause-journal
 returns-in-Some-Apart-clause-journal g c opens =
@@ -124,3 +139,14 @@ returns-in-None-clause-journal g c opens = absurd (none_opens c.args.words.now (
 
 pub returns-in-None-clause-generates : goal.returns-in-None-clause-generates
 returns-in-None-clause-generates g c number is = let none = rw c.in-None.is at c.in_ok-command.ensures.names in absurd (none.gen number is)
+
+pub returns-in-None-clause-relay : goal.returns-in-None-clause-relay
+returns-in-None-clause-relay g c host is = let none = rw c.in-None.is at c.in_ok-command.ensures.names in absurd (none.relay host is)
+
+pub returns-in-Some-Relay-clause-untouched : goal.returns-in-Some-Relay-clause-untouched
+returns-in-Some-Relay-clause-untouched g c never =
+    absurd (never (OfRelay (string_bytes c.in-Some-Relay.host) (rw (c.in-Some-Relay.is, c.in-Some-Relay.field-0-is) at c.in_ok-command.ensures.names)))
+
+pub returns-in-Some-Relay-clause-undialled : goal.returns-in-Some-Relay-clause-undialled
+returns-in-Some-Relay-clause-undialled g c never =
+    absurd (never (string_bytes c.in-Some-Relay.host) (rw (c.in-Some-Relay.is, c.in-Some-Relay.field-0-is) at c.in_ok-command.ensures.names))

@@ -1,0 +1,156 @@
+-- What the command does that sends the queue on, exit by exit.
+use Rattle.std.proofs.Common.{◌≡◌, ◌≢◌, ℕ, List, [], Option, None, Some, Result, Ok, Err, refl, ap, inl, inr}
+use Rattle.std.specs.Prelude.{IfOk, IfSome, codes}
+use Rattle.address_grammar.specs.declared.Address.{Address}
+use Rattle.journal_records.specs.declared.records.Record.{Record}
+use Rattle.mail_store.proofs.FollowLemmas.{Follows-nil}
+use Rattle.mail_store.specs.Answers.{IsJournalFault, LeavesRecords}
+use Rattle.mail_store.specs.Following.{Follows}
+use Rattle.mail_store.specs.StoreState.{StoreState}
+use Rattle.mail_store.specs.declared.opening.OpenFault.{OpenFault}
+use Rattle.mail_store.specs.declared.opening.OpenFault.TheVariants as faults
+use Rattle.mail_wire.proofs.Moving.{Gives-nil}
+use Rattle.mail_wire.specs.KeeperTelling.{KeeperTelling}
+use Rattle.mail_wire.specs.declared.outside.Entry.{Entry}
+use Rattle.mail_wire.specs.declared.outside.Fault.{Fault}
+use Rattle.mail_wire.specs.declared.outside.Fault.TheVariants as fault
+use Rattle.relay_choice.specs.declared.replies.Reply.{Reply}
+use Rattle.relay_session.specs.Dialling.{AroundDial, HasDialCause, RelaysQueue, RelaysQueueBy, connected, nobody_waits, unreached, unbegun as unbegun_queue}
+use Rattle.relay_session.specs.Letters.{Mailbag}
+use Rattle.relay_session.specs.Relaying.{AnswersRelay, EndsRun, HasLeftCause, RelaysBy, begun, idle, unbegun}
+use Rattle.relay_session.specs.declared.ends.LeftCause.{LeftCause}
+use Rattle.relay_session.specs.declared.ends.LeftCause.TheVariants as left_by
+use Rattle.relay_session.specs.declared.ends.RelayEnd.{RelayEnd}
+use Rattle.session_core.proofs.MeaningLemmas.{meanings_given}
+use Rattle.session_core.specs.Around.{Around}
+use Rattle.session_core.specs.Desks.{IsOpen}
+use Rattle.session_core.specs.declared.desk.Desk.{Desk}
+use Rattle.session_core.specs.declared.desk.Limits.{Limits}
+use Rattle.setup_command.proofs.AddingLemmas.{holds_by}
+use Rattle.setup_command.specs.AddingRuns.{TellsLine, TellsUnopened}
+use Rattle.setup_command.specs.Running.{BreaksSessionOff, OpensStore, place_line}
+use Rattle.setup_command.specs.Statuses.{status_of}
+use Rattle.mail_command.specs.RelayRuns.{Broken, InEnd, InJournal, InLine, InRelay, OutsideTelling, Relayed, RunsRelay, SendsQueue, Unopened, relay_line, relay_status}
+use Rattle.mail_command.proofs.CommandLemmas.{left_alone}
+use Rattle.mail_command.proofs.SessionLemmas.{quiet}
+
+-- ---- what the relay leaves in the journal
+
+-- some records were put last in the store and in the keeper
+abbrev PutsSome : StoreState → StoreState → Option (List ℕ) → Option (List ℕ) → Type 0
+PutsSome old new had has = (records : List Record) × Follows old new had has records
+
+puts_none : (old new : StoreState) (had has : Option (List ℕ)) → new ≡ old → has ≡ had → PutsSome old new had has
+puts_none old new had has same kept = rw (same, kept) ([], Follows-nil old had)
+
+-- a run that came to an end, whyever
+puts_by_end : (path_of : List ℕ → Option (Option Address)) (before now : Around) (bag : Mailbag before.desk.store.kept) (entries : List Entry) (replies : List Reply) (behind : List ℕ) (end : RelayEnd)
+    (cause : Option LeftCause) → EndsRun path_of before now bag entries replies behind end cause → PutsSome before.desk.store now.desk.store before.keeper.octets now.keeper.octets
+puts_by_end path_of before now bag entries replies behind end None is = (_, is.leaves.follows)
+puts_by_end path_of before now bag entries replies behind end (Some left_by.Dial) is = absurd is
+puts_by_end path_of before now bag entries replies behind end (Some left_by.Wire) is = (_, is.breaks.done.follows)
+puts_by_end path_of before now bag entries replies behind end (Some (left_by.Reply octets)) is = (_, is.does.done.1)
+
+-- any run in which the keeper didn't fail
+puts_by_answer : (path_of : List ℕ → Option (Option Address)) (before now : Around) (bag : Mailbag before.desk.store.kept) (entries : List Entry) (replies : List Reply) (behind : List ℕ)
+    (result : Result RelayEnd Fault) → AnswersRelay path_of before now bag entries replies behind result → result ≢ Err fault.Keeper
+    → PutsSome before.desk.store now.desk.store before.keeper.octets now.keeper.octets
+puts_by_answer path_of before now bag entries replies behind (Ok end) is other = puts_by_end path_of before now bag entries replies behind end end.cause is
+puts_by_answer path_of before now bag entries replies behind (Err fault.Wire) is other = absurd is
+puts_by_answer path_of before now bag entries replies behind (Err fault.Keeper) is other = absurd (other refl)
+puts_by_answer path_of before now bag entries replies behind (Err fault.Memory) is other = (_, is.done.follows)
+
+puts_over_wire : (path_of : List ℕ → Option (Option Address)) (before now : Around) (result : Result RelayEnd Fault) → RelaysBy path_of before now result → result ≢ Err fault.Keeper
+    → PutsSome before.desk.store now.desk.store before.keeper.octets now.keeper.octets
+puts_over_wire path_of before now result (unbegun is same) other =
+    puts_none _ _ _ _ (ap (λ (around : Around). around.desk.store) same) (ap (λ (around : Around). around.keeper.octets) same)
+puts_over_wire path_of before now result (idle none same is) other =
+    puts_none _ _ _ _ (ap (λ (around : Around). around.desk.store) same) (ap (λ (around : Around). around.keeper.octets) same)
+puts_over_wire path_of before now result (begun bag some to) other = puts_by_answer path_of before now bag to.entries to.replies to.behind result to.answers other
+
+puts_by_dial : (path_of : List ℕ → Option (Option Address)) (before now : AroundDial) (result : Result RelayEnd Fault) → RelaysQueueBy path_of before now result → result ≢ Err fault.Keeper
+    → PutsSome before.desk.store now.desk.store before.keeper.octets now.keeper.octets
+puts_by_dial path_of before now result (unbegun_queue is home) other =
+    puts_none _ _ _ _ (ap (λ (desk : Desk). desk.store) home.desk) (ap (λ (keeper : KeeperTelling). keeper.octets) home.keeper)
+puts_by_dial path_of before now result (nobody_waits none same is) other =
+    puts_none _ _ _ _ (ap (λ (around : AroundDial). around.desk.store) same) (ap (λ (around : AroundDial). around.keeper.octets) same)
+puts_by_dial path_of before now result (unreached queue are some home rose is) other =
+    puts_none _ _ _ _ (ap (λ (desk : Desk). desk.store) home.desk) (ap (λ (keeper : KeeperTelling). keeper.octets) home.keeper)
+puts_by_dial path_of before now result (connected some over) other = puts_over_wire path_of _ _ result over.relays other
+
+puts_some : (before now : AroundDial) (result : Result RelayEnd Fault) → RelaysQueue before now result → result ≢ Err fault.Keeper
+    → PutsSome before.desk.store now.desk.store before.keeper.octets now.keeper.octets
+puts_some before now result relays = puts_by_dial meanings_given.0.path_of before now result (relays meanings_given.0.path_of meanings_given.1.paths)
+
+-- ---- the journal isn't opened
+
+-- memory was wanting for the words
+pub relay_unbegun : (limits : Limits) (before : OutsideTelling) → RunsRelay limits before before 3
+relay_unbegun limits before = Broken (inl (inr refl)) (InJournal (Gives-nil before.wire) (left_alone before.keeper.octets) refl)
+
+-- why it isn't was told, or that was broken off
+pub relay_unopened : (limits : Limits) (before now : OutsideTelling) (met : OpenFault) (result : Result ℕ Fault) → LeavesRecords before.keeper.octets now.keeper.octets
+    → IfSome before.keeper.octets (λ octets. IsJournalFault octets now.keeper.octets met) → TellsUnopened met before.wire now.wire result → now.dial ≡ before.dial
+    → RunsRelay limits before now (status_of result)
+relay_unopened limits before now faults.Keeper result leaves is tells home = rw tells.1 (Broken (inr refl) (InJournal (quiet before.wire now.wire tells.0) leaves home))
+relay_unopened limits before now faults.Memory result leaves is tells home = rw tells.1 (Broken (inl (inr refl)) (InJournal (quiet before.wire now.wire tells.0) leaves home))
+relay_unopened limits before now (faults.BadJournal at) (Ok status) leaves is tells home =
+    Unopened (place_line (codes "bad journal at ") at) (record { fault = faults.BadJournal at; told = (tells.1, refl); is = is }) tells.0 home
+relay_unopened limits before now (faults.BadJournal at) (Err fault.Wire) leaves is tells home =
+    Broken (inl (inl refl)) (InLine 5 (place_line (codes "bad journal at ") at) (record { fault = faults.BadJournal at; told = (refl, refl); is = is }) tells leaves home)
+relay_unopened limits before now (faults.BadJournal at) (Err fault.Memory) leaves is tells home =
+    Broken (inl (inr refl)) (InLine 5 (place_line (codes "bad journal at ") at) (record { fault = faults.BadJournal at; told = (refl, refl); is = is }) tells leaves home)
+relay_unopened limits before now (faults.BadJournal at) (Err fault.Keeper) leaves is tells home = absurd tells
+
+-- ---- the queue was relayed
+
+-- from a desk that was opened over this keeper, to a desk
+pub record IsRelayed (limits : Limits) (before now : OutsideTelling) (opened : KeeperTelling) (desk after : Desk) (result : Result RelayEnd Fault) : Type 0 where
+  pub leaves : LeavesRecords before.keeper.octets opened.octets
+  pub opens : OpensStore before.keeper.octets opened.octets desk.store
+  pub works : IsOpen desk
+  pub limits_are : desk.limits ≡ limits
+  pub relays : RelaysQueue (record { dial = before.dial; keeper = opened; clock = before.clock; desk = desk })
+      (record { dial = now.dial; keeper = now.keeper; clock = now.clock; desk = after }) result
+  pub left : IfOk result HasLeftCause
+  pub cause : IfOk result (HasDialCause before.dial now.dial)
+
+sends_queue : (limits : Limits) (before now : OutsideTelling) (opened : KeeperTelling) (desk after : Desk) (result : Result RelayEnd Fault) → IsRelayed limits before now opened desk after result
+    → SendsQueue limits before now result
+sends_queue limits before now opened desk after result is = record {
+  desk = desk;
+  after = after;
+  opened = opened;
+  opens = is.opens;
+  works = is.works;
+  limits_are = is.limits_are;
+  relays = is.relays;
+  left = is.left;
+  cause = is.cause;
+  holds = λ other. let puts = puts_some _ _ result is.relays other in
+      holds_by before.keeper.octets opened.octets now.keeper.octets desk.store after.store puts.0 is.leaves is.opens.opens puts.1;
+}
+
+breaks_off : (met : Fault) → BreaksSessionOff (status_of (Err met))
+breaks_off fault.Wire = inl (inl refl)
+breaks_off fault.Keeper = inr refl
+breaks_off fault.Memory = inl (inr refl)
+
+-- it was broken off
+pub relay_failed : (limits : Limits) (before now : OutsideTelling) (opened : KeeperTelling) (desk after : Desk) (result : Result RelayEnd Fault) (met : Fault)
+    → IsRelayed limits before now opened desk after result → result ≡ Err met → now.wire ≡ before.wire → RunsRelay limits before now (status_of (Err met))
+relay_failed limits before now opened desk after result met is failed same =
+    Broken (breaks_off met) (InRelay met (rw failed at (sends_queue limits before now opened desk after result is)) refl (quiet before.wire now.wire same))
+
+told_by : (limits : Limits) (before now : OutsideTelling) (end : RelayEnd) (result : Result ℕ Fault) → SendsQueue limits before now (Ok end)
+    → TellsLine before.wire now.wire result (relay_status end) (relay_line end) → RunsRelay limits before now (status_of result)
+told_by limits before now end (Ok status) sends tells = Relayed end sends tells.0 tells.1
+told_by limits before now end (Err fault.Wire) sends tells = Broken (inl (inl refl)) (InEnd end sends (inl refl) tells)
+told_by limits before now end (Err fault.Keeper) sends tells = absurd tells
+told_by limits before now end (Err fault.Memory) sends tells = Broken (inl (inr refl)) (InEnd end sends (inr refl) tells)
+
+-- how it ended was told, or that was broken off
+pub relay_told : (limits : Limits) (before now : OutsideTelling) (opened : KeeperTelling) (desk after : Desk) (result : Result RelayEnd Fault) (end : RelayEnd) (told : Result ℕ Fault)
+    → IsRelayed limits before now opened desk after result → result ≡ Ok end → TellsLine before.wire now.wire told (relay_status end) (relay_line end) → RunsRelay limits before now (status_of told)
+relay_told limits before now opened desk after result end told is ended tells =
+    told_by limits before now end told (rw ended at (sends_queue limits before now opened desk after result is)) tells

@@ -1,0 +1,138 @@
+//! The command that sends the queue on, to a server in memory.
+use crate::in_memory::{JOURNAL, WITHOUT_MESSAGE, dial_of, given, keeper_of, wire_of};
+use mail_command::run;
+use mail_wire::{Dial, Entry, Failure, FixedClock, MemDial, MemKeeper, Memory, Octets, Words};
+use std::alloc::Global;
+use std::test::Fail;
+
+// A message of the account, which waits for one recipient, and the record that this one is settled.
+const WAITING: &[u8] =
+    b"\0\0\0\x38\x07\0\0\0\x0fann@example.org\0\0\0\x01\0\0\0\x0dx@example.com\0\0\0\x0bA: b\r\n\r\nx\r\n";
+
+const SETTLED: &[u8] = b"\0\0\0\x09\x08\0\0\0\0\0\0\0\0";
+
+// What a server sends that takes the message, and what it's given.
+const SERVER: &[u8] = b"220 x\r\n250 x\r\n250 ok\r\n250 ok\r\n354 go\r\n250 ok\r\n221 bye\r\n";
+
+const SENT: &[u8] =
+    b"EHLO example.org\r\nMAIL FROM:<ann@example.org>\r\nRCPT TO:<x@example.com>\r\nDATA\r\nA: b\r\n\r\nx\r\n.\r\nQUIT\r\n";
+
+// A journal with these records behind the domain and the account.
+fn journal_of(alloc: Global, records: &[u8]) -> Result<Octets, Memory> {
+    let mut journal = Octets::from_slice(alloc, &JOURNAL[..WITHOUT_MESSAGE])?;
+    journal.push_slice(records)?;
+    Ok(journal)
+}
+
+// The status of these words at the clock's second 0, and what was given to a wire that fails so.
+fn answer_of(
+    alloc: Global,
+    list: &[&str],
+    failures: &[Failure],
+    keeper: &mut MemKeeper,
+    dial: &mut MemDial,
+) -> Result<(u8, Octets), Memory> {
+    let mut words = Words::none(alloc);
+    for word in list {
+        words.push(word)?;
+    }
+    let mut wire = wire_of(alloc, b"", &[], failures)?;
+    let mut clock = FixedClock::new(0);
+    let status = run(alloc, &words, &mut wire, keeper, dial, &mut clock);
+    Ok((status, given(alloc, &wire)?))
+}
+
+// Whether the dial, whose first call fails, wasn't called yet.
+fn is_untouched(dial: &mut MemDial) -> bool {
+    dial.dial("x").is_err()
+}
+
+#[test]
+fn where_nobody_waits_nobody_is_dialled(rt: HostRuntime) -> Result<(), Fail> {
+    let alloc = rt.alloc();
+    let mut keeper = keeper_of(alloc, JOURNAL, &[])?;
+    let mut dial = dial_of(alloc, SERVER, &[0])?;
+    let (status, line) = answer_of(alloc, &["relay", "x"], &[], &mut keeper, &mut dial)?;
+    assert_eq!(rt; status, 0);
+    assert!(rt; line.as_slice() == b"sent 0, reported 0, left 0\r\n".as_slice());
+    assert!(rt; keeper.octets() == JOURNAL);
+    assert!(rt; is_untouched(&mut dial));
+    Ok(())
+}
+
+#[test]
+fn a_server_that_is_not_reached_leaves_all(rt: HostRuntime) -> Result<(), Fail> {
+    let alloc = rt.alloc();
+    let journal = journal_of(alloc, WAITING)?;
+    let mut keeper = keeper_of(alloc, journal.as_slice(), &[])?;
+    let mut dial = dial_of(alloc, SERVER, &[0])?;
+    let (status, line) = answer_of(alloc, &["relay", "x"], &[], &mut keeper, &mut dial)?;
+    assert_eq!(rt; status, 8);
+    assert!(rt; line.as_slice() == b"sent 0, reported 0, left 1\r\n".as_slice());
+    assert!(rt; keeper.octets() == journal.as_slice());
+    assert!(rt; dial.entries().is_empty());
+    Ok(())
+}
+
+#[test]
+fn a_message_is_sent_once(rt: HostRuntime) -> Result<(), Fail> {
+    let alloc = rt.alloc();
+    let mut journal = journal_of(alloc, WAITING)?;
+    let mut keeper = keeper_of(alloc, journal.as_slice(), &[])?;
+    let mut dial = dial_of(alloc, SERVER, &[])?;
+    let (status, line) = answer_of(alloc, &["relay", "x"], &[], &mut keeper, &mut dial)?;
+    assert_eq!(rt; status, 0);
+    assert!(rt; line.as_slice() == b"sent 1, reported 0, left 0\r\n".as_slice());
+    let mut sent = Octets::new(alloc);
+    for entry in dial.entries() {
+        if let Entry::Given(octets) = entry {
+            sent.push_slice(octets.as_slice())?;
+        }
+    }
+    assert!(rt; sent.as_slice() == SENT);
+    journal.push_slice(SETTLED)?;
+    assert!(rt; keeper.octets() == journal.as_slice());
+    // The queue of this journal is empty.
+    let mut other = dial_of(alloc, SERVER, &[0])?;
+    let (status, line) = answer_of(alloc, &["relay", "x"], &[], &mut keeper, &mut other)?;
+    assert_eq!(rt; status, 0);
+    assert!(rt; line.as_slice() == b"sent 0, reported 0, left 0\r\n".as_slice());
+    assert!(rt; is_untouched(&mut other));
+    Ok(())
+}
+
+#[test]
+fn a_wire_that_fails_is_told(rt: HostRuntime) -> Result<(), Fail> {
+    let alloc = rt.alloc();
+    let mut keeper = keeper_of(alloc, JOURNAL, &[])?;
+    let mut dial = dial_of(alloc, b"", &[])?;
+    let failures = [Failure { call: 0, kept: 4 }];
+    let (status, line) = answer_of(alloc, &["relay", "x"], &failures, &mut keeper, &mut dial)?;
+    assert_eq!(rt; status, 1);
+    assert!(rt; line.as_slice() == b"sent".as_slice());
+    Ok(())
+}
+
+#[test]
+fn other_words_are_refused(rt: HostRuntime) -> Result<(), Fail> {
+    let alloc = rt.alloc();
+    let journal = journal_of(alloc, WAITING)?;
+    let mut keeper = keeper_of(alloc, journal.as_slice(), &[])?;
+    let mut dial = dial_of(alloc, SERVER, &[0])?;
+    for list in [
+        ["relay"].as_slice(),
+        &["relay", "-x"],
+        &["relay", ""],
+        &["relay", "x", "y"],
+    ] {
+        let (status, line) = answer_of(alloc, list, &[], &mut keeper, &mut dial)?;
+        assert_eq!(rt; status, 4, "at {list:?}");
+        assert!(rt;
+            line.as_slice() == b"words refused\r\n".as_slice(),
+            "at {list:?}"
+        );
+    }
+    assert!(rt; keeper.octets() == journal.as_slice());
+    assert!(rt; is_untouched(&mut dial));
+    Ok(())
+}
