@@ -1,0 +1,12 @@
+pub mod Sizes
+pub mod Blocks
+pub mod Copies
+pub mod FillLemmas
+pub mod ChainLemmas
+pub mod HeldLemmas
+pub mod PutLemmas
+pub mod GiveLemmas
+pub mod OpenLemmas
+pub mod ReadLemmas
+pub mod DoneLemmas
+pub mod PoolLemmas

@@ -1,0 +1,3 @@
+-- How a pool keeps what it holds, and what private functions answer.
+pub mod Chains
+pub mod Kept
