@@ -5,9 +5,11 @@ import tempfile
 
 import dovecot
 import imap
+import paths
 import pop
 from counting import heading, instructions_while, line
-from mailboxes import PASSWORD, messages, talk, tell, write_journal
+from listening import NotStarted, free_port
+from mailboxes import PASSWORD, messages, talk, tell, warm, write_journal
 from serve import Serve, words_of
 
 COUNT, RIVAL_COUNT = 10_000, 1_000
@@ -36,7 +38,7 @@ def instructions_of(program, protocol, count):
     """Those of a program that serves so many connections, and ends."""
     with tempfile.TemporaryDirectory() as folder:
         write_journal(folder, MESSAGES, SIZE)
-        port = dovecot.free_port()
+        port = free_port()
         return instructions_while(words_of(program, protocol.WORD, port, count), lambda: connect_often(protocol, port, count), cwd=folder)
 
 
@@ -58,9 +60,9 @@ def rival_rate(protocol, count):
     with tempfile.TemporaryDirectory() as folder:
         try:
             with dovecot.Dovecot(folder, messages(MESSAGES, SIZE), PASSWORD, protocol.WORD) as rival:
-                connect_often(protocol, rival.port, 1)
+                warm(protocol, rival.port, protocol.LOGIN, MESSAGES)
                 return a_second(count, connect_often(protocol, rival.port, count))
-        except dovecot.NotStarted as error:
+        except NotStarted as error:
             print(error, file=sys.stderr)
             return "not started"
 

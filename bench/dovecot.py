@@ -9,6 +9,9 @@ import socket
 import subprocess
 import time
 
+import paths
+from listening import NotStarted, free_port
+
 PATH = os.pathsep.join([os.environ.get("PATH", os.defpath), "/usr/sbin"])
 
 SETTINGS = """
@@ -44,10 +47,6 @@ service {protocol}-login {{
 """
 
 
-class NotStarted(Exception):
-    """What the server said."""
-
-
 # Dovecot's names of the protocols, and the programs of its packages that serve them
 PROTOCOLS = {"pop": "pop3", "imap": "imap"}
 PROGRAMS = "/usr/lib/dovecot"
@@ -63,20 +62,27 @@ def version():
     return "Dovecot " + said.stdout.split()[0]
 
 
+# the second of the first delivery, and microseconds from one to the next
+BEGUN, APART = 1_700_000_000, 61_000_037
+
+
+def name_of(number, size, wire_size):
+    """The name of a file that Dovecot's delivery left, once it was seen: second, microsecond, process, host, and the sizes with LF and with CRLF."""
+    second, microsecond = divmod(number * APART, 1_000_000)
+    return f"{BEGUN + second}.M{microsecond}P4711.mail,S={size},W={wire_size}:2,S"
+
+
 def write_maildir(folder, messages):
-    """The messages as Dovecot's own delivery leaves them: LF line ends, and both sizes in the name."""
+    """The messages as they lie there some time after Dovecot's own delivery, with LF line ends."""
     for part in ("new", "tmp", "cur"):
         os.makedirs(os.path.join(folder, part))
+    current = os.path.join(folder, "cur")
     for number, octets in enumerate(messages):
         lines = octets.replace(b"\r\n", b"\n")
-        name = f"{1_790_000_000 + number}.M{number}.bench,S={len(lines)},W={len(octets)}:2,S"
-        with open(os.path.join(folder, "cur", name), "wb") as file:
+        with open(os.path.join(current, name_of(number, len(lines), len(octets))), "wb") as file:
             file.write(lines)
-
-
-def free_port():
-    with socket.create_server(("127.0.0.1", 0)) as listening:
-        return listening.getsockname()[1]
+    # Dovecot reads a folder anew in each session as long as it changed in the last two seconds
+    os.utime(current, (BEGUN, BEGUN))
 
 
 class Dovecot:

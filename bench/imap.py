@@ -15,8 +15,7 @@ MAILBOXES = [(10_000, 700), (200, 100_000)]
 PROSE = """
 `dervlask imap`, one account with a mailbox of n and of 2n messages, each with one non-ASCII Subject. *opening* is a session of
 `LOGOUT` alone; the other sessions log in, and all but SELECT select INBOX before their command. The other columns are as those of
-POP3. The times are those of `dervlask serve imap`; Dovecot serves the same messages from a maildir. Of both the first session isn't
-counted.
+POP3. The times are those of `dervlask serve imap`.
 """.strip()
 
 

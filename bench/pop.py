@@ -15,8 +15,7 @@ PROSE = """
 `QUIT` alone; the other sessions log in and give one command (RETR: one for each message), and their instructions are those
 beyond the opening's. *an octet*: instructions at n by the journal's octets. *peak*: the greatest resident set of the legacy
 session that retrieves all; *of the journal*: the same less that of a run without a journal, by the journal's size. The times are
-those of `dervlask serve pop`, which reads its journal once. Dovecot serves the same messages from a maildir. Of both the first
-session isn't counted.
+those of `dervlask serve pop`, which reads its journal once.
 """.strip()
 
 

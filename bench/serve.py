@@ -2,7 +2,8 @@
 
 import subprocess
 
-from dovecot import free_port
+import paths
+from listening import free_port
 
 
 def words_of(program, word, port, count):

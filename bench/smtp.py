@@ -10,8 +10,8 @@ import paths
 import postfix
 from bridge import Bridge
 from counting import heading, instructions, line, mebibytes, peak
-from dovecot import NotStarted
 from journal import mailbox
+from listening import NotStarted
 from mailboxes import ADDRESS, PASSWORD, RATIO_MOST, message, tell
 
 COUNT, SIZE = 20_000, 1_000
@@ -32,8 +32,7 @@ the message's octets. *peak*: the greatest resident set; *of the messages*: the 
 of the messages, which the store keeps in memory too.
 
 A message is answered `250` once its record was written to the journal, and nothing is synced: what the system hasn't put onto the
-disk when it crashes is lost. Postfix syncs each message before it answers, and throws it away behind its queue; smtp-sink throws
-it away at once.
+disk when it crashes is lost.
 """.strip()
 
 
@@ -133,7 +132,7 @@ def timed(program, count):
     if postfix.is_installed():
         servers.append(("smtp-sink", lambda: sink_seconds(pieces)))
     else:
-        print("Postfix isn't here, so it isn't measured: bench/install_postfix")
+        print("Postfix isn't here, so it isn't measured: tools/install_postfix")
     if postfix.can_serve():
         servers.append((postfix.version(), lambda: postfix_seconds(pieces)))
     lines = tell(["", *heading(["server", "time", "messages a second"])])
@@ -151,6 +150,7 @@ def measure(program, count=COUNT, counted_count=COUNTED_COUNT):
     """Prints the tables as they come, and returns their lines."""
     lines, missed = counted(program, counted_count)
     said = f"Wall clock over loopback, the best of three: {count:,} messages of {SIZE // 1000} kB over one connection, one command at a time."
+    said += "\nPostfix syncs each message to the disk before it answers, and dervlask doesn't. Postfix throws it away behind its queue, and smtp-sink at once."
     times = timed(program, count)
     verdict = [f"Wanted: at most {RATIO_MOST} times the instructions at 2n.", *([f"Not met: {it}." for it in missed] or ["All met."])]
     end = tell(["", *[f"{it}  " for it in verdict]])

@@ -10,6 +10,7 @@ import paths
 from cases import MIB, ascii_fields, many_addresses, many_parts, nested_messages, nested_multiparts, part_of_lines, write
 from counting import DATA, best_of, heading, instructions, line, milliseconds
 from journal import mailbox
+from listening import NotStarted
 from mailboxes import ADDRESS, PASSWORD, talk, tell, write_lines
 from serve import Serve
 
@@ -107,7 +108,7 @@ def rival_time(octets, command):
         try:
             with dovecot.Dovecot(folder, [octets], PASSWORD, imap.WORD) as rival:
                 return milliseconds(time_of(rival.port, imap.MODES["legacy"], command))
-        except dovecot.NotStarted as error:
+        except NotStarted as error:
             print(error, file=sys.stderr)
             return "not started"
 

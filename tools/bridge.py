@@ -6,37 +6,26 @@ while another one is served is greeted once that session has ended. Programs tha
 
 import argparse
 import os
-import socket
 import subprocess
 import sys
 import threading
+
+from listening import Listening
 
 WORDS = ("pop", "imap", "smtp")
 PATIENCE = 60
 
 
-class Bridge:
-    """Listens while its block runs; `port` is where. Once the block has ended, `statuses` has each status that a program ended with."""
+class Bridge(Listening):
+    """Once the block has ended, `statuses` has each status that a program ended with."""
 
     def __init__(self, program, folder, port=0, word="pop"):
+        super().__init__(port)
         self.words = [os.path.abspath(program), word]
         self.folder = folder
-        self.listening = socket.create_server(("127.0.0.1", port), backlog=64)
-        self.port = self.listening.getsockname()[1]
         self.statuses = set()
         # the programs that run, each with the thread that waits for its end
         self.running = {}
-
-    def serve(self):
-        while True:
-            try:
-                connection, _ = self.listening.accept()
-            except OSError:
-                return
-            # answers go out as they are written
-            connection.setsockopt(socket.IPPROTO_TCP, socket.TCP_NODELAY, 1)
-            with connection:
-                self.start(connection)
 
     def start(self, connection):
         try:
@@ -52,16 +41,8 @@ class Bridge:
         self.statuses.add(run.wait())
         del self.running[run]
 
-    def __enter__(self):
-        self.thread = threading.Thread(target=self.serve, daemon=True)
-        self.thread.start()
-        return self
-
     def __exit__(self, *_):
-        # a thread that waits in accept wakes from this, and not from close
-        self.listening.shutdown(socket.SHUT_RDWR)
-        self.thread.join()
-        self.listening.close()
+        super().__exit__()
         for run, waiting in list(self.running.items()):
             waiting.join(PATIENCE)
             if waiting.is_alive():

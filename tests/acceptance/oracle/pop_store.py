@@ -44,7 +44,7 @@ class NoRecord(Exception):
 
 class Store:
     """Address and password of each account; the domains; the account of each folder; folder and octets of each message, and whether it is
-    still there; whether each address of an entry of the queue waits."""
+    still there; of each entry of the queue its path, addresses and octets, and whether each address waits."""
 
     def __init__(self):
         self.accounts = []
@@ -52,6 +52,7 @@ class Store:
         self.folders = []
         self.messages = []
         self.live = []
+        self.letters = []
         self.entries = []
 
     def login(self, name, password):
@@ -67,6 +68,11 @@ class Store:
         inbox = self.folders.index(account)
         had = [(place, octets) for place, (folder, octets) in enumerate(self.messages) if folder == inbox]
         return [(place, uid, octets) for uid, (place, octets) in enumerate(had, 1) if self.live[place]]
+
+    def queue(self):
+        """Path, the addresses that wait, and octets of each entry in which one waits."""
+        told = [(path, [it for it, waits in zip(addresses, marks) if waits], octets) for (path, addresses, octets), marks in zip(self.letters, self.entries)]
+        return [letter for letter in told if letter[1]]
 
 
 def open_journal(octets):
@@ -197,6 +203,7 @@ def add_entry(store, path, recipients, octets):
     for text in [path, *recipients] if path else recipients:
         need_address(text)
     need_tree(octets)
+    store.letters.append((path, recipients, octets))
     store.entries.append([True for _ in recipients])
 
 

@@ -20,9 +20,11 @@ QUIT = b"QUIT\r\n"
 SENDS = b"EHLO x\r\nMAIL FROM:<>\r\nRCPT TO:<a@x.org>\r\nDATA\r\nSubject: a\r\n\r\nb\r\n.\r\nQUIT\r\n"
 DELETES = b"USER a@x.org\r\nPASS p\r\nDELE 1\r\nQUIT\r\n"
 DOMAIN, ACCOUNT, EXISTS = [b"domain", b"y.org"], [b"account", b"b@x.org", b"p"], [b"domain", b"x.org"]
+# nothing waits in the queue, so nobody is called
+RELAY, NOTHING = [b"relay", b"next.invalid"], b"sent 0, reported 0, left 0\r\n"
 # each command that opens the journal, with the octets that it takes
 OF_SESSIONS = [([b"pop"], QUIT), ([b"smtp"], QUIT), ([b"imap"], b"a LOGOUT\r\n")]
-WITH_JOURNAL = [*OF_SESSIONS, (DOMAIN, b""), (ACCOUNT, b"")]
+WITH_JOURNAL = [*OF_SESSIONS, (RELAY, b""), (DOMAIN, b""), (ACCOUNT, b"")]
 WITH_INPUT = [[b"downgrade"], *(words for words, _ in OF_SESSIONS)]
 OUTPUT, INPUT, KEPT = b"standard output", b"standard input", JOURNAL.encode()
 NO_ROOM, IS_FOLDER, DENIED, BROKEN = b"No space left on device", b"Is a directory", b"Permission denied", b"Broken pipe"
@@ -86,7 +88,7 @@ def broken_pipe():
 
 def of_output(program, tally):
     """Standard output is full, is closed, or goes to nobody."""
-    for words, octets in [([b"downgrade"], CAFE), ([b"help"], b""), ([b"post"], b""), (EXISTS, b""), *OF_SESSIONS]:
+    for words, octets in [([b"downgrade"], CAFE), ([b"help"], b""), ([b"post"], b""), (EXISTS, b""), (RELAY, b""), *OF_SESSIONS]:
         with Place(program, STORE) as place:
             with open("/dev/full", "wb") as full:
                 found = place.run(words, octets, stdout=full)
@@ -193,7 +195,8 @@ def of_others(program, tally):
     bad, full = FIRST_OCTETS + b"\0\0\0\x01\x09", b"bad journal at 8\r\n"
     cases = [
         ([b"downgrade"], CAFE, STORE, 0, None), ([b"help"], b"", STORE, 0, None), *((words, octets, STORE, 0, None) for words, octets in OF_SESSIONS), ([b"smtp"], SENDS, STORE, 0, None),
-        (DOMAIN, b"", STORE, 0, b""), (ACCOUNT, b"", STORE, 0, b""), ([b"post"], b"", STORE, 4, b"words refused\r\n"), ([], b"", STORE, 4, b"words refused\r\n"),
+        (DOMAIN, b"", STORE, 0, b""), (ACCOUNT, b"", STORE, 0, b""), (RELAY, b"", STORE, 0, NOTHING),
+        ([b"post"], b"", STORE, 4, b"words refused\r\n"), ([], b"", STORE, 4, b"words refused\r\n"),
         *((words, octets, bad, 5, full) for words, octets in WITH_JOURNAL), ([b"downgrade"], b"x", STORE, 7, b"refused at 0: not a field\r\n"),
         (EXISTS, b"", STORE, 9, b"exists\r\n"), ([b"account", b"b@y.org", b"p"], b"", STORE, 9, b"no such domain\r\n"),
     ]

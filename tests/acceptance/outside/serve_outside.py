@@ -3,7 +3,6 @@
 import os
 import signal
 import socket
-import struct
 import subprocess
 import tempfile
 
@@ -11,6 +10,7 @@ from journal import FIRST_OCTETS, account, domain, journal
 from outside.smtp_outside import little_room
 from rows.downgrade_rows import little_memory
 from support.harness import SECONDS, TOLD, differs
+from support.next_server import RESET
 from support.service import Service
 from support.talk import JOURNAL, place_journal, read_journal
 
@@ -20,8 +20,6 @@ LOGS_IN = b"USER a@x.org\r\nPASS p\r\n"
 COUNTS = LOGS_IN + b"STAT\r\nQUIT\r\n"
 SENDS = b"EHLO x\r\nMAIL FROM:<>\r\nRCPT TO:<a@x.org>\r\nDATA\r\nSubject: a\r\n\r\nb\r\n.\r\n"
 GREETING, BYE = b"+OK ready\r\n", b"+OK bye\r\n"
-# how a socket is closed that tells the other side so by a reset
-RESET = struct.pack("ii", 1, 0)
 
 
 def connect(service):

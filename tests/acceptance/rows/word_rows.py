@@ -12,9 +12,9 @@ from support.talk import place_journal, read_journal
 X_ORG = bytes.fromhex("4D41494C4A4E4C31" "0000000A0200000005782E6F7267")
 BAD = bytes.fromhex("4D41494C4A4E4C310000000109")
 EXISTS, NO_DOMAIN = (9, b"exists\r\n"), (9, b"no such domain\r\n")
-DONE = (0, b"")
+DONE, NOTHING_SENT = (0, b""), (0, b"sent 0, reported 0, left 0\r\n")
 TEXT_MAX = 65_536
-COMMANDS = [b"downgrade", b"check", b"pop", b"smtp", b"imap", b"serve", b"account", b"domain", b"gen", b"help"]
+COMMANDS = [b"downgrade", b"check", b"pop", b"smtp", b"imap", b"serve", b"account", b"domain", b"relay", b"gen", b"help"]
 
 
 def words_of(*words):
@@ -65,6 +65,7 @@ def refused_words():
         "a" * (TEXT_MAX - 5) + "@x.org"]
     others = [["domain"], ["domain", "x.org", "y.org"], ["DOMAIN", "x.org"], ["account"], ["account", "a@x.org"], ["account", "a@x.org", ""],
         ["account", "a@x.org", "-p"], ["account", "a@x.org", "p", "q"], ["account", "a@x.org", "x" * (TEXT_MAX + 1)], ["Account", "a@x.org", "p"],
+        ["relay"], ["relay", ""], ["relay", "-x"], ["relay", "a", "b"], ["relay", "a", "25"], ["RELAY", "a"], ["relay", "a", ""],
         [], ["post"], ["post", "0"], ["pop", "1"], ["smtp", "-1"], ["imap", "1"], ["IMAP"], ["help", "x"], ["help", ""], ["--help"], ["-h"], ["HELP"],
         ["downgrade", "pop", "1", "1"]]
     served = ["serve", "serve pop", "serve pop 110", "serve pop 110 1 1", "serve POP 110 1", "Serve pop 110 1", "serve help 110 1", "serve pop pop 1",
@@ -74,14 +75,14 @@ def refused_words():
     return [
         *(words_of(*line.split()) for line in served), ["serve", "pop", "110", ""],
         *(words_of("domain", word) for word in domains), *(words_of("account", word, "p") for word in addresses), *(words_of(*words) for words in others),
-        [b"domain", b"\xff"], [b"account", b"\xff@x.org", b"p"], [b"account", b"a@x.org", b"\xff"],
+        [b"domain", b"\xff"], [b"account", b"\xff@x.org", b"p"], [b"account", b"a@x.org", b"\xff"], [b"relay", b"\xff"],
     ]
 
 
 def of_journals():
     """Name, journal, words, status and line, and the journal then."""
     rows = []
-    for words in (["domain", "x.org"], ["account", "a@x.org", "p"]):
+    for words in (["domain", "x.org"], ["account", "a@x.org", "p"], ["relay", "x.invalid"]):
         rows += [
             (f"a bad journal, {words[0]}", BAD, words, (5, b"bad journal at 8\r\n"), BAD),
             (f"other octets, {words[0]}", b"MAILJNL2", words, (5, b"bad journal at 0\r\n"), b"MAILJNL2"),
@@ -90,6 +91,8 @@ def of_journals():
         *rows,
         ("a journal cut to ten octets", BAD[:10], ["domain", "x.org"], DONE, X_ORG),
         ("a journal cut to ten octets, which keeps eight", BAD[:10], ["account", "a@x.org", "p"], NO_DOMAIN, FIRST_OCTETS),
+        *(("nothing to send", before, ["relay", host], NOTHING_SENT, before or FIRST_OCTETS)
+            for before in (None, FIRST_OCTETS, X_ORG) for host in ("x.invalid", "é", "x y:z")),
         ("a record cut off", X_ORG[:-1], ["domain", "x.org"], DONE, X_ORG),
     ]
 

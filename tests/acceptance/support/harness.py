@@ -10,6 +10,8 @@ SECONDS = 120
 
 # the statuses of a program that something outside of it failed: it says what, in one line on standard error
 FAILURES = (1, 2, 3)
+# the status of `relay` where something is left: it says what failed if the connection did
+LEFT = 8
 TOLD = re.compile(rb"dervlask: [!-~][ -~]*\n")
 
 
@@ -71,7 +73,8 @@ class Program:
 
 def error_faults(status, said, words):
     """What is wrong with what a run said on standard error: it is one line where something outside failed, and nothing else."""
-    if TOLD.fullmatch(said) if status in FAILURES else not said:
+    is_told = TOLD.fullmatch(said)
+    if is_told if status in FAILURES else not said or is_told and status == LEFT:
         return []
     return [f"{words} ended with status {status} and said {show(said)!r} on standard error"]
 

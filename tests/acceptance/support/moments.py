@@ -1,8 +1,8 @@
 """The dates that the program writes into a journal, which nobody knows before: they are replaced by those of another moment.
 
 A record that a session appends has its moment once or twice: a message as the date of the record and in the line Received that SMTP
-writes, an entry of the queue in its line Received. IMAP shows the date of a record that it wrote. All dates of one form have the same
-length, so no other octet of a journal or of a reply depends on them."""
+writes, an entry of the queue in its line Received; a report has it in its line Date. IMAP shows the date of a record that it wrote. All dates
+of one form have the same length, so no other octet of a journal or of a reply depends on them."""
 
 import calendar
 import re
@@ -14,6 +14,7 @@ MESSAGE, QUEUE = 4, 7
 IN_RECORD, IN_FIELD = "%d-%b-%Y %H:%M:%S +0000", "%a, %d %b %Y %H:%M:%S +0000"
 SHOWN = re.compile(rb'INTERNALDATE "([^"\r\n]{26})"')
 RECEIVED = re.compile(rb"(?:Return-Path: <[^\r\n]*>\r\n)?Received: from [^\r\n]* with [^\r\n;]*; ([^\r\n]*)\r\n")
+REPORTED = re.compile(rb"From: MAILER-DAEMON@[^\r\n]*\r\nTo: [^\r\n]*\r\nDate: ([^\r\n]*)\r\n")
 
 
 def written(form, seconds):
@@ -85,7 +86,8 @@ def dates_of(record):
             fields.octets(), fields.texts()
         else:
             return
-        found = RECEIVED.match(fields.octets())
+        octets = fields.octets()
+        found = RECEIVED.match(octets) or REPORTED.match(octets)
     except NoRecord:
         return
     if found:

@@ -2,19 +2,14 @@
 
 import os
 import re
-import socket
 import subprocess
 import tempfile
 
+from listening import free_port
 from support.harness import SECONDS, differs
 
 ENDLESS = 1_000_000
 READY = re.compile(r"dervlask: [a-z]+ on 127\.0\.0\.1, port [0-9]+")
-
-
-def free_port():
-    with socket.create_server(("127.0.0.1", 0)) as one:
-        return one.getsockname()[1]
 
 
 class Service:

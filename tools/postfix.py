@@ -1,16 +1,14 @@
-"""The rivals of `dervlask smtp`: Postfix's smtp-sink, which throws mail away, and Postfix itself, in a folder of its own."""
+"""Postfix in a folder of its own, and its smtp-sink, which throws mail away: next servers of `dervlask relay`, and rivals of the program."""
 
 import os
 import shutil
-import socket
 import subprocess
-import time
 
-from dovecot import NotStarted, free_port
+from listening import NotStarted, free_port, wait_for
 
 PATH = os.pathsep.join([os.environ.get("PATH", os.defpath), "/usr/sbin"])
 
-# mail is taken into the queue, and thrown away from there
+# mail of all domains is taken into the queue
 MAIN = """
 compatibility_level = 3.6
 queue_directory = {folder}/queue
@@ -22,13 +20,18 @@ inet_protocols = ipv4
 myhostname = mail.example.org
 mydestination = example.org
 local_recipient_maps =
-local_transport = discard:
 alias_maps =
 smtputf8_enable = yes
 """
 
+# it is thrown away from there
+DISCARDS = """
+local_transport = discard:
+"""
+
 SERVICES = """
 127.0.0.1:{port} inet n - n - - smtpd
+pickup unix n - n 60 1 pickup
 cleanup unix n - n - 0 cleanup
 qmgr unix n - n 300 1 qmgr
 rewrite unix - - n - - trivial-rewrite
@@ -36,8 +39,12 @@ bounce unix - - n - 0 bounce
 defer unix - - n - 0 bounce
 trace unix - - n - 0 bounce
 proxymap unix - - n - - proxymap
+smtp unix - - n - - smtp
+relay unix - - n - - smtp
+scache unix - - n - 1 scache
 discard unix - - n - - discard
 error unix - - n - - error
+retry unix - - n - - error
 anvil unix - - n - 1 anvil
 postlog unix-dgram n - n - 1 postlogd
 """
@@ -61,26 +68,16 @@ def version():
     return "Postfix " + said.stdout.strip()
 
 
-def wait_for(port):
-    """Waits until there is a server."""
-    for _ in range(100):
-        try:
-            socket.create_connection(("127.0.0.1", port), timeout=5).close()
-            return
-        except OSError:
-            time.sleep(0.1)
-    raise NotStarted(f"nothing listens on port {port}")
-
-
 class Sink:
-    """Takes mail on `port` while its block runs."""
+    """Takes mail on `port` while its block runs, or until it has so many messages."""
 
-    def __init__(self):
-        self.port = free_port()
+    def __init__(self, most=None):
+        self.port, self.most = free_port(), most
 
     def __enter__(self):
         user = ["-u", "nobody"] if os.geteuid() == 0 else []
-        words = [found("smtp-sink"), *user, f"127.0.0.1:{self.port}", "64"]
+        most = ["-M", str(self.most)] if self.most else []
+        words = [found("smtp-sink"), *user, *most, f"127.0.0.1:{self.port}", "64"]
         self.running = subprocess.Popen(words, stdout=subprocess.DEVNULL, stderr=subprocess.DEVNULL)
         wait_for(self.port)
         return self
@@ -91,9 +88,9 @@ class Sink:
 
 
 class Postfix:
-    """The same."""
+    """The same, with these lines of settings beside the usual ones."""
 
-    def __init__(self, folder):
+    def __init__(self, folder, settings=DISCARDS):
         self.folder, self.port = folder, free_port()
         # its parts run as a user of their own
         os.chmod(folder, 0o755)
@@ -101,20 +98,21 @@ class Postfix:
         for part in ("settings", "queue", "data"):
             os.mkdir(os.path.join(folder, part))
         shutil.chown(os.path.join(folder, "data"), "postfix")
-        for name, text in (("main.cf", MAIN), ("master.cf", SERVICES)):
+        for name, text in (("main.cf", MAIN + settings), ("master.cf", SERVICES)):
             with open(os.path.join(self.settings, name), "w", encoding="utf-8") as file:
                 file.write(text.format(folder=folder, port=self.port))
 
-    def run(self, word):
-        ran = subprocess.run([found("postfix"), "-c", self.settings, word], stdout=subprocess.PIPE, stderr=subprocess.STDOUT, text=True)
+    def ran(self, name, *words):
+        """What one of its commands says where it fails."""
+        ran = subprocess.run([found(name), "-c", self.settings, *words], stdout=subprocess.PIPE, stderr=subprocess.STDOUT, text=True)
         return ran.stdout.strip() if ran.returncode else ""
 
     def __enter__(self):
-        said = self.run("start")
+        said = self.ran("postfix", "start")
         if said:
             raise NotStarted(f"Postfix didn't start: {said}")
         wait_for(self.port)
         return self
 
     def __exit__(self, *_):
-        self.run("stop")
+        self.ran("postfix", "stop")
