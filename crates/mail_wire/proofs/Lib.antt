@@ -17,3 +17,5 @@ pub mod KeptLemmas
 pub mod DotLemmas
 pub mod OctetLemmas
 pub mod KeeperLemmas
+pub mod PairLemmas
+pub mod CrlfSearch

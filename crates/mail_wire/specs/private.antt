@@ -2,3 +2,4 @@
 pub mod MemState
 pub mod MemKept
 pub mod MemDialled
+pub mod Pairs

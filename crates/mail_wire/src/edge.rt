@@ -1,5 +1,6 @@
 //! The wire over standard input and output. It tells nothing of what it carries, and counts its failures.
 ghost use Rattle.std.specs.Prelude.{◌≤◌, None, false, length, IfOk};
+ghost use Rattle.mail_wire.specs.Causes.{HasCause};
 
 use crate::faults::Faults;
 use crate::outside::{Failed, Wire};
@@ -26,7 +27,19 @@ pub enum WireFailure {
     Output(io::Error),
 }
 
-/// A reader and a writer as a wire.
+// Reads once all that was written has gone out.
+fn read_behind<R: Read, W: Write>(
+    reader: &mut R,
+    writer: &mut W,
+    into: &mut [u8],
+) -> Result<usize, WireFailure>
+    ensures { IfOk result (λ n. n ≤ length into.new) }
+{
+    writer.flush().map_err(|error| WireFailure::Output(error))?;
+    read_some(reader, into).map_err(|error| WireFailure::Input(error))
+}
+
+/// A reader and a writer as a wire. What is given may wait in the writer: it goes out before more is taken, and by `finish`.
 #[derive(Drop)]
 pub struct StdWire<R, W> {
     reader: R,
@@ -43,6 +56,15 @@ impl<R: Read, W: Write> StdWire<R, W> {
         }
     }
 
+    /// Lets all that was given go out. The last call of a wire.
+    pub fn finish(&mut self) -> Result<(), Failed>
+        ensures { HasCause self.old.faults.count self.new.faults.count result }
+    {
+        let done = self.writer.flush();
+        self.faults
+            .counted(done.map_err(|error| WireFailure::Output(error)))
+    }
+
     /// Why the last call that failed did.
     pub fn failure(&self) -> Option<WireFailure> {
         self.faults.last
@@ -53,14 +75,12 @@ impl<R: Read, W: Write> Wire for StdWire<R, W> {
     ghost tells = { λ wire. record { left = None; transcript = None; faults = wire.faults.count; never_fails = false } };
 
     fn take(&mut self, into: &mut [u8]) -> Result<usize, Failed> {
-        let done = read_some(&mut self.reader, into);
-        self.faults
-            .counted(done.map_err(|error| WireFailure::Input(error)))
+        let done = read_behind(&mut self.reader, &mut self.writer, into);
+        self.faults.counted(done)
     }
 
     fn give(&mut self, from: &[u8]) -> Result<(), Failed> {
-        let written = self.writer.write_all(from);
-        let done = written.and_then(|_| self.writer.flush());
+        let done = self.writer.write_all(from);
         self.faults
             .counted(done.map_err(|error| WireFailure::Output(error)))
     }

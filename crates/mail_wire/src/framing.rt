@@ -3,7 +3,7 @@ ghost use Rattle.std.specs.Prelude.{◌≡◌, ◌<◌, ◌≤◌, ◌++◌, len
 ghost use Rattle.mail_wire.specs.Lines.{first_line};
 ghost use Rattle.mail_wire.specs.Framing.{next_line, waiting, framed_as, ends_in};
 
-use memchr::memmem;
+use crate::text::find_crlf;
 
 /// The most octets of a line, its CRLF counted.
 pub const LINE_MAX: usize = 65_536;
@@ -29,7 +29,7 @@ pub fn line_end(kept: &[u8], piece: &[u8]) -> Option<usize>
     if piece.len() < 2 {
         return None;
     }
-    match memmem::find(piece, b"\r\n") {
+    match find_crlf(piece) {
         Some(at) => Some(at + 2),
         None => None,
     }

@@ -37,8 +37,8 @@ pub use message::{MESSAGE_MAX, first_faulty, is_ended, is_message};
 pub use numbers::{are_digits, read_number};
 pub use outside::{Entry, Failed, Fault, Wire};
 pub use text::{
-    LineSpans, is_ascii, is_same_name, is_utf8, is_white, is_white_text, line_len, lines,
-    push_unfolded, split_white, unfold,
+    LineSpans, find_crlf, is_ascii, is_same_name, is_utf8, is_white, is_white_text, line_len,
+    lines, push_unfolded, split_white, unfold,
 };
 pub use traffic::{PIECE, give_all, take_piece};
 pub use values::{Memory, Octets, Span};

@@ -6,6 +6,7 @@ use crate::dialling::Dial;
 use crate::in_memory::{Failure, MemWire};
 use crate::outside::{Entry, Failed};
 use crate::values::Octets;
+use crate::words::Words;
 use std::alloc::Global;
 use std::marker::Model;
 
@@ -27,6 +28,7 @@ pub struct MemDial {
     failing: Vec<u64>,
     calls: u64,
     entries: Vec<Entry>,
+    asked: Words,
     faults: u64,
 }
 
@@ -40,6 +42,7 @@ impl Model for MemDial {
       sends = a.server.sends;
       server_never_fails = length a.server.failures.items == 0;
       entries = a.entries.items;
+      asked = a.asked;
       faults = a.faults;
     } };
 }
@@ -50,6 +53,7 @@ impl MemDial {
         ensures sends { result.sends ≡ server.sends }
         ensures server_never_fails { result.server_never_fails ≡ (length server.failures.items == 0) }
         ensures entries { result.entries ≡ [] }
+        ensures asked { result.asked ≡ [] }
         ensures faults { result.faults ≡ 0 }
     {
         MemDial {
@@ -58,6 +62,7 @@ impl MemDial {
             failing,
             calls: 0,
             entries: Vec::new(alloc),
+            asked: Words::none(alloc),
             faults: 0,
         }
     }
@@ -68,6 +73,13 @@ impl MemDial {
     {
         &self.entries
     }
+
+    /// The hosts that were asked for, in order, also where a call failed.
+    pub fn asked(&self) -> &Words
+        ensures { result.now ≡ self.now.asked }
+    {
+        &self.asked
+    }
 }
 
 impl Dial for MemDial {
@@ -77,10 +89,12 @@ impl Dial for MemDial {
       sends = Some dial.sends;
       server_never_fails = dial.server_never_fails;
       transcript = Some dial.entries;
+      asked = Some dial.asked;
       faults = dial.faults;
     } };
 
-    fn dial(&mut self, _host: &str) -> Result<MemWire, Failed> {
+    fn dial(&mut self, host: &str) -> Result<MemWire, Failed> {
+        self.asked.push(host)?;
         let call = self.calls;
         self.calls = call.saturating_add(1);
         if self.failing.contains(&call) {

@@ -1,11 +1,45 @@
 //! Messages: lines that end with CRLF, without NUL, and with CR and LF only as CRLF.
 ghost use Rattle.std.specs.Prelude.{◌≡◌, ◌↔◌, ◌+◌, ◌<◌, ℕ, length, drop, IfSome, IfNone, MatchOption, IsTrue};
 ghost use Rattle.mail_wire.specs.Message.{IsFirstFaulty, IsSound, IsEnded, IsMessage, BeginsCrlf};
+ghost use Rattle.mail_wire.specs.private.Pairs.{IsSoundPair, ArePairsBelow, HasSoundEnds};
 
 use memchr::memchr3;
 
 /// The most octets of a message: 32 MiB.
 pub const MESSAGE_MAX: u32 = 33_554_432;
+
+// Whether the second of two octets that follow one another isn't NUL, and is LF exactly where the first is CR. It has no branch, so that many
+// pairs are looked at together.
+fn is_sound_pair(before: u8, octet: u8) -> bool
+    ensures { IsTrue result ↔ IsSoundPair before octet }
+{
+    (octet != 0) & ((before == b'\r') == (octet == b'\n'))
+}
+
+// Whether neither NUL nor LF comes first, and CR doesn't come last.
+fn has_sound_ends(octets: &[u8]) -> bool
+    ensures { IsTrue result ↔ HasSoundEnds octets.now }
+{
+    !matches!(octets, [0 | b'\n', ..] | [.., b'\r'])
+}
+
+// Whether each octet and the one behind it are a sound pair.
+fn are_pairs_sound(octets: &[u8]) -> bool
+    ensures { IsTrue result ↔ ArePairsBelow octets.now (length octets.now) }
+{
+    let mut sound = true;
+    for at in 1..octets.len() {
+        sound &= is_sound_pair(octets[at - 1], octets[at]);
+    }
+    sound
+}
+
+// Whether no octet is faulty. It doesn't tell where one is, and so is much faster than a search.
+fn is_sound(octets: &[u8]) -> bool
+    ensures { IsTrue result ↔ IsSound octets.now }
+{
+    has_sound_ends(octets) && are_pairs_sound(octets)
+}
 
 // Whether CRLF comes first.
 fn begins_crlf(octets: &[u8]) -> bool
@@ -18,6 +52,9 @@ fn begins_crlf(octets: &[u8]) -> bool
 pub fn first_faulty(octets: &[u8]) -> Option<usize>
     ensures { MatchOption result (IsSound octets.now) (IsFirstFaulty octets.now) }
 {
+    if is_sound(octets) {
+        return None;
+    }
     let mut at = 0;
     while let Some(passed) = memchr3(0, b'\r', b'\n', &octets[at..]) {
         let found = at + passed;
@@ -40,5 +77,5 @@ pub fn is_ended(octets: &[u8]) -> bool
 pub fn is_message(octets: &[u8]) -> bool
     ensures { IsTrue result ↔ IsMessage octets.now }
 {
-    is_ended(octets) && first_faulty(octets).is_none()
+    is_ended(octets) && is_sound(octets)
 }

@@ -1,14 +1,15 @@
 //! Octets, lines, folds and UTF-8.
-ghost use Rattle.std.specs.Prelude.{◌≡◌, ◌↔◌, ◌+◌, ◌^◌, ◌<◌, ◌≤◌, List, ◌∷◌, ◌++◌, length, take, drop, not, position, IsTrue, IsUtf8, IfOk, OnOk};
+ghost use Rattle.std.specs.Prelude.{◌≡◌, ◌↔◌, ◌+◌, ◌-◌, ◌^◌, ◌<◌, ◌≤◌, List, ◌∷◌, ◌++◌, length, take, drop, not, position, slice_index, IsTrue, IsUtf8, IfOk, OnOk};
 ghost use Rattle.std.specs.List.{list_all};
 ghost use Rattle.std.specs.Iterator.{YieldsFirst, item_count};
 ghost use Rattle.mail_wire.specs.Folds.{begins_fold, unfolded};
 ghost use Rattle.mail_wire.specs.Octets.{is_white, is_ascii, same_name};
 ghost use Rattle.mail_wire.specs.Spans.{IsSpan};
-ghost use Rattle.mail_wire.specs.Lines.{lines_of, spans_from};
+ghost use Rattle.mail_wire.specs.Lines.{crlf, lines_of, spans_from};
+ghost use Rattle.memchr.specs.Find.{FindsNeedle};
 
 use crate::values::{Memory, Octets, Span};
-use memchr::memmem;
+use memchr::memchr;
 use std::alloc::Global;
 use std::marker::Model;
 
@@ -64,13 +65,36 @@ pub fn split_white(octets: &[u8]) -> (&[u8], &[u8])
     }
 }
 
+// Whether CR stands before this place.
+fn is_behind_cr(octets: &[u8], at: usize) -> bool
+    requires { at ≤ length octets.now }
+    ensures { IsTrue result ↔ ((0 < at) × (slice_index octets.now (at - 1) ≡ 13)) }
+{
+    0 < at && octets[at - 1] == b'\r'
+}
+
+/// The place of the first CRLF. A search for one octet costs half of one for two, and most octets have no LF but those of CRLF.
+pub fn find_crlf(octets: &[u8]) -> Option<usize>
+    ensures { FindsNeedle octets.now crlf 0 result }
+{
+    let mut at = 0;
+    while let Some(passed) = memchr(b'\n', &octets[at..]) {
+        let found = at + passed;
+        if is_behind_cr(octets, found) {
+            return Some(found - 1);
+        }
+        at = found + 1;
+    }
+    None
+}
+
 /// How long the first line is, with its CRLF.
 pub fn line_len(octets: &[u8]) -> usize
     ensures bound { result ≤ length octets.now }
     ensures some { 0 < length octets.now → 0 < result }
     ensures line { 0 < length octets.now → lines_of octets.now ≡ take result octets.now ∷ lines_of (drop result octets.now) }
 {
-    match memmem::find(octets, b"\r\n") {
+    match find_crlf(octets) {
         Some(at) => at + 2,
         None => octets.len(),
     }

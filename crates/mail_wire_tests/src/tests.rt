@@ -2,7 +2,8 @@
 use mail_wire::{
     CLOCK_END, Clock, Dial, Entry, Failed, Failure, Fault, FileKeeper, FixedClock, Items, Keeper,
     MemDial, MemKeeper, MemServer, MemWire, Octets, StdWire, SystemClock, WireFailure, Words,
-    date_text, first_faulty, give_all, internal_date, is_message, lines, take_piece, unfold,
+    date_text, find_crlf, first_faulty, give_all, internal_date, is_message, lines, take_piece,
+    unfold,
 };
 use std::fs::OpenOptions;
 use std::io::{self, ErrorKind, Read, Write};
@@ -39,6 +40,27 @@ fn faulty_octets_are_found(rt: HostRuntime) -> Result<(), Fail> {
     assert_eq!(rt; first_faulty(b"a\r\nb\0\r"), Some(4));
     assert_eq!(rt; first_faulty(b"a\r\r\n"), Some(1));
     assert_eq!(rt; first_faulty(b"\r\n\n"), Some(2));
+    Ok(())
+}
+
+// Octets are looked at many at a time, so a fault stands at each place once.
+#[test]
+fn a_faulty_octet_is_found_at_each_place(rt: HostRuntime) -> Result<(), Fail> {
+    let mut octets = [b'a'; 70];
+    octets[33] = b'\r';
+    octets[34] = b'\n';
+    assert!(rt; first_faulty(&octets).is_none());
+    assert_eq!(rt; find_crlf(&octets), Some(33));
+    for at in 0..70 {
+        if at != 33 && at != 34 {
+            for faulty in [0, b'\r', b'\n'] {
+                octets[at] = faulty;
+                assert_eq!(rt; first_faulty(&octets), Some(at));
+                assert_eq!(rt; find_crlf(&octets), Some(33));
+            }
+            octets[at] = b'a';
+        }
+    }
     Ok(())
 }
 
@@ -275,10 +297,17 @@ fn a_dial_in_memory_keeps_what_was_said_to_a_server(rt: HostRuntime) -> Result<(
     );
 
     // The second call fails, and the third reaches such a server again.
-    assert!(rt; matches!(dial.dial("mail.example.net"), Err(Failed::Outside)));
+    assert!(rt; matches!(dial.dial("mail.example.org"), Err(Failed::Outside)));
     assert_eq!(rt; dial.entries().len(), 2);
-    let again = dial.dial("mail.example.net")?;
+    let again = dial.dial("")?;
     dial.hand_back(again);
     assert!(rt; dial.entries().is_empty());
+    for (at, host) in ["mail.example.net", "mail.example.org", ""]
+        .iter()
+        .enumerate()
+    {
+        assert!(rt; dial.asked().get(at).is_some_and(|asked| asked == *host));
+    }
+    assert!(rt; dial.asked().get(3).is_none());
     Ok(())
 }

@@ -3,6 +3,7 @@ ghost use Rattle.std.specs.Prelude.{None, false};
 
 use crate::stream::TcpWire;
 use mail_wire::{Dial, Failed, Faults, WireFailure};
+use std::alloc::Global;
 use std::io::{self, ErrorKind};
 use std::net::{Net, TcpStream};
 use std::time::Duration;
@@ -38,23 +39,25 @@ fn read_place(place: &str) -> io::Result<(&str, u16)> {
     }
 }
 
-fn connect<N: Net<Stream = TcpStream>>(net: &N, place: &str) -> io::Result<TcpWire> {
+fn connect<N: Net<Stream = TcpStream>>(alloc: Global, net: &N, place: &str) -> io::Result<TcpWire> {
     let stream = TcpStream::connect(net, read_place(place)?)?;
-    TcpWire::new(stream, Duration::from_secs(PATIENCE))
+    TcpWire::new(alloc, stream, Duration::from_secs(PATIENCE))
 }
 
 /// Connects to servers by TCP. A server is named by its host, or by its host and its port as in `host:port`; the port of SMTP is taken
 /// where none is named. Each address of the host is tried. It tells nothing of its connections, and counts its failures.
 #[derive(Drop)]
 pub struct TcpDial<N> {
+    alloc: Global,
     net: N,
     faults: Faults<io::Error>,
     handed_back: Option<WireFailure>,
 }
 
 impl<N> TcpDial<N> {
-    pub fn new(net: N) -> Self {
+    pub fn new(alloc: Global, net: N) -> Self {
         TcpDial {
+            alloc,
             net,
             faults: Faults::none(),
             handed_back: None,
@@ -75,14 +78,17 @@ impl<N> TcpDial<N> {
 impl<N: Net<Stream = TcpStream>> Dial for TcpDial<N> {
     type Conn = TcpWire;
 
-    ghost tells = { λ dial. record { sends = None; server_never_fails = false; transcript = None; faults = dial.faults.count } };
+    ghost tells = { λ dial. record { sends = None; server_never_fails = false; transcript = None; asked = None; faults = dial.faults.count } };
 
     fn dial(&mut self, host: &str) -> Result<TcpWire, Failed> {
-        let connected = connect(&self.net, host);
-        self.faults.counted(connected)
+        match connect(self.alloc, &self.net, host) {
+            Err(error) if error.kind() == ErrorKind::OutOfMemory => Err(Failed::Memory),
+            connected => self.faults.counted(connected),
+        }
     }
 
-    fn hand_back(&mut self, conn: TcpWire) {
+    fn hand_back(&mut self, mut conn: TcpWire) {
+        let _given = conn.finish();
         self.handed_back = conn.failure();
     }
 }

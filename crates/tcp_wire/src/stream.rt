@@ -3,28 +3,38 @@ ghost use Rattle.std.specs.Prelude.{◌<◌};
 ghost use Rattle.std.specs.Duration.{as_nanos};
 
 use mail_wire::{Failed, StdWire, Wire, WireFailure};
-use std::io;
+use std::alloc::Global;
+use std::io::{self, BufWriter};
 use std::net::TcpStream;
 use std::time::Duration;
 
-/// A connected stream as a wire. What is given goes out at once. A call that waits longer than its patience has failed.
+// The most octets that are given before some go out.
+const GIVEN: usize = 65_536;
+
+/// A connected stream as a wire. What is given goes out before more is taken, and by `finish`. A call that waits longer than its
+/// patience has failed.
 #[derive(Drop)]
 pub struct TcpWire {
-    sides: StdWire<TcpStream, TcpStream>,
+    sides: StdWire<TcpStream, BufWriter<TcpStream>>,
 }
 
 impl TcpWire {
     /// The stream as a wire, or why the system doesn't let it be one.
-    pub fn new(stream: TcpStream, patience: Duration) -> io::Result<Self>
+    pub fn new(alloc: Global, stream: TcpStream, patience: Duration) -> io::Result<Self>
         requires { 0 < as_nanos patience }
     {
         stream.set_nodelay(true)?;
         stream.set_read_timeout(Some(patience))?;
         stream.set_write_timeout(Some(patience))?;
-        let output = stream.try_clone()?;
+        let output = BufWriter::with_capacity(alloc, GIVEN, stream.try_clone()?)?;
         Ok(TcpWire {
             sides: StdWire::new(stream, output),
         })
+    }
+
+    /// Lets all that was given go out. The last call of a wire.
+    pub fn finish(&mut self) -> Result<(), Failed> {
+        self.sides.finish()
     }
 
     /// Why the last call that failed did.
@@ -34,7 +44,7 @@ impl TcpWire {
 }
 
 impl Wire for TcpWire {
-    ghost tells = { λ wire. ⟦<StdWire<TcpStream, TcpStream> as Wire>⟧.tells wire.sides };
+    ghost tells = { λ wire. ⟦<StdWire<TcpStream, BufWriter<TcpStream>> as Wire>⟧.tells wire.sides };
 
     fn take(&mut self, into: &mut [u8]) -> Result<usize, Failed> {
         self.sides.take(into)

@@ -11,13 +11,14 @@ fn a_connection_is_a_wire_that_waits_no_longer_than_it_may(rt: HostRuntime) -> R
     let listener = TcpListener::bind(&rt, "127.0.0.1:0")?;
     let mut client = TcpStream::connect(&rt, listener.local_addr()?)?;
     let (stream, _) = listener.accept()?;
-    let mut wire = TcpWire::new(stream, Duration::from_millis(50))?;
+    let mut wire = TcpWire::new(rt.alloc(), stream, Duration::from_millis(50))?;
     let mut buffer = [0; 8];
 
     client.write_all(b"NOOP\r\n")?;
     assert_eq!(rt; take_piece(&mut wire, &mut buffer), Ok(6));
     assert!(rt; buffer.starts_with(b"NOOP\r\n"));
     assert_eq!(rt; give_all(&mut wire, b"+OK\r\n"), Ok(()));
+    assert_eq!(rt; wire.finish(), Ok(()));
     let mut reply = [0; 5];
     client.read_exact(&mut reply)?;
     assert!(rt; reply.starts_with(b"+OK\r\n"));
@@ -42,7 +43,7 @@ fn a_connection_is_a_wire_that_waits_no_longer_than_it_may(rt: HostRuntime) -> R
 fn a_server_is_dialled_by_its_host_and_port(rt: HostRuntime) -> Result<(), Fail> {
     let listener = TcpListener::bind(&rt, "127.0.0.1:0")?;
     let port = listener.local_addr()?.port();
-    let mut dial = TcpDial::new(&rt);
+    let mut dial = TcpDial::new(rt.alloc(), &rt);
 
     let place = format!(in rt.alloc(); "127.0.0.1:{port}")?;
     let mut wire = dial.dial(place.as_str())?;
@@ -51,6 +52,7 @@ fn a_server_is_dialled_by_its_host_and_port(rt: HostRuntime) -> Result<(), Fail>
     let mut buffer = [0; 8];
     assert_eq!(rt; take_piece(&mut wire, &mut buffer), Ok(7));
     assert_eq!(rt; give_all(&mut wire, b"QUIT\r\n"), Ok(()));
+    assert_eq!(rt; wire.finish(), Ok(()));
     let mut line = [0; 6];
     server.read_exact(&mut line)?;
     assert!(rt; line.starts_with(b"QUIT\r\n"));
@@ -74,7 +76,7 @@ fn a_server_is_dialled_by_its_host_and_port(rt: HostRuntime) -> Result<(), Fail>
 
 #[test]
 fn what_names_no_server_is_not_dialled(rt: HostRuntime) -> Result<(), Fail> {
-    let mut dial = TcpDial::new(&rt);
+    let mut dial = TcpDial::new(rt.alloc(), &rt);
     for place in [
         "127.0.0.1:smtp",
         "127.0.0.1:65536",

@@ -9,5 +9,7 @@ pub record MemDialled : Type 0 where
   pub server_never_fails : Bool
   -- what was taken and given over the connection that was handed back last
   pub entries : List Entry
+  -- the hosts that were asked for, in order
+  pub asked : List (List ℕ)
   -- how often a call has failed
   pub faults : ℕ
