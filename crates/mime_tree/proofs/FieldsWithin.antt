@@ -9,7 +9,7 @@ use Rattle.utf8_fields.specs.Parts.{HasParts, IsField}
 use Rattle.utf8_fields.specs.Block.{IsFieldAt, AreFields, raw_of}
 use Rattle.utf8_fields.proofs.HaveParts.{LinesHaveParts-from}
 use Rattle.utf8_fields.proofs.Raws.{raw_of-lines, AreFields-join}
-use Rattle.mime_tree.specs.Openings.{AreFieldsWithin}
+use Rattle.mime_tree.specs.Openings.{AreFieldsWithin, AreFieldsJoined}
 use Rattle.mime_tree.specs.Parts.{size}
 use Rattle.mime_tree.specs.Tree.{HasHead}
 use Rattle.mime_tree.proofs.Standing.{Stands}
@@ -20,7 +20,7 @@ abbrev pub IsFieldWithin : List ℕ → Field → Type 0
 IsFieldWithin octets field = (field.raw.at + field.raw.len ≤ length octets) × IsField (raw_of octets field)
 
 -- what stands at a place ends in the octets
-stands_within : (octets : List ℕ) (at : ℕ) (text : List ℕ) → Stands octets at text → at + length text ≤ length octets
+pub stands_within : (octets : List ℕ) (at : ℕ) (text : List ℕ) → Stands octets at text → at + length text ≤ length octets
 stands_within octets at text is =
     let whole = ap length is.whole in
     let place = is.place in
@@ -47,18 +47,24 @@ fields_within octets lines at (field ∷ fields) end is are =
     All-cons (IsFieldWithin octets) field fields (field_within octets at field are.0 are.1 (lines_front octets at (are.0 ∷ are.1) are.2 all) are.4)
     (fields_within octets are.2 (at + field.raw.len) fields end behind are.5)
 
+-- the fields of lines stand one behind another
+fields_joined : (lines : List (List ℕ)) (at : ℕ) (fields : List Field) (end : ℕ) → AreFields lines at fields end → AreFieldsJoined at fields end
+fields_joined lines at [] end are = are.1
+fields_joined lines at (field ∷ fields) end are = (are.4.raw_at, fields_joined are.2 (at + field.raw.len) fields end are.5)
+
 -- the lines behind the first one of these, if there is one
 behind_one : (octets : List ℕ) (at : ℕ) (lines : List (List ℕ)) → AreLinesAt octets at lines → AreLinesAt octets (at + size (take 1 lines)) (drop 1 lines)
 behind_one octets at lines is = lines_back octets at (take 1 lines) (drop 1 lines) (subst (AreLinesAt octets at) (sym (take-append-drop 1 lines)) is)
 
 -- of lines with a head the fields and the content stand in the octets
-pub record IsHeadWithin (octets : List ℕ) (block : Block) (body : ℕ) (content : List (List ℕ)) : Type 0 where
+pub record IsHeadWithin (octets : List ℕ) (at : ℕ) (block : Block) (body : ℕ) (content : List (List ℕ)) : Type 0 where
   pub fields : AreFieldsWithin octets block.fields
+  pub joined : AreFieldsJoined at block.fields block.end
   pub content_lines : AreLinesAt octets body content
 
 -- a head of lines that stand in the octets
 pub head_within : (octets : List ℕ) (at : ℕ) (lines : List (List ℕ)) (block : Block) (body : ℕ) (content : List (List ℕ)) → AreLinesAt octets at lines → HasHead at lines block body content
-    → IsHeadWithin octets block body content
+    → IsHeadWithin octets at block body content
 head_within octets at lines block body content is head =
     let has = head.has_block in
     let all : AreLinesAt octets at (has.header ++ has.rest) = subst (AreLinesAt octets at) has.lines is in
@@ -68,5 +74,6 @@ head_within octets at lines block body content is head =
     let rest : AreLinesAt octets block.end has.rest = subst (λ n. AreLinesAt octets n has.rest) (sym joins.end_is) (lines_back octets at has.header has.rest all) in
     record {
       fields = fields_within octets has.header at block.fields block.end header has.fields_are;
+      joined = fields_joined has.header at block.fields block.end has.fields_are;
       content_lines = rw (head.body_is, head.content_is) (behind_one octets block.end has.rest rest);
     }

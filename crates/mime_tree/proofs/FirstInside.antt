@@ -1,5 +1,5 @@
 -- Where the first of the entities in another one stands, and that nothing comes of no lines.
-use Rattle.std.proofs.Common.{◌≡◌, ℕ, suc, zero, ◌+◌, ◌-◌, ◌⊎◌, inl, inr, List, [], ◌∷◌, ◌++◌, Bool, true, false, length, take, drop, map, Option, Some, refl, sym, ap, ◌∙◌, arith, subst, append_assoc, append-nil, length-append}
+use Rattle.std.proofs.Common.{◌≡◌, ℕ, suc, zero, ◌+◌, ◌⊎◌, inl, inr, List, [], ◌∷◌, ◌++◌, Bool, true, false, length, take, drop, map, Option, Some, refl, sym, ap, ◌∙◌, arith, subst, append_assoc, append-nil, length-append}
 use Rattle.std.specs.Prelude.{slice_range}
 use Rattle.std.specs.List.{AllByRecursion, AllZip, concat}
 use Rattle.std.proofs.lemmas.List.Folds.{concat-append}
@@ -14,11 +14,11 @@ use Rattle.mime_tree.specs.declared.openings.Opening.TheVariants.{Nothing, Messa
 use Rattle.mime_tree.specs.Marks.{is_delimiter, is_close}
 use Rattle.mime_tree.specs.Parts.{Part, parts_on, parts_of, size}
 use Rattle.mime_tree.specs.Tree.{IsWithInner, EntityRelation, AreParts, IsDivided, IsOpened, IsEntity}
-use Rattle.mime_tree.specs.Rewriting.{FieldRelation, RewritesBlocks, AreSame, next_entity_place}
+use Rattle.mime_tree.specs.Rewriting.{FieldRelation, RewritesBlocks, next_entity_place}
 use Rattle.mime_tree.proofs.Heads.{fields_size}
 use Rattle.mime_tree.proofs.Regions.{size-cons}
 use Rattle.mime_tree.proofs.PartLemmas.{parts_of-delimiter, parts_of-on, parts_on-close, parts_on-delimiter, parts_on-on}
-use Rattle.mime_tree.proofs.Standing.{Stands}
+use Rattle.mime_tree.proofs.Standing.{Stands, AreKept}
 use Rattle.mime_tree.proofs.LinesAgain.{lines_of-front, lines_of-ended, lines_of-never, AreEnded-front, Stands-front, Stands-slice}
 use Rattle.mime_tree.proofs.EmptyEnds.{empty_no_delimiter}
 use Rattle.mime_tree.proofs.InPlace.{slice_none}
@@ -90,7 +90,7 @@ Begins IsOne = (parent : Option ℕ) (digest : Bool) (number at : ℕ) (lines : 
 begins_with : (parent : Option ℕ) (depth at : ℕ) (lines : List (List ℕ)) (entities : List Entity) → IsWithInner parent depth at lines entities → BeginsThere at entities
 begins_with parent depth at lines entities is = record { entity = is.entity; inner = is.inner; entities_are = is.entities_are; at_is = is.at_is }
 
-entity_begins : (levels : ℕ) (octets : List ℕ) → Begins (IsEntity levels octets)
+pub entity_begins : (levels : ℕ) (octets : List ℕ) → Begins (IsEntity levels octets)
 unfolding Begins IsEntity
 entity_begins zero octets = λ parent digest number at lines entities is. begins_with parent _ at lines entities is.0
 entity_begins (suc levels) octets = λ parent digest number at lines entities is. begins_with parent _ at lines entities is.0
@@ -102,7 +102,7 @@ parts_begin IsOne begins parent digest number part parts entities are =
     let first = begins parent digest number part.at part.lines are.0 are.3 in
     record { entity = first.entity; inner = first.inner ++ are.1; entities_are = are.2 ∙ ap (λ all. all ++ are.1) first.entities_are; at_is = first.at_is }
 
-next_there : (at to : ℕ) (entities : List Entity) → BeginsThere at entities → next_entity_place to entities ≡ at
+pub next_there : (at to : ℕ) (entities : List Entity) → BeginsThere at entities → next_entity_place to entities ≡ at
 next_there at to entities there = rw there.entities_are there.at_is
 
 -- what stands before the first part
@@ -163,7 +163,7 @@ divided_begin IsOne begins digest number at parts shape entities first is =
 
 -- where there is no entity all was copied
 pub all_copied : (IsMade : FieldRelation) (octets new : List ℕ) (body to : ℕ) (inner : List Entity) (made : List ℕ) (new_body : ℕ) (others : List Entity) → inner ≡ [] → RewritesBlocks IsMade octets body to inner made
-    → Stands new new_body made → AreSame IsMade octets to inner new (new_body + length made) others → slice_range new new_body (next_entity_place (new_body + length made) others) ≡ slice_range octets body (next_entity_place to inner)
+    → Stands new new_body made → AreKept IsMade octets to inner new (new_body + length made) others → slice_range new new_body (next_entity_place (new_body + length made) others) ≡ slice_range octets body (next_entity_place to inner)
 all_copied IsMade octets new body to [] made new_body [] none rewrites stands same = Stands-slice new new_body made stands ∙ rewrites
 all_copied IsMade octets new body to [] made new_body (other ∷ others) none rewrites stands same = absurd same
 all_copied IsMade octets new body to (entity ∷ inner) made new_body others none rewrites stands same = cc none
@@ -258,7 +258,7 @@ parts_inside IsMade levels octets new b digest number body content shape inner m
 pub first_inside : (IsMade : FieldRelation) (levels : ℕ) (octets new : List ℕ) (opening : Opening) (number body : ℕ) (content : List (List ℕ)) (shape : Shape) (inner : List Entity) (made : List ℕ) (new_body : ℕ) (others : List Entity)
     → AreLines content → Stands octets body (concat content) → Stands new new_body made → RewritesBlocks IsMade octets body (body + size content) inner made
     → IsOpened (IsEntity levels octets) opening number body content shape inner → IsOpened (IsEntity levels new) opening number new_body (lines_of made) shape others
-    → AreSame IsMade octets (body + size content) inner new (new_body + length made) others
+    → AreKept IsMade octets (body + size content) inner new (new_body + length made) others
     → slice_range new new_body (next_entity_place (new_body + length made) others) ≡ slice_range octets body (next_entity_place (body + size content) inner)
 unfolding Begins
 first_inside IsMade levels octets new Nothing number body content shape inner made new_body others are stands new_stands rewrites is so same =

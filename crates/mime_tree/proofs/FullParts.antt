@@ -9,9 +9,9 @@ use Rattle.utf8_fields.proofs.LineShapes.{AreLines, AreLines-front, AreLines-bac
 use Rattle.mime_tree.specs.declared.entity.Entity.{Entity}
 use Rattle.mime_tree.specs.Parts.{size, cut_last}
 use Rattle.mime_tree.specs.Tree.{IsEntity}
-use Rattle.mime_tree.specs.Rewriting.{FieldRelation, RewritesBlocks, next_entity_place, AreSame}
+use Rattle.mime_tree.specs.Rewriting.{FieldRelation, RewritesBlocks, next_entity_place}
 use Rattle.mime_tree.proofs.Regions.{size-cons, size-append}
-use Rattle.mime_tree.proofs.Standing.{Stands, AreEnded, IsUnmarked, AreUnmarked, AreInOrder, HasNewLines, Keeps}
+use Rattle.mime_tree.proofs.Standing.{Stands, AreEnded, IsUnmarked, AreUnmarked, AreInOrder, AreKept, HasNewLines, Keeps}
 use Rattle.mime_tree.proofs.InOrder.{in_order, split_blocks}
 use Rattle.mime_tree.proofs.EndedLines.{AreFilled, HasEmptyLast, ended_filled, filled_nothing, filled_or, gap_of, cut_concat, cut_are, cut_sound, cut_unmarked, put_ending}
 use Rattle.mime_tree.proofs.EmptyLast.{drop_empty}
@@ -71,7 +71,7 @@ pub record HasFullPart (IsMade : FieldRelation) (levels : ℕ) (octets : List �
   pub unmarked : (boundary : List ℕ) → AreUnmarked boundary passed → AreUnmarked boundary full
   pub cut : concat (cut_last full) ≡ made
   pub is : IsEntity levels new parent digest number new_at (cut_last full) others
-  pub same : AreSame IsMade octets (at + size (cut_last passed)) entities new (new_at + length made) others
+  pub same : AreKept IsMade octets (at + size (cut_last passed)) entities new (new_at + length made) others
 
 full_by : (IsMade : FieldRelation) (levels : ℕ) (octets new : List ℕ) (parent : Option ℕ) (digest : Bool) (number at : ℕ) (passed : List (List ℕ)) (entities : List Entity) (made : List ℕ) (new_at : ℕ) → AreEnded passed
     → HasPart IsMade levels octets parent digest number at (cut_last passed) entities new new_at made → HasFullPart IsMade levels octets parent digest number at passed entities new new_at made
@@ -217,7 +217,7 @@ pub joined : (IsMade : FieldRelation) (levels : ℕ) (octets new : List ℕ) (pa
     → (has : HasFirst IsMade levels octets parent digest number at passed line rest first more new new_at made)
     → (tail : HasTidyLines IsMade octets (at + size passed + length line) rest more new (new_at + size has.full.full + length line) has.behind HoldsBehind)
     → Holds (has.full.full ++ line ∷ tail.has.new_lines) (has.full.others ++ tail.has.others)
-    → AreSame IsMade octets (next_entity_place (at + size (passed ++ line ∷ rest)) more) first new (next_entity_place (new_at + length made) tail.has.others) has.full.others
+    → AreKept IsMade octets (next_entity_place (at + size (passed ++ line ∷ rest)) more) first new (next_entity_place (new_at + length made) tail.has.others) has.full.others
     → HasTidyLines IsMade octets at (passed ++ line ∷ rest) (first ++ more) new new_at made Holds
 joined IsMade levels octets new parent digest number at passed line rest first more made new_at HoldsBehind Holds are has tail holds same =
     let line_size = size-cons line rest in

@@ -1,5 +1,5 @@
 -- Texts at their places, and entities in order and the same there.
-use Rattle.std.proofs.Common.{◌≡◌, ℕ, zero, suc, ◌+◌, ◌-◌, ◌≤◌, List, [], ◌∷◌, ◌++◌, length, drop, take, Bool, true, false, arith, refl, sym, ap, ◌∙◌, Option, Some, append_assoc, length-append}
+use Rattle.std.proofs.Common.{◌≡◌, ℕ, zero, suc, ◌+◌, ◌-◌, ◌≤◌, List, [], ◌∷◌, ◌++◌, length, drop, take, Bool, true, false, arith, inl, inr, refl, sym, ap, ◌∙◌, Option, Some, append_assoc, length-append}
 use Rattle.std.specs.Prelude.{slice_range}
 use Rattle.std.specs.List.{AllZip, concat}
 use Rattle.utf8_fields.specs.declared.block.Field.{Field}
@@ -13,10 +13,10 @@ use Rattle.mime_tree.specs.declared.openings.Opening.TheVariants.{Nothing, Messa
 use Rattle.mime_tree.specs.Marks.{is_delimiter, is_close}
 use Rattle.mime_tree.specs.Parts.{parts_on, size, cut_last}
 use Rattle.mime_tree.specs.Tree.{IsWithInner, EntityRelation, AreParts, IsOpened, IsEntity, depth_max}
-use Rattle.mime_tree.specs.Rewriting.{FieldRelation, RewritesBlocks, next_entity_place, IsSameEntity, AreSame}
+use Rattle.mime_tree.specs.Rewriting.{FieldRelation, RewritesBlocks, next_entity_place, IsSameEntity}
 use Rattle.mime_tree.proofs.Regions.{size-cons, size-append}
 use Rattle.mime_tree.proofs.PartLemmas.{parts_on-close, parts_on-delimiter, parts_on-on}
-use Rattle.mime_tree.proofs.Standing.{Stands, AreInOrder, AreEnded}
+use Rattle.mime_tree.proofs.Standing.{Stands, AreInOrder, AreEnded, AreBehind, AreKept}
 use Rattle.mime_tree.proofs.InOrder.{in_order, in_order-append, slices_join, split_blocks}
 use Rattle.mime_tree.proofs.EndedLines.{gap_of, cut_concat}
 use Rattle.mime_tree.proofs.EmptyLast.{parts_on-end, parts_on-some}
@@ -57,14 +57,36 @@ place_append : (to : ℕ) (entities more : List Entity) → next_entity_place to
 place_append to [] more = refl
 place_append to (entity ∷ entities) more = refl
 
+-- places behind a block are so before further entities
+behind_append : (to place : ℕ) (entities more : List Entity) (made_place : ℕ) (others again : List Entity) → AreBehind (next_entity_place to more) place entities made_place others
+    → AreBehind to place (entities ++ more) made_place (others ++ again)
+behind_append to place [] more made_place others again are = absurd are
+behind_append to place (entity ∷ entities) more made_place [] again are = absurd are
+behind_append to place (entity ∷ entities) more made_place (other ∷ others) again (inl is) = inl (rw (place_append to entities more) is)
+behind_append to place (entity ∷ entities) more made_place (other ∷ others) again (inr are) = inr (behind_append to place entities more made_place others again are)
+
+-- and where all ends further on
+behind_further : (to far place : ℕ) (entities : List Entity) (made_place : ℕ) (others : List Entity) → to ≤ far → AreBehind to place entities made_place others → AreBehind far place entities made_place others
+behind_further to far place [] made_place others less are = absurd are
+behind_further to far place (entity ∷ entities) made_place [] less are = absurd are
+behind_further to far place (entity ∷ []) made_place (other ∷ others) less (inl is) = let high = is.high in inl (record { low = is.low; high = omega arith; same = is.same })
+behind_further to far place (entity ∷ next ∷ entities) made_place (other ∷ others) less (inl is) = inl (record { low = is.low; high = is.high; same = is.same })
+behind_further to far place (entity ∷ entities) made_place (other ∷ others) less (inr are) = inr (behind_further to far place entities made_place others less are)
+
 -- same entities and further ones
 pub same_append : (IsMade : FieldRelation) (octets : List ℕ) (to : ℕ) (entities more : List Entity) (new : List ℕ) (new_to : ℕ) (others again : List Entity)
-    → AreSame IsMade octets (next_entity_place to more) entities new (next_entity_place new_to again) others → AreSame IsMade octets to more new new_to again → AreSame IsMade octets to (entities ++ more) new new_to (others ++ again)
+    → AreKept IsMade octets (next_entity_place to more) entities new (next_entity_place new_to again) others → AreKept IsMade octets to more new new_to again → AreKept IsMade octets to (entities ++ more) new new_to (others ++ again)
 same_append IsMade octets to [] more new new_to [] again same next = next
 same_append IsMade octets to [] more new new_to (other ∷ others) again same next = absurd same
 same_append IsMade octets to (entity ∷ entities) more new new_to [] again same next = absurd same
-same_append IsMade octets to (entity ∷ entities) more new new_to (other ∷ others) again same next =
-    (rw (place_append to entities more, place_append new_to others again) same.0, same_append IsMade octets to entities more new new_to others again same.1 next)
+same_append IsMade octets to (entity ∷ entities) more new new_to (other ∷ others) again same next = (
+  record {
+    same = rw (place_append to entities more, place_append new_to others again) same.0.same;
+    body = rw (place_append to entities more) same.0.body;
+    end = behind_append to entity.end (entity ∷ entities) more other.end (other ∷ others) again same.0.end;
+  },
+  same_append IsMade octets to entities more new new_to others again same.1 next,
+)
 
 -- the last entity reaches further, over the same octets
 same_entity_further : (IsMade : FieldRelation) (octets : List ℕ) (entity : Entity) (to far : ℕ) (new : List ℕ) (other : Entity) (new_to new_far : ℕ) → slice_range new new_to new_far ≡ slice_range octets to far → to ≤ far → new_to ≤ new_far
@@ -80,18 +102,26 @@ same_entity_further IsMade octets entity to far new other new_to new_far text le
     }
 
 pub same_further : (IsMade : FieldRelation) (octets : List ℕ) (from to far : ℕ) (entities : List Entity) (new : List ℕ) (new_from new_to new_far : ℕ) (others : List Entity) → slice_range new new_to new_far ≡ slice_range octets to far
-    → to ≤ far → new_to ≤ new_far → AreInOrder from to entities → AreInOrder new_from new_to others → AreSame IsMade octets to entities new new_to others → AreSame IsMade octets far entities new new_far others
+    → to ≤ far → new_to ≤ new_far → AreInOrder from to entities → AreInOrder new_from new_to others → AreKept IsMade octets to entities new new_to others → AreKept IsMade octets far entities new new_far others
 same_further IsMade octets from to far [] new new_from new_to new_far [] text less new_less order new_order same = tt
 same_further IsMade octets from to far [] new new_from new_to new_far (other ∷ others) text less new_less order new_order same = absurd same
 same_further IsMade octets from to far (entity ∷ entities) new new_from new_to new_far [] text less new_less order new_order same = absurd same
-same_further IsMade octets from to far (entity ∷ []) new new_from new_to new_far (other ∷ []) text less new_less order new_order same =
-    (same_entity_further IsMade octets entity to far new other new_to new_far text less new_less order.2 new_order.2 same.0, tt)
+same_further IsMade octets from to far (entity ∷ []) new new_from new_to new_far (other ∷ []) text less new_less order new_order same = (
+  record {
+    same = same_entity_further IsMade octets entity to far new other new_to new_far text less new_less order.2 new_order.2 same.0.same;
+    body = let high = same.0.body.high in record { low = same.0.body.low; high = omega arith; same = same.0.body.same };
+    end = behind_further to far entity.end (entity ∷ []) other.end (other ∷ []) less same.0.end;
+  },
+  tt,
+)
 same_further IsMade octets from to far (entity ∷ []) new new_from new_to new_far (other ∷ again ∷ others) text less new_less order new_order same = absurd same.1
 same_further IsMade octets from to far (entity ∷ next ∷ entities) new new_from new_to new_far (other ∷ []) text less new_less order new_order same = absurd same.1
-same_further IsMade octets from to far (entity ∷ next ∷ entities) new new_from new_to new_far (other ∷ again ∷ others) text less new_less order new_order same =
-    (same.0, same_further IsMade octets entity.block.end to far (next ∷ entities) new other.block.end new_to new_far (again ∷ others) text less new_less order.2 new_order.2 same.1)
+same_further IsMade octets from to far (entity ∷ next ∷ entities) new new_from new_to new_far (other ∷ again ∷ others) text less new_less order new_order same = (
+  record { same = same.0.same; body = same.0.body; end = behind_further to far entity.end (entity ∷ next ∷ entities) other.end (other ∷ again ∷ others) less same.0.end },
+  same_further IsMade octets entity.block.end to far (next ∷ entities) new other.block.end new_to new_far (again ∷ others) text less new_less order.2 new_order.2 same.1,
+)
 
-pub same_length : (IsMade : FieldRelation) (octets : List ℕ) (to : ℕ) (entities : List Entity) (new : List ℕ) (new_to : ℕ) (others : List Entity) → AreSame IsMade octets to entities new new_to others → length entities ≡ length others
+pub same_length : (IsMade : FieldRelation) (octets : List ℕ) (to : ℕ) (entities : List Entity) (new : List ℕ) (new_to : ℕ) (others : List Entity) → AreKept IsMade octets to entities new new_to others → length entities ≡ length others
 same_length IsMade octets to [] new new_to [] same = refl
 same_length IsMade octets to [] new new_to (other ∷ others) same = absurd same
 same_length IsMade octets to (entity ∷ entities) new new_to [] same = absurd same

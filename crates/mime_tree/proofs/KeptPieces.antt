@@ -9,10 +9,10 @@ use Rattle.mime_tree.specs.declared.entity.Shape.{Shape}
 use Rattle.mime_tree.specs.Marks.{is_delimiter, is_close}
 use Rattle.mime_tree.specs.Parts.{Part, parts_on, parts_of, size, cut_last}
 use Rattle.mime_tree.specs.Tree.{EntityRelation, AreParts, IsDivided, IsEntity}
-use Rattle.mime_tree.specs.Rewriting.{FieldRelation, RewritesBlocks, AreSame}
+use Rattle.mime_tree.specs.Rewriting.{FieldRelation, RewritesBlocks}
 use Rattle.mime_tree.proofs.Regions.{size-cons, size-append}
 use Rattle.mime_tree.proofs.PartLemmas.{parts_of-delimiter, parts_of-on, parts_on-close, parts_on-delimiter, parts_on-on}
-use Rattle.mime_tree.proofs.Standing.{Stands, IsUnmarked, AreUnmarked, AreInOrder, Keeps}
+use Rattle.mime_tree.proofs.Standing.{Stands, IsUnmarked, AreUnmarked, AreInOrder, AreKept, Keeps}
 use Rattle.mime_tree.proofs.InOrder.{slices_join, in_order}
 use Rattle.mime_tree.proofs.EndedLines.{gap_of}
 use Rattle.mime_tree.proofs.EmptyLast.{parts_on-end, divided_parts, parts_divided}
@@ -95,7 +95,7 @@ tail_copied IsMade octets next to rest new new_next behind are stands sum rewrit
 reaches : (IsMade : FieldRelation) (levels : ℕ) (octets new : List ℕ) (parent : Option ℕ) (digest : Bool) (number at : ℕ) (passed : List (List ℕ)) (line : List ℕ) (rest : List (List ℕ)) (first more : List Entity) (made : List ℕ)
     (new_at : ℕ) → IsEntity levels octets parent digest number at (cut_last passed) first → (has : HasFirst IsMade levels octets parent digest number at passed line rest first more new new_at made) → (far new_far : ℕ)
     → at + size passed + length line ≤ far → new_at + size has.full.full + length line ≤ new_far
-    → slice_range new (new_at + size has.full.full + length line) new_far ≡ slice_range octets (at + size passed + length line) far → AreSame IsMade octets far first new new_far has.full.others
+    → slice_range new (new_at + size has.full.full + length line) new_far ≡ slice_range octets (at + size passed + length line) far → AreKept IsMade octets far first new new_far has.full.others
 reaches IsMade levels octets new parent digest number at passed line rest first more made new_at is has far new_far less new_less text =
     let sum = has.sum in
     let new_sum = has.new_sum in

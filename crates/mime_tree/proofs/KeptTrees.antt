@@ -1,5 +1,5 @@
 -- Trees are kept where fields are written anew.
-use Rattle.std.proofs.Common.{◌≡◌, ℕ, suc, zero, ◌+◌, ◌≤◌, List, [], ◌∷◌, ◌++◌, false, length, take, None, inl, inr, refl, sym, ap, ◌∙◌, arith, subst}
+use Rattle.std.proofs.Common.{◌≡◌, ℕ, suc, zero, ◌+◌, ◌≤◌, map, List, [], ◌∷◌, ◌++◌, false, length, take, None, inl, inr, refl, sym, ap, ◌∙◌, arith, subst}
 use Rattle.std.specs.List.{All, AllByRecursion, concat}
 use Rattle.std.proofs.lemmas.List.Elements.{recursion_from_All}
 use Rattle.mail_wire.specs.Lines.{lines_of}
@@ -15,14 +15,17 @@ use Rattle.mime_tree.specs.declared.openings.Opening.TheVariants.{Nothing, Messa
 use Rattle.mime_tree.specs.Openings.{Opens, IsOtherField}
 use Rattle.mime_tree.specs.Parts.{Part, parts_of, size}
 use Rattle.mime_tree.specs.Tree.{EntityRelation, IsDivided, IsOpened, IsEntity, HasTree, depth_max}
-use Rattle.mime_tree.specs.Rewriting.{FieldRelation, RewritesBlocks, KeepsTrees, AreSame}
-use Rattle.mime_tree.proofs.Standing.{Stands, IsUnmarked, AreInOrder, Keeps}
-use Rattle.mime_tree.proofs.InOrder.{opened_in_order}
+use Rattle.mime_tree.specs.Outlines.{outlines_of}
+use Rattle.mime_tree.specs.Rewriting.{FieldRelation, RewritesBlocks, KeepsTrees, AreSame, next_entity_place, blocks_of, moved, moved_outline}
+use Rattle.mime_tree.proofs.Standing.{Stands, IsUnmarked, AreInOrder, AreKept, Keeps}
+use Rattle.mime_tree.proofs.InOrder.{in_order, opened_in_order}
 use Rattle.mime_tree.proofs.KeptParts.{opened_kept}
 use Rattle.mime_tree.proofs.LinesAgain.{lines_again, Stands-slice, Stands-whole, sound_concat, sound_each}
 use Rattle.mime_tree.proofs.EmptyEnds.{MayLoseEmpty, entity_less, opened_less}
-use Rattle.mime_tree.proofs.FirstInside.{nothing_opened, nothing_entity, all_copied, first_inside}
+use Rattle.mime_tree.proofs.FirstInside.{Begins, next_there, entity_begins, nothing_opened, nothing_entity, all_copied, first_inside}
 use Rattle.mime_tree.proofs.FrontFields.{front_tree}
+use Rattle.mime_tree.proofs.TreeFields.{tree_blocks}
+use Rattle.mime_tree.proofs.MovedPlaces.{places_moved, same_of}
 use Rattle.mime_tree.proofs.NewEntities.{cut_entity, IsKeptInside, leaf_entity, open_entity, new_entity}
 
 -- what holds of lines holds of those that their octets have
@@ -153,9 +156,21 @@ root_again levels new lines others made whole are is = elim (lines_again lines a
   | inr same ↦ entity_less levels new None false 0 0 (lines_of made) others (subst (λ all. IsEntity levels new None false 0 0 all others) (same ∙ ap (λ text. lines_of text ++ [] ∷ []) whole) is)
 ]
 
--- a message whose fields are written anew
+-- the entities of a message stand in order in it
+pub tree_order : (octets : List ℕ) (entities : List Entity) → HasTree octets entities → AreInOrder 0 (length octets) entities
+tree_order octets entities tree =
+    subst (λ to. AreInOrder 0 to entities) (let same = ap length (concat_lines_of octets) in let end : 0 + size (lines_of octets) ≡ length octets = omega arith in end)
+    (in_order depth_max octets None false 0 0 (lines_of octets) entities tree.root)
+
+-- and the first of them at its begin
+tree_begins : (octets : List ℕ) (entities : List Entity) (to : ℕ) → HasTree octets entities → next_entity_place to entities ≡ 0
+unfolding Begins
+tree_begins octets entities to tree = next_there 0 to entities (entity_begins depth_max octets None false 0 0 (lines_of octets) entities tree.root)
+
+-- A message whose fields are written anew has a tree of the same entities, at their moved places.
 pub trees_are_kept : (IsMade : FieldRelation) (octets made : List ℕ) (entities : List Entity) → KeepsTrees IsMade octets → HasTree octets entities → RewritesBlocks IsMade octets 0 (length octets) entities made
     → (others : List Entity) × HasTree made others × AreSame IsMade octets (length octets) entities made (length made) others
+    × (outlines_of others ≡ map (moved_outline (moved octets entities (blocks_of made others))) (outlines_of entities))
 trees_are_kept IsMade octets made entities keeps tree rewrites =
     let whole = concat_lines_of octets in
     let all : RewritesBlocks IsMade octets 0 (0 + size (lines_of octets)) entities made =
@@ -163,15 +178,18 @@ trees_are_kept IsMade octets made entities keeps tree rewrites =
     let stands : Stands octets 0 (concat (lines_of octets)) = subst (Stands octets 0) (sym whole) (Stands-whole octets) in
     let got = entity_kept IsMade octets made keeps depth_max None false 0 0 (lines_of octets) entities made 0 tree.root (AreLines-lines_of octets) stands all (Stands-whole made) in
     let sound = got.sound (sound_each (lines_of octets) (AreLines-lines_of octets) (subst IsSound (sym whole) tree.is_message)) in
-    let same : AreSame IsMade octets (length octets) entities made (length made) got.others =
-    subst (λ n. AreSame IsMade octets (length octets) entities made n got.others) (let end : 0 + length made ≡ length made = omega arith in end)
-    (subst (λ n. AreSame IsMade octets n entities made (0 + length made) got.others) (let end : 0 + size (lines_of octets) ≡ length octets = (let same = ap length whole in omega arith) in end) got.same) in (
+    let kept : AreKept IsMade octets (length octets) entities made (length made) got.others =
+    subst (λ n. AreKept IsMade octets (length octets) entities made n got.others) (let end : 0 + length made ≡ length made = omega arith in end)
+    (subst (λ n. AreKept IsMade octets n entities made (0 + length made) got.others) (let end : 0 + size (lines_of octets) ≡ length octets = (let same = ap length whole in omega arith) in end) got.same) in
+    let made_tree : HasTree made got.others = record {
+      is_message = subst IsSound got.whole (sound_concat got.new_lines sound);
+      root = root_again depth_max made got.new_lines got.others made got.whole got.are got.holds;
+    } in (
       got.others,
-      record {
-        is_message = subst IsSound got.whole (sound_concat got.new_lines sound);
-        root = root_again depth_max made got.new_lines got.others made got.whole got.are got.holds;
-      },
-      same,
+      made_tree,
+      same_of IsMade octets (length octets) entities made (length made) got.others kept,
+      places_moved IsMade octets keeps entities made got.others (tree_order octets entities tree) (tree_order made got.others made_tree) (tree_blocks octets entities tree) (tree_blocks made got.others made_tree)
+          (tree_begins made got.others (length made) made_tree ∙ sym (tree_begins octets entities (length octets) tree)) kept,
     )
 
 -- a message behind fields that say nothing of how it is opened

@@ -28,6 +28,8 @@ pub mod KeptParts
 pub mod LinesWithin
 pub mod FieldsWithin
 pub mod TreeFields
+pub mod Parents
+pub mod MovedPlaces
 pub mod LinesAgain
 pub mod EmptyEnds
 pub mod FirstInside
@@ -37,6 +39,7 @@ pub mod FrontFields
 pub mod KeptTrees
 pub mod WordLemmas
 pub mod OpeningLemmas
+pub mod OtherTypes
 pub mod OneTreeFault
 pub mod SectionLemmas
 pub mod DecidingHeads

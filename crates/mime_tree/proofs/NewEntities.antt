@@ -1,7 +1,8 @@
 -- An entity whose fields are written anew, and its content too.
-use Rattle.std.proofs.Common.{◌≡◌, ℕ, suc, zero, ◌+◌, ◌-◌, ◌≤◌, inl, List, [], ◌∷◌, ◌++◌, Bool, length, take, drop, Option, refl, sym, ap, ◌∙◌, arith, subst, append-nil, length-append}
+use Rattle.std.proofs.Common.{◌≡◌, ℕ, suc, zero, ◌+◌, ◌-◌, ◌≤◌, inl, inr, List, [], ◌∷◌, ◌++◌, Bool, length, take, drop, Option, refl, sym, ap, ◌∙◌, arith, subst, append-nil, length-append}
 use Rattle.std.specs.Prelude.{slice_range}
 use Rattle.std.specs.List.{AllByRecursion, AllZip, concat}
+use Rattle.std.proofs.lemmas.List.{length-take-le, length-drop}
 use Rattle.std.proofs.lemmas.List.Folds.{concat-append}
 use Rattle.mail_wire.specs.Lines.{lines_of, crlf}
 use Rattle.mail_wire.specs.Message.{IsSound}
@@ -16,13 +17,14 @@ use Rattle.mime_tree.specs.Parts.{size}
 use Rattle.mime_tree.specs.declared.openings.Opening.{Opening}
 use Rattle.mime_tree.specs.Openings.{Opens}
 use Rattle.mime_tree.specs.Tree.{HasHead, IsWithInner, IsOpened, IsEntity, raws_of, depth_max}
-use Rattle.mime_tree.specs.Rewriting.{FieldRelation, RewritesBlocks, KeepsTrees, AreSame, IsSameEntity, next_entity_place}
+use Rattle.mime_tree.specs.Rewriting.{FieldRelation, RewritesBlocks, KeepsTrees, IsSameEntity, next_entity_place}
 use Rattle.mime_tree.proofs.Heads.{fields_size}
-use Rattle.mime_tree.proofs.Standing.{Stands, AreEnded, IsUnmarked, AreUnmarked, HasNewBlock, AreInOrder}
+use Rattle.mime_tree.proofs.Standing.{Stands, AreEnded, IsUnmarked, AreUnmarked, HasNewBlock, AreInOrder, AreBehind, AreKept}
 use Rattle.mime_tree.proofs.NewBlocks.{new_block}
 use Rattle.mime_tree.proofs.InOrder.{split_blocks, slices_join, head_places}
 use Rattle.mime_tree.proofs.LinesAgain.{AreEnded-front, AreLines-ended, Stands-front, Stands-back, Stands-slice}
-use Rattle.mime_tree.proofs.InPlace.{slice_none}
+use Rattle.mime_tree.proofs.InPlace.{slice_none, order_from}
+use Rattle.mime_tree.proofs.FieldsWithin.{stands_within}
 
 -- the lines behind a header, with another content
 pub new_rest : List (List ℕ) → List (List ℕ) → List (List ℕ)
@@ -179,7 +181,7 @@ pub record IsKeptInside (IsMade : FieldRelation) (octets : List ℕ) (body : ℕ
   pub behind : slice_range new new_body (next_entity_place (new_body + length made) others) ≡ slice_range octets body (next_entity_place (body + size content) inner)
   pub old_order : AreInOrder body (body + size content) inner
   pub order : AreInOrder new_body (new_body + length made) others
-  pub same : AreSame IsMade octets (body + size content) inner new (new_body + length made) others
+  pub same : AreKept IsMade octets (body + size content) inner new (new_body + length made) others
   pub sound : AllByRecursion IsSound content → AllByRecursion IsSound (lines_of made)
   pub unmarked : (boundary : List ℕ) → AreUnmarked boundary content → AreUnmarked boundary (lines_of made)
   pub none : content ≡ [] → made ≡ []
@@ -205,7 +207,7 @@ pub record HasNewEntity (IsMade : FieldRelation) (octets : List ℕ) (at : ℕ) 
   pub shape_is : other.shape ≡ shape
   pub body_is : other.body ≡ new_body
   pub raws : raws_of new other.block ≡ fields
-  pub same : AreSame IsMade octets (at + size lines) entities new (new_at + length made) (other ∷ others)
+  pub same : AreKept IsMade octets (at + size lines) entities new (new_at + length made) (other ∷ others)
 
 -- an entity without others in it
 pub leaf_entity : (octets : List ℕ) (parent : Option ℕ) (digest : Bool) (number at : ℕ) (lines : List (List ℕ)) (entity : Entity) (content : List (List ℕ)) → IsAlone parent (depth_max + 1) at lines entity content → entity.shape ≡ Leaf
@@ -237,7 +239,7 @@ behind_by octets new end body next new_end new_body new_next a b c d first secon
     slices_join new new_end new_body new_next c d ∙ ap (λ text. text ++ slice_range new new_body new_next) first ∙ ap (λ text. slice_range octets end body ++ text) second ∙ sym (slices_join octets end body next a b)
 
 -- where there is none inside, there is none in the other one
-no_others : (IsMade : FieldRelation) (octets new : List ℕ) (to new_to : ℕ) (inner others : List Entity) → inner ≡ [] → AreSame IsMade octets to inner new new_to others → others ≡ []
+no_others : (IsMade : FieldRelation) (octets new : List ℕ) (to new_to : ℕ) (inner others : List Entity) → inner ≡ [] → AreKept IsMade octets to inner new new_to others → others ≡ []
 no_others IsMade octets new to new_to [] [] none same = refl
 no_others IsMade octets new to new_to [] (other ∷ others) none same = absurd same
 no_others IsMade octets new to new_to (entity ∷ inner) others none same = cc none
@@ -247,6 +249,21 @@ leaf_by : (IsMade : FieldRelation) (octets new : List ℕ) (body to new_body new
 leaf_by IsMade octets new body to new_body new_to [] [] none no_other same = same
 leaf_by IsMade octets new body to new_body new_to [] (other ∷ others) none no_other same = cc no_other
 leaf_by IsMade octets new body to new_body new_to (entity ∷ inner) others none no_other same = cc none
+
+pub slice_length : (octets : List ℕ) (from to : ℕ) → from ≤ to → to ≤ length octets → length (slice_range octets from to) ≡ to - from
+slice_length octets from to order fits = length-take-le (to - from) (drop from octets) (omega (arith, length-drop from octets))
+
+-- where all ends both are as far behind the last blocks
+behind_last : (IsMade : FieldRelation) (octets : List ℕ) (to : ℕ) (entity : Entity) (inner : List Entity) (new : List ℕ) (new_to : ℕ) (other : Entity) (others : List Entity) → to ≤ length octets → new_to ≤ length new
+    → AreInOrder entity.block.end to inner → AreInOrder other.block.end new_to others → slice_range new other.block.end (next_entity_place new_to others) ≡ slice_range octets entity.block.end (next_entity_place to inner)
+    → AreKept IsMade octets to inner new new_to others → AreBehind to to (entity ∷ inner) new_to (other ∷ others)
+behind_last IsMade octets to entity [] new new_to other [] fits new_fits order new_order behind kept =
+    let sizes = sym (slice_length new other.block.end new_to new_order new_fits) ∙ ap length behind ∙ slice_length octets entity.block.end to order fits in
+    inl (record { low = order; high = omega arith; same = omega arith })
+behind_last IsMade octets to entity [] new new_to other (next ∷ others) fits new_fits order new_order behind kept = absurd kept
+behind_last IsMade octets to entity (next ∷ inner) new new_to other [] fits new_fits order new_order behind kept = absurd kept
+behind_last IsMade octets to entity (next ∷ inner) new new_to other (again ∷ others) fits new_fits order new_order behind kept =
+    inr (behind_last IsMade octets to next inner new new_to again others fits new_fits order.2 new_order.2 kept.0.same.behind kept.1)
 
 none_of : lines_of [] ≡ []
 unfolding lines_of
@@ -284,8 +301,8 @@ new_entity IsMade octets new parent depth at lines entities made new_at is cut o
     (subst (λ n. slice_range new new_body (next_entity_place (new_body + length cut.inside) others) ≡ slice_range octets is.entity.body (next_entity_place n is.inner)) old_to kept.behind) in
     let old_order : AreInOrder is.entity.body (at + size lines) is.inner = subst (λ n. AreInOrder is.entity.body n is.inner) old_to kept.old_order in
     let order : AreInOrder new_body (new_at + length made) others = subst (λ n. AreInOrder new_body n others) new_to kept.order in
-    let same : AreSame IsMade octets (at + size lines) is.inner new (new_at + length made) others =
-    subst (λ n. AreSame IsMade octets (at + size lines) is.inner new n others) new_to (subst (λ n. AreSame IsMade octets n is.inner new (new_body + length cut.inside) others) old_to kept.same) in
+    let same : AreKept IsMade octets (at + size lines) is.inner new (new_at + length made) others =
+    subst (λ n. AreKept IsMade octets (at + size lines) is.inner new n others) new_to (subst (λ n. AreKept IsMade octets n is.inner new (new_body + length cut.inside) others) old_to kept.same) in
     let new_gap : slice_range new block.end new_body ≡ slice_range octets is.entity.block.end is.entity.body = ap (λ n. slice_range new n new_body) end ∙ cut.new_gap ∙ sym cut.gap in
     let same_entity : IsSameEntity IsMade octets is.entity (next_entity_place (at + size lines) is.inner) new other (next_entity_place (new_at + length made) others) = record {
       parent = sym is.parent_is;
@@ -299,6 +316,14 @@ new_entity IsMade octets new parent depth at lines entities made new_at is cut o
           let alone = leaf_by IsMade octets new is.entity.body (at + size lines) new_body (new_at + length made) is.inner others none (no_others IsMade octets new (at + size lines) (new_at + length made) is.inner others none same) behind in
           ap (λ text. slice_range new new_body (new_at + length text)) whole ∙ alone ∙ ap (λ n. slice_range octets is.entity.body n) (sym is.end_is);
     } in
+    let old_fits = stands_within octets is.entity.body (concat is.content) cut.content_stands in
+    let new_fits = stands_within new new_body cut.inside cut.new_stands in
+    let old_first = next_after is.entity.body (at + size lines) is.inner old_order in
+    let last = behind_last IsMade octets (at + size lines) is.entity is.inner new (new_at + length made) other others (omega arith) (omega arith)
+    (order_from is.entity.block.end is.entity.body (at + size lines) is.inner places.content_after old_order) (order_from block.end new_body (new_at + length made) others (omega arith) order) same_entity.behind same in
+    let same_end : AreBehind (at + size lines) is.entity.end (is.entity ∷ is.inner) other.end (other ∷ others) =
+    subst (λ n. AreBehind (at + size lines) n (is.entity ∷ is.inner) other.end (other ∷ others)) (sym is.end_is)
+    (subst (λ n. AreBehind (at + size lines) (at + size lines) (is.entity ∷ is.inner) (new_at + n) (other ∷ others)) (sym (ap length whole)) last) in
     record {
       new_lines = new_lines;
       other = other;
@@ -320,7 +345,7 @@ new_entity IsMade octets new parent depth at lines entities made new_at is cut o
       shape_is = refl;
       body_is = refl;
       raws = block.raws;
-      same = subst (λ all. AreSame IsMade octets (at + size lines) all new (new_at + length made) (other ∷ others)) (sym is.entities_are) (same_entity, same);
+      same = subst (λ all. AreKept IsMade octets (at + size lines) all new (new_at + length made) (other ∷ others)) (sym is.entities_are) (record { same = same_entity; body = record { low = places.content_after; high = old_first; same = omega (arith, head.body_is) }; end = same_end }, same);
     }
   where
     all_new : (P : List ℕ → Type 0) → (AllByRecursion P is.head.has_block.header → AllByRecursion P cut.block.lines) → (AllByRecursion P is.content → AllByRecursion P (lines_of cut.inside)) → AllByRecursion P lines

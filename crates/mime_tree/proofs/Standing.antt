@@ -1,5 +1,5 @@
 -- What is said of entities whose fields are written anew: shared words of the lemmas.
-use Rattle.std.proofs.Common.{◌≡◌, ℕ, ◌+◌, ◌≤◌, List, [], ◌∷◌, ◌++◌, Bool, false, length, Option, map}
+use Rattle.std.proofs.Common.{◌≡◌, ℕ, ◌+◌, ◌≤◌, ◌⊎◌, List, [], ◌∷◌, ◌++◌, Bool, false, length, Option, map}
 use Rattle.std.specs.List.{AllByRecursion, concat}
 use Rattle.mail_wire.specs.Message.{IsSound}
 use Rattle.utf8_fields.specs.declared.block.Field.{Field}
@@ -9,7 +9,7 @@ use Rattle.mime_tree.specs.declared.entity.Entity.{Entity}
 use Rattle.mime_tree.specs.Marks.{is_delimiter, is_close}
 use Rattle.mime_tree.specs.Parts.{size}
 use Rattle.mime_tree.specs.Tree.{EntityRelation}
-use Rattle.mime_tree.specs.Rewriting.{FieldRelation, RewritesBlocks, AreSame}
+use Rattle.mime_tree.specs.Rewriting.{FieldRelation, RewritesBlocks, IsSameEntity, next_entity_place}
 
 -- the text stands in the octets at this place
 pub record Stands (octets : List ℕ) (at : ℕ) (text : List ℕ) : Type 0 where
@@ -48,6 +48,30 @@ abbrev pub AreInOrder : ℕ → ℕ → List Entity → Type 0
 AreInOrder from to [] = from ≤ to
 AreInOrder from to (entity ∷ entities) = (from ≤ entity.at) × (entity.at ≤ entity.block.end) × AreInOrder entity.block.end to entities
 
+-- Between the entity's block and the next entity, a place of the octets and one of the made octets are as far behind their blocks.
+pub record IsBehind (entity : Entity) (place next : ℕ) (other : Entity) (made_place : ℕ) : Type 0 where
+  pub low : entity.block.end ≤ place
+  pub high : place ≤ next
+  pub same : made_place + entity.block.end ≡ place + other.block.end
+
+-- The places are behind the block of one of these entities.
+abbrev pub AreBehind : ℕ → ℕ → List Entity → ℕ → List Entity → Type 0
+AreBehind to place [] made_place others = ⊥
+AreBehind to place (entity ∷ entities) made_place [] = ⊥
+AreBehind to place (entity ∷ entities) made_place (other ∷ others) = IsBehind entity place (next_entity_place to entities) other made_place ⊎ AreBehind to place entities made_place others
+
+-- An entity and the made one are the same, and their contents and ends are as far behind blocks.
+pub record IsKept (IsMade : FieldRelation) (octets : List ℕ) (to : ℕ) (entity : Entity) (entities : List Entity) (made : List ℕ) (made_to : ℕ) (other : Entity) (others : List Entity) : Type 0 where
+  pub same : IsSameEntity IsMade octets entity (next_entity_place to entities) made other (next_entity_place made_to others)
+  pub body : IsBehind entity entity.body (next_entity_place to entities) other other.body
+  pub end : AreBehind to entity.end (entity ∷ entities) other.end (other ∷ others)
+
+abbrev pub AreKept : FieldRelation → List ℕ → ℕ → List Entity → List ℕ → ℕ → List Entity → Type 0
+AreKept IsMade octets to [] made made_to [] = Unit {0}
+AreKept IsMade octets to [] made made_to (other ∷ others) = ⊥
+AreKept IsMade octets to (entity ∷ entities) made made_to [] = ⊥
+AreKept IsMade octets to (entity ∷ entities) made made_to (other ∷ others) = IsKept IsMade octets to entity entities made made_to other others × AreKept IsMade octets to entities made made_to others
+
 -- Lines at a place of the octets, with the blocks of these entities, gave new lines at a place of the new octets, of which this holds.
 pub record HasNewLines (IsMade : FieldRelation) (octets : List ℕ) (at : ℕ) (lines : List (List ℕ)) (entities : List Entity) (new : List ℕ) (new_at : ℕ) (made : List ℕ) (Holds : List (List ℕ) → List Entity → Type 0)
     : Type 0 where
@@ -58,7 +82,7 @@ pub record HasNewLines (IsMade : FieldRelation) (octets : List ℕ) (at : ℕ) (
   pub sound : AllByRecursion IsSound lines → AllByRecursion IsSound new_lines
   pub unmarked : (boundary : List ℕ) → AreUnmarked boundary lines → AreUnmarked boundary new_lines
   pub holds : Holds new_lines others
-  pub same : AreSame IsMade octets (at + size lines) entities new (new_at + length made) others
+  pub same : AreKept IsMade octets (at + size lines) entities new (new_at + length made) others
 
 -- Where the one relation holds of lines, the other holds of the new ones.
 abbrev pub Keeps : FieldRelation → List ℕ → List ℕ → EntityRelation → EntityRelation → Type 0

@@ -1,5 +1,5 @@
 -- Octets whose header blocks are written anew, and the trees of both.
-use Rattle.std.specs.Prelude.{◌≡◌, ℕ, ◌⊎◌, List, [], ◌∷◌, ◌++◌, Bool, false, nat_eq, slice_range}
+use Rattle.std.specs.Prelude.{◌≡◌, ℕ, ◌+◌, ◌-◌, ◌⊎◌, List, [], ◌∷◌, ◌++◌, Bool, false, if◌then◌else◌, nat_eq, nat_le, length, map, slice_range}
 use Rattle.std.specs.List.{AllZip, concat, starts_with}
 use Rattle.mail_wire.specs.Message.{IsNul}
 use Rattle.utf8_fields.specs.Parts.{FieldParts, HasParts}
@@ -8,6 +8,7 @@ use Rattle.mime_tree.specs.declared.entity.Shape.TheVariants.{Leaf}
 use Rattle.mime_tree.specs.declared.openings.Opening.{Opening}
 use Rattle.mime_tree.specs.Marks.{dashes}
 use Rattle.mime_tree.specs.Openings.{Opens}
+use Rattle.mime_tree.specs.Outlines.{Outline}
 use Rattle.mime_tree.specs.Tree.{raws_of}
 
 -- a field of this entity, by its raw octets, gave this made one
@@ -58,3 +59,25 @@ AreSame IsMade octets to [] made made_to (other ∷ others) = ⊥
 AreSame IsMade octets to (entity ∷ entities) made made_to [] = ⊥
 AreSame IsMade octets to (entity ∷ entities) made made_to (other ∷ others) =
     IsSameEntity IsMade octets entity (next_entity_place to entities) made other (next_entity_place made_to others) × AreSame IsMade octets to entities made made_to others
+
+-- the fields of the entities' blocks
+abbrev pub blocks_of : List ℕ → List Entity → List (List (List ℕ))
+blocks_of octets entities = map (λ (entity : Entity). raws_of octets entity.block) entities
+
+-- how many octets the fields have, if the entity's block ends at or before the place
+abbrev pub size_before : Entity → List (List ℕ) → ℕ → ℕ
+size_before entity fields place = if nat_le entity.block.end place then length (concat fields) else 0
+
+-- the same of all entities: to each its fields, as they are or as they are made anew
+abbrev pub sizes_before : List Entity → List (List (List ℕ)) → ℕ → ℕ
+sizes_before [] blocks place = 0
+sizes_before (entity ∷ entities) [] place = 0
+sizes_before (entity ∷ entities) (fields ∷ blocks) place = size_before entity fields place + sizes_before entities blocks place
+
+-- Where a place of the octets is in the made ones: their fields of the blocks that end at or before it have so many octets more than the octets' own.
+abbrev pub moved : List ℕ → List Entity → List (List (List ℕ)) → ℕ → ℕ
+moved octets entities made place = place + sizes_before entities made place - sizes_before entities (blocks_of octets entities) place
+
+-- an entity with its places moved
+abbrev pub moved_outline : (ℕ → ℕ) → Outline → Outline
+moved_outline to outline = record { parent = outline.parent; depth = outline.depth; at = to outline.at; body = to outline.body; end = to outline.end; shape = outline.shape }

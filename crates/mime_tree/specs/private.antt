@@ -1,3 +1,4 @@
 -- What private functions answer.
 pub mod Open
 pub mod Reading
+pub mod Types

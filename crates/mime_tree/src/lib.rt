@@ -8,6 +8,7 @@ pub mod laws;
 mod marks;
 mod message;
 mod openings;
+mod outlines;
 mod reading;
 mod sections;
 
@@ -15,5 +16,6 @@ pub use completing::complete;
 pub use entity::{Entities, Entity, Shape, Tree, TreeFault};
 pub use high_blocks::has_high_block;
 pub use openings::{first_value, only_word};
+pub use outlines::{Outline, Outlined};
 pub use reading::{read_sound_tree, read_tree};
-pub use sections::Part;
+pub use sections::{Part, section};

@@ -5,8 +5,7 @@ ghost use Rattle.mail_wire.specs.Lines.{lines_of};
 ghost use Rattle.mime_tree.specs.Marks.{text_of, dashes, is_padded};
 ghost use Rattle.mime_tree.specs.private.Open.{mark_by, is_marked_text};
 
-use mail_wire::{Octets, is_white_text};
-use memchr::memmem;
+use mail_wire::{Octets, find_crlf, is_white_text};
 
 /// The line before a part, or the one after the last.
 #[derive(Clone, Copy)]
@@ -31,7 +30,7 @@ pub fn first_line(octets: &[u8]) -> Line
     ensures some { 0 < length octets.now → 0 < result.len }
     ensures line { 0 < length octets.now → lines_of octets.now ≡ take result.len octets.now ∷ lines_of (drop result.len octets.now) }
 {
-    match memmem::find(octets, b"\r\n") {
+    match find_crlf(octets) {
         Some(text) => Line {
             text,
             len: text + 2,

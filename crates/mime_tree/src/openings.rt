@@ -7,6 +7,7 @@ ghost use Rattle.encoded_words.specs.private.Values.{value_of};
 ghost use Rattle.field_tokens.specs.declared.TokenKind.TheVariants.{Atom};
 ghost use Rattle.field_tokens.specs.Squeezed.{is_blank};
 ghost use Rattle.param_grammar.specs.Joining.{param_value};
+ghost use Rattle.mime_tree.specs.private.Types.{begins_other};
 ghost use Rattle.mime_tree.specs.Openings.{is_letter, is_digit_or_sign, is_other_sign, is_boundary_octet, is_usable, is_message_type, is_multipart_type, is_digest_type, is_identity_name, boundary_in, opening_said, opening_by_default, Opens, OpensByType, OpensByText, IsFirstValue, IsIdentity, KeepsOctets, AreFieldsWithin, usable_of, divided};
 
 use encoded_words::Unit;
@@ -155,10 +156,23 @@ fn opening_said(alloc: Global, params: &Params) -> Result<Opening, Memory>
     }
 }
 
+// Whether a text begins as no gap, no comment and no type of what is opened. Most types are passed by so, without a look at their parameters.
+fn begins_other(text: &[u8]) -> bool
+    ensures { result ≡ begins_other text.now }
+{
+    match text {
+        [first, ..] => *first >= b'a' && *first != b'm',
+        [] => false,
+    }
+}
+
 // How an entity is opened whose Content-Type is this text.
 fn opening_by_text(alloc: Global, text: &[u8]) -> Result<Opening, Memory>
     ensures { IfOk result (OpensByText text.now) }
 {
+    if begins_other(text) {
+        return Ok(Opening::Nothing);
+    }
     match read_params(alloc, ParamKind::Content, text) {
         Ok(params) => opening_said(alloc, &params),
         Err(ParamFault::Malformed) => Ok(Opening::Nothing),

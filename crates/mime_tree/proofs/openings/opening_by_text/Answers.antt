@@ -1,5 +1,10 @@
+use Rattle.std.proofs.Common.{sym, ◌∙◌}
 use Rattle.mime_tree.proofs.OpeningLemmas.{opens-where, text-malformed}
+use Rattle.mime_tree.proofs.OtherTypes.{other-opens}
 use Rattle.mime_tree.proofs.openings.opening_by_text.Goals as goal
+
+pub returns-then-begins_other : goal.returns-then-begins_other
+returns-then-begins_other c = other-opens c.args.text.now (sym c.begins_other.ensures ∙ c.if-begins_other.true)
 
 pub returns-in-Ok : goal.returns-in-Ok
 returns-in-Ok c = opens-where c.args.text.now _ _ _ c.opening_said.result c.in-Ok.ensures.ok c.opening_said.ensures
