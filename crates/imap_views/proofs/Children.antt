@@ -7,7 +7,7 @@ use Rattle.std.proofs.lemmas.Option.{slice_get-get_or}
 use Rattle.mime_tree.specs.declared.entity.Shape.TheVariants.{Leaf}
 use Rattle.mime_tree.specs.Outlines.{Outline}
 use Rattle.mime_tree.specs.Sections.{is_in, children_from}
-use Rattle.surrogate_rope.specs.declared.shown.Outline.{Outline as OutlineOf}
+use Rattle.mime_tree.specs.declared.outlines.Outline.{Outline as OutlineOf}
 use Rattle.surrogate_rope.specs.Served.{seen_outline}
 use Rattle.imap_views.specs.private.Reading.{HasChildren}
 

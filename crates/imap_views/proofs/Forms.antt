@@ -7,7 +7,7 @@ use Rattle.mime_tree.specs.declared.entity.Shape.{Shape}
 use Rattle.mime_tree.specs.Openings.{is_digest_type}
 use Rattle.mime_tree.specs.Outlines.{Outline}
 use Rattle.mime_tree.specs.Sections.{children_from}
-use Rattle.surrogate_rope.specs.declared.shown.Outline.{Outline as OutlineOf}
+use Rattle.mime_tree.specs.declared.outlines.Outline.{Outline as OutlineOf}
 use Rattle.surrogate_rope.specs.Served.{IsShownOf, seen_outline, shown_octets, shown_outlines}
 use Rattle.imap_views.specs.declared.headers.Header.{Header}
 use Rattle.imap_views.specs.declared.parts.PartWords.{PartWords}

@@ -3,7 +3,7 @@ use Rattle.std.proofs.Common.{◌≡◌, ◌↔◌, ◌⊎◌, inl, inr, IsTrue,
 use Rattle.std.proofs.lemmas.Bool.{cases_Bool}
 use Rattle.std.proofs.lemmas.List.Elements.{All-head, All-tail}
 use Rattle.std.specs.List.{All, AllZip, concat}
-use Rattle.std.specs.Prelude.{codes, ◌+◌}
+use Rattle.std.specs.Prelude.{codes}
 use Rattle.mail_wire.specs.Octets.{is_white, same_name}
 use Rattle.mail_wire.specs.Folds.{unfolded}
 use Rattle.utf8_fields.specs.declared.block.Field.{Field}

@@ -1,3 +1,10 @@
+pub mod PieceLemmas
+pub mod EndLemmas
+pub mod StoredLemmas
+pub mod LoadLemmas
+pub mod KeptPlaces
+pub mod BlockFields
+pub mod MadePieces
 pub mod AddedFields
 pub mod AddedBlocks
 pub mod OpenGlobals

@@ -21,7 +21,7 @@ field_once msg entity raw made other is also =
     let same : also.open_global ≡ is.open_global = one_answer (IsOpenGlobal msg entity) also.open_global is.open_global also.is_open is.is_open in
     HasFieldLayout-once is.open_global raw made other is.holds (subst (λ open_global. HasFieldLayout open_global raw other) same also.holds)
 
-fields_once : (Holds : List ℕ → List ℕ → Type 0) (raws mades others : List (List ℕ)) → ((raw made other : List ℕ) → Holds raw made → Holds raw other → made ≡ other) → AllZip Holds raws mades
+pub fields_once : (Holds : List ℕ → List ℕ → Type 0) (raws mades others : List (List ℕ)) → ((raw made other : List ℕ) → Holds raw made → Holds raw other → made ≡ other) → AllZip Holds raws mades
     → AllZip Holds raws others → mades ≡ others
 fields_once Holds [] [] [] once all also = refl
 fields_once Holds [] [] (other ∷ others) once all also = absurd also

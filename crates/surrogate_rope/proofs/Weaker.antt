@@ -1,11 +1,13 @@
 -- What is claimed of each field may be weakened.
-use Rattle.std.proofs.Common.{ℕ, Bool, List, [], ◌∷◌}
+use Rattle.std.proofs.Common.{◌≡◌, ℕ, ◌+◌, Bool, List, [], ◌∷◌, if◌then◌else◌, refl, ap, ◌∙◌}
 use Rattle.std.specs.List.{AllZip}
+use Rattle.std.specs.Str.{bytes_eq}
 use Rattle.mime_tree.specs.declared.entity.Entity.{Entity}
 use Rattle.mime_tree.specs.Rewriting.{FieldRelation, RewritesBlocks, next_entity_place, IsSameEntity, AreSame}
 use Rattle.mime_tree.specs.Tree.{raws_of}
 use Rattle.surrogate_rope.specs.Layout.{InEntity}
-use Rattle.surrogate_rope.specs.Ropes.{CountsChanged}
+use Rattle.surrogate_rope.specs.Ropes.{changed, changed_by, CountsChanged, WeighsChanged}
+use Rattle.surrogate_rope.specs.private.Building.{one}
 
 pub fields_weaker : (IsOne IsOther : List ℕ → List ℕ → Type 0) (raws mades : List (List ℕ)) → ((raw made : List ℕ) → IsOne raw made → IsOther raw made) → AllZip IsOne raws mades → AllZip IsOther raws mades
 fields_weaker IsOne IsOther [] [] weaker all = tt
@@ -28,15 +30,26 @@ rewrites_weaker IsOne IsOther octets from to (entity ∷ entities) made weaker i
   rewrites_weaker IsOne IsOther octets entity.block.end to entities is.1 weaker is.4,
 )
 
-pub counts_weaker : (IsOne IsOther : FieldRelation) (msg : List ℕ) (entities : List Entity) (count : ℕ) → IsWeaker IsOne IsOther → CountsChanged IsOne msg entities count → CountsChanged IsOther msg entities count
-counts_weaker IsOne IsOther msg [] count weaker is = is
-counts_weaker IsOne IsOther msg (entity ∷ entities) count weaker is = (
+pub weighs_weaker : (weigh : List ℕ → ℕ) (IsOne IsOther : FieldRelation) (msg : List ℕ) (entities : List Entity) (sum : ℕ) → IsWeaker IsOne IsOther → WeighsChanged weigh IsOne msg entities sum
+    → WeighsChanged weigh IsOther msg entities sum
+weighs_weaker weigh IsOne IsOther msg [] sum weaker is = is
+weighs_weaker weigh IsOne IsOther msg (entity ∷ entities) sum weaker is = (
   is.0,
   is.1,
   fields_weaker (IsOne entity) (IsOther entity) (raws_of msg entity.block) is.0 (weaker entity) is.2,
   is.3,
-  counts_weaker IsOne IsOther msg entities is.1 weaker is.4,
+  weighs_weaker weigh IsOne IsOther msg entities is.1 weaker is.4,
 )
+
+-- where each weighs one that is how many there are
+changed_counts : (raws others : List (List ℕ)) → changed_by one raws others ≡ changed raws others
+changed_counts [] others = refl
+changed_counts (raw ∷ raws) [] = refl
+changed_counts (raw ∷ raws) (other ∷ others) = ap (λ n. (if bytes_eq raw other then 0 else 1) + n) (changed_counts raws others)
+
+pub weighs_counts : (IsMade : FieldRelation) (msg : List ℕ) (entities : List Entity) (count : ℕ) → WeighsChanged one IsMade msg entities count → CountsChanged IsMade msg entities count
+weighs_counts IsMade msg [] count is = is
+weighs_counts IsMade msg (entity ∷ entities) count is = (is.0, is.1, is.2, is.3 ∙ ap (λ n. n + is.1) (changed_counts (raws_of msg entity.block) is.0), weighs_counts IsMade msg entities is.1 is.4)
 
 entity_weaker : (IsOne IsOther : FieldRelation) (octets : List ℕ) (entity : Entity) (next : ℕ) (made : List ℕ) (other : Entity) (other_next : ℕ) → IsWeaker IsOne IsOther
     → IsSameEntity IsOne octets entity next made other other_next → IsSameEntity IsOther octets entity next made other other_next

@@ -1,4 +1,5 @@
 pub mod Layout
 pub mod Ropes
 pub mod Served
+pub mod Stored
 pub mod private

@@ -62,6 +62,35 @@ CountsChanged IsMade msg (entity ∷ entities) count =
     (fields : List (List ℕ)) × (rest : ℕ) × AllZip (IsMade entity) (raws_of msg entity.block) fields × (count ≡ changed (raws_of msg entity.block) fields + rest)
     × CountsChanged IsMade msg entities rest
 
+-- what the fields weigh that differ
+abbrev pub changed_by : (List ℕ → ℕ) → List (List ℕ) → List (List ℕ) → ℕ
+changed_by weigh [] others = 0
+changed_by weigh (raw ∷ raws) [] = 0
+changed_by weigh (raw ∷ raws) (other ∷ others) = (if bytes_eq raw other then 0 else weigh other) + changed_by weigh raws others
+
+-- The fields of the entities' blocks weigh so much that are others than those that they gave.
+abbrev pub WeighsChanged : (List ℕ → ℕ) → FieldRelation → List ℕ → List Entity → ℕ → Type 0
+WeighsChanged weigh IsMade msg [] sum = sum ≡ 0
+WeighsChanged weigh IsMade msg (entity ∷ entities) sum =
+    (fields : List (List ℕ)) × (rest : ℕ) × AllZip (IsMade entity) (raws_of msg entity.block) fields × (sum ≡ changed_by weigh (raws_of msg entity.block) fields + rest)
+    × WeighsChanged weigh IsMade msg entities rest
+
+-- how many octets of the message the pieces have
+abbrev pub range_size : List RopePiece → ℕ
+range_size [] = 0
+range_size (Range span ∷ pieces) = span.len + range_size pieces
+range_size (New octets ∷ pieces) = range_size pieces
+
+-- how many octets new pieces have
+abbrev pub new_size : List RopePiece → ℕ
+new_size [] = 0
+new_size (Range span ∷ pieces) = new_size pieces
+new_size (New octets ∷ pieces) = length octets + new_size pieces
+
+-- The rope has as many octets of its own as the fields of the layout that are others than the message's.
+abbrev pub HasNewFields : List ℕ → List Entity → RopeValue → Type 0
+HasNewFields msg entities rope = WeighsChanged length (InEntity HasFieldLayout msg) msg entities (new_size rope.pieces)
+
 -- The pieces give the layout of the message, which is a surrogate; the entities are those of the surrogate's tree; so many fields of the layout are others than the message's.
 pub record IsRopeOf (msg : List ℕ) (rope : RopeValue) : Type 0 where
   pub entities : List Entity

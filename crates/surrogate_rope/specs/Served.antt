@@ -1,8 +1,8 @@
 -- What is shown of a message.
 use Rattle.std.specs.Prelude.{ℕ, List}
+pub use Rattle.mime_tree.specs.Outlines.{seen_outline}
 use Rattle.mime_tree.specs.Outlines.{Outline, outlines_of}
 use Rattle.mime_tree.specs.Tree.{HasTree}
-use Rattle.surrogate_rope.specs.declared.shown.Outline.{Outline as OutlineOf}
 use Rattle.surrogate_rope.specs.declared.shown.Shown.{Shown}
 use Rattle.surrogate_rope.specs.declared.shown.Shown.TheVariants.{Whole, Rope}
 use Rattle.surrogate_rope.specs.Ropes.{IsRopeOf, octets_of}
@@ -21,7 +21,3 @@ shown_octets msg (Rope rope) = octets_of msg rope
 abbrev pub shown_outlines : Shown → List Outline
 shown_outlines (Whole tree) = outlines_of tree.entities
 shown_outlines (Rope rope) = rope.entities
-
--- what is known of an entity, as the program tells it
-abbrev pub seen_outline : OutlineOf → Outline
-seen_outline outline = record { parent = outline.parent; depth = outline.depth; at = outline.at; body = outline.body; end = outline.end; shape = outline.shape }

@@ -1,28 +1,39 @@
 //! Makes the surrogate of a message, block by block.
-ghost use Rattle.std.specs.Prelude.{◌↔◌, ◌≡◌, ◌+◌, ◌<◌, ◌≤◌, ℕ, length, IfOk, OnOk, IsTrue};
+ghost use Rattle.std.specs.Prelude.{◌↔◌, ◌≡◌, ◌+◌, ◌-◌, ◌^◌, ◌<◌, ◌≤◌, length, slice_range, IfOk, OnOk, IsTrue};
 ghost use Rattle.utf8_fields.specs.Parts.{IsField};
 ghost use Rattle.field_downgrade.specs.Message.{IsServedField};
-ghost use Rattle.mime_tree.specs.Openings.{AreFieldsWithin};
+ghost use Rattle.mime_tree.specs.Openings.{AreFieldsWithin, AreFieldsJoined};
 ghost use Rattle.mime_tree.specs.Tree.{HasTree, raws_of};
 ghost use Rattle.surrogate_rope.specs.Layout.{IsOpenGlobal, InEntity};
-ghost use Rattle.surrogate_rope.specs.private.Building.{IsFew, Copies, AddsField, AddsBlock, HasServedBlocks};
+ghost use Rattle.surrogate_rope.specs.Ropes.{size_of, range_size};
+ghost use Rattle.surrogate_rope.specs.private.Building.{ReachesPlace, written, with_kept, AddsField, AddsBlock, IsAllMade};
 
+use crate::moving::End;
+use crate::pieces::Pieces;
 use field_downgrade::{Rewrite, downgrade_field};
-use mail_wire::{Memory, Octets};
+use mail_wire::{Memory, Span};
 use mime_tree::{Entity, Shape, Tree, first_value};
 use param_2231::find_global;
 use std::alloc::Global;
 
-/// The octets of a surrogate, and how many of its fields were made anew.
+// The room that a surrogate begins with: that of a few fields that are made anew.
+const FEW_PIECES: usize = 16;
+
+const FEW_OCTETS: usize = 512;
+
+/// What of a surrogate is made.
 #[derive(Drop)]
 pub struct Made {
-    pub octets: Octets,
+    pub pieces: Pieces,
+    /// From where on the octets of the message are kept and not yet a piece.
+    pub from: usize,
+    /// How many fields were made anew.
     pub rewritten: usize,
 }
 
-// One more, where so many octets are more than that.
-fn count_one(count: usize, octets: usize) -> usize
-    requires { count < octets }
+// One more, where there are more pieces than that.
+fn count_one(count: usize, pieces: usize) -> usize
+    requires { count < pieces }
     ensures { result ≡ count + 1 }
 {
     count + 1
@@ -47,26 +58,43 @@ fn is_open_global(alloc: Global, msg: &[u8], entity: &Entity) -> Result<bool, Me
 }
 
 impl Made {
-    // Copies the octets of the message between these places.
-    fn copy(&mut self, msg: &[u8], from: usize, to: usize) -> Result<(), Memory>
-        requires order { from ≤ to }
-        requires fits { to ≤ length msg.now }
-        ensures { OnOk result (Copies msg.now from to self.old self.new) }
+    // Makes a piece of the octets of the message up to this place that are kept.
+    fn put_kept(&mut self, to: usize) -> Result<(), Memory>
+        requires { range_size self.old.pieces + (to - self.old.from) < 2 ^ 63 }
+        ensures { OnOk result (self.new ≡ record self.old { pieces = with_kept self.old to }) }
     {
-        self.octets.push_slice(&msg[from..to])
+        if self.from < to {
+            self.pieces.push_range(Span {
+                at: self.from,
+                len: to - self.from,
+            })?;
+        }
+        Ok(())
     }
 
-    // Rewrites a field. One that is made anew has an octet, so there is always a next number.
-    fn push_field(&mut self, alloc: Global, raw: &[u8], open_global: bool) -> Result<(), Memory>
-        requires field { IsField raw.now }
-        requires few { IsFew self.old }
-        ensures { OnOk result (AddsField (IsServedField open_global raw.now) raw.now self.old self.new) }
+    // Rewrites a field. One that is made anew has a piece, so there is always a next number.
+    fn push_field(
+        &mut self,
+        alloc: Global,
+        msg: &[u8],
+        field: Span,
+        open_global: bool,
+    ) -> Result<(), Memory>
+        requires stands { ReachesPlace msg.now field.at self.old }
+        requires fits { field.at + field.len ≤ length msg.now }
+        requires field { IsField (slice_range msg.now field.at (field.at + field.len)) }
+        ensures stands { OnOk result (ReachesPlace msg.now (field.at + field.len) self.new) }
+        ensures adds { OnOk result (AddsField (IsServedField open_global (slice_range msg.now field.at (field.at + field.len)))
+            (slice_range msg.now field.at (field.at + field.len)) (written msg.now field.at self.old) (written msg.now (field.at + field.len) self.new)) }
     {
-        match downgrade_field(alloc, raw, open_global)? {
-            Rewrite::Keep => self.octets.push_slice(raw),
+        let end = field.at + field.len;
+        match downgrade_field(alloc, &msg[field.at..end], open_global)? {
+            Rewrite::Keep => Ok(()),
             Rewrite::New(made) => {
-                self.octets.push_slice(made.as_slice())?;
-                self.rewritten = count_one(self.rewritten, self.octets.len());
+                self.put_kept(field.at)?;
+                self.pieces.push_new(made.as_slice())?;
+                self.from = end;
+                self.rewritten = count_one(self.rewritten, self.pieces.len());
                 Ok(())
             }
         }
@@ -75,33 +103,47 @@ impl Made {
     // Rewrites each field of an entity's block.
     fn push_block(&mut self, alloc: Global, msg: &[u8], entity: &Entity) -> Result<(), Memory>
         requires within { AreFieldsWithin msg.now entity.now.block.fields }
-        requires few { IsFew self.old }
-        ensures { OnOk result (AddsBlock (InEntity IsServedField msg.now entity.now) (raws_of msg.now entity.now.block) self.old self.new) }
+        requires joined { AreFieldsJoined entity.now.at entity.now.block.fields entity.now.block.end }
+        requires stands { ReachesPlace msg.now entity.now.at self.old }
+        ensures stands { OnOk result (ReachesPlace msg.now entity.now.block.end self.new) }
+        ensures adds { OnOk result (AddsBlock (InEntity IsServedField msg.now entity.now) (raws_of msg.now entity.now.block)
+            (written msg.now entity.now.at self.old) (written msg.now entity.now.block.end self.new)) }
     {
         let open_global = is_open_global(alloc, msg, entity)?;
         for field in entity.block.fields.as_slice() {
-            let raw = &msg[field.raw.at..field.raw.at + field.raw.len];
-            self.push_field(alloc, raw, open_global)?;
+            self.push_field(alloc, msg, field.raw, open_global)?;
         }
         Ok(())
     }
+
+    // Where this place of the message is in the surrogate.
+    fn place(&self, at: usize) -> usize
+        requires from { self.now.from ≤ at }
+        requires fits { size_of self.now.pieces + (at - self.now.from) < 2 ^ 64 }
+        ensures { result ≡ size_of self.now.pieces + (at - self.now.from) }
+    {
+        self.pieces.size() + (at - self.from)
+    }
 }
 
-/// Rewrites the blocks of a message, and copies what stands between them.
-pub fn make_surrogate(alloc: Global, msg: &[u8], tree: &Tree) -> Result<Made, Memory>
+/// Rewrites the blocks of a message, and tells where each ends.
+pub fn make_pieces(alloc: Global, msg: &[u8], tree: &Tree) -> Result<(Made, Vec<End>), Memory>
     requires { HasTree msg.now tree.now.entities }
-    ensures { IfOk result (HasServedBlocks msg.now tree.now.entities) }
+    ensures { IfOk result (λ made. IsAllMade msg.now tree.now.entities made.0 made.1.items) }
 {
     let mut made = Made {
-        octets: Octets::new(alloc),
+        pieces: Pieces::with_room(alloc, FEW_PIECES, FEW_OCTETS)?,
+        from: 0,
         rewritten: 0,
     };
-    let mut at = 0;
+    let mut ends = Vec::with_capacity(alloc, tree.entities.len())?;
     for entity in tree.entities.as_slice() {
-        made.copy(msg, at, entity.at)?;
         made.push_block(alloc, msg, entity)?;
-        at = entity.block.end;
+        ends.push(End {
+            at: entity.block.end,
+            made: made.place(entity.block.end),
+        })?;
     }
-    made.copy(msg, at, msg.len())?;
-    Ok(made)
+    made.put_kept(msg.len())?;
+    Ok((made, ends))
 }

@@ -3,8 +3,12 @@
 
 mod building;
 pub mod laws;
+mod moving;
+mod pieces;
 mod rope;
 mod shown;
+mod storing;
 
+pub use mime_tree::Outline;
 pub use rope::Rope;
-pub use shown::{Outline, Shown};
+pub use shown::Shown;

@@ -1,50 +1,22 @@
 //! What is shown of a message: the message itself, or its surrogate.
-ghost use Rattle.std.specs.Prelude.{◌≡◌, ◌-◌, ◌++◌, length, map, take, drop, min, IfOk};
+ghost use Rattle.std.specs.Prelude.{◌≡◌, ◌+◌, ◌-◌, ◌^◌, ◌<◌, ◌++◌, length, map, take, drop, min, IfOk};
 ghost use Rattle.mime_tree.specs.Sections.{section};
-ghost use Rattle.mime_tree.specs.Outlines.{outlines_of, outline_of};
-ghost use Rattle.surrogate_rope.specs.Served.{IsShownOf, shown_octets, shown_outlines, seen_outline};
+ghost use Rattle.mime_tree.specs.Outlines.{outlines_of, seen_outline};
+ghost use Rattle.surrogate_rope.specs.Served.{IsShownOf, shown_octets, shown_outlines};
 
-use crate::rope::{Rope, copy_from};
+use crate::pieces::{copy_from, rest_of};
+use crate::rope::Rope;
 use mail_wire::{Memory, Span};
-use mime_tree::{Entity, Part, Shape, Tree};
+use mime_tree::{Entity, Outline, Outlined, Part, Tree};
 use std::alloc::Global;
 
-/// What is known of an entity of what is shown, without its header block.
-#[derive(Clone, Copy)]
-pub struct Outline {
-    /// The number of the entity that this one is in.
-    pub parent: Option<usize>,
-    /// 1 for the whole message.
-    pub depth: u32,
-    /// Where it begins.
-    pub at: usize,
-    /// Where its content begins.
-    pub body: usize,
-    /// Where it ends.
-    pub end: usize,
-    pub shape: Shape,
-}
-
-fn outline_of(entity: &Entity) -> Outline
-    ensures { seen_outline result ≡ outline_of entity.now }
-{
-    Outline {
-        parent: entity.parent,
-        depth: entity.depth,
-        at: entity.at,
-        body: entity.body,
-        end: entity.end,
-        shape: entity.shape,
-    }
-}
-
 /// The outlines of entities, in their order.
-pub(crate) fn outlines_of(alloc: Global, entities: &[Entity]) -> Result<Vec<Outline>, Memory>
+fn outlines_of(alloc: Global, entities: &[Entity]) -> Result<Vec<Outline>, Memory>
     ensures { IfOk result (λ made. map seen_outline made.items ≡ outlines_of entities.now) }
 {
     let mut made = Vec::new(alloc);
     for entity in entities {
-        made.push(outline_of(entity))?;
+        made.push(entity.outline())?;
     }
     Ok(made)
 }
@@ -65,6 +37,19 @@ impl Shown {
         match self {
             Shown::Whole(_) => msg.len(),
             Shown::Rope(rope) => rope.size(),
+        }
+    }
+
+    /// The octets of what is shown that stand together from `offset` on, in the message or among the new octets: none only behind its end.
+    pub fn run_at<'a>(&'a self, msg: &'a [u8], offset: usize) -> &'a [u8]
+        requires { IsShownOf msg.now self.now }
+        ensures run { result.now ≡ take (length result.now) (drop offset (shown_octets msg.now self.now)) }
+        ensures some { offset < length (shown_octets msg.now self.now) → 0 < length result.now }
+        ensures few { offset + length result.now < 2 ^ 64 }
+    {
+        match self {
+            Shown::Whole(_) => rest_of(msg, offset),
+            Shown::Rope(rope) => rope.run_at(msg, offset),
         }
     }
 

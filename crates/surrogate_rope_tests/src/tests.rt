@@ -1,5 +1,5 @@
 //! The ropes of worked messages, by the public calls.
-ghost use Rattle.std.specs.Prelude.{IfSome};
+ghost use Rattle.std.specs.Prelude.{◌≡◌, IfSome, IfOk};
 ghost use Rattle.surrogate_rope.specs.Ropes.{IsRopeOf};
 ghost use Rattle.surrogate_rope.specs.Served.{IsShownOf};
 
@@ -225,5 +225,133 @@ fn the_message_is_read_in_pieces(rt: HostRuntime) -> Result<(), Fail> {
     assert!(rt; shown.read_at(msg, 479, &mut buffer) == 2 && buffer == [13, 10, 9]);
     assert!(rt; shown.read_at(msg, 481, &mut buffer) == 0);
     assert!(rt; shown.read_at(msg, 482, &mut buffer) == 0 && buffer == [13, 10, 9]);
+    Ok(())
+}
+
+// Whether so many octets from each place on are those of the surrogate.
+fn reads_alike(rope: &Rope, msg: &[u8], made: &[u8], lens: &[usize]) -> bool
+    requires { IsRopeOf msg.now rope.now }
+{
+    for offset in 0..560 {
+        let rest = match made.get(offset..) {
+            Some(rest) => rest,
+            None => &[],
+        };
+        for len in lens {
+            let mut buffer = [9; 600];
+            let wanted = (*len).min(600);
+            let count = rope.read_at(msg, offset, &mut buffer[..wanted]);
+            if count != wanted.min(rest.len()) || !rest.starts_with(&buffer[..count]) {
+                return false;
+            }
+        }
+    }
+    true
+}
+
+#[test]
+fn each_place_is_read(rt: HostRuntime) -> Result<(), Fail> {
+    let Some(rope) = rope_of(rt.alloc(), MENU.as_bytes()) else {
+        assert!(rt; false);
+        return Ok(());
+    };
+    let lens = [0, 1, 2, 7, 33, 90, 180, 400, 551, 600];
+    assert!(rt; reads_alike(&rope, MENU.as_bytes(), MENU_MADE.as_bytes(), &lens));
+    let Some(rope) = rope_of(rt.alloc(), GLOBAL.as_bytes()) else {
+        assert!(rt; false);
+        return Ok(());
+    };
+    for len in 0..125 {
+        assert!(rt; reads_alike(&rope, GLOBAL.as_bytes(), GLOBAL_MADE.as_bytes(), &[len]));
+    }
+    Ok(())
+}
+
+// Whether the runs of a rope have these lengths, one behind another, and are the surrogate.
+fn has_runs(rope: &Rope, msg: &[u8], made: &[u8], lens: &[usize]) -> bool
+    requires { IsRopeOf msg.now rope.now }
+{
+    let mut rest = made;
+    let mut at = 0;
+    for len in lens {
+        let run = rope.run_at(msg, at);
+        let Some(behind) = rest.strip_prefix(run) else {
+            return false;
+        };
+        if run.len() != *len {
+            return false;
+        }
+        rest = behind;
+        at += run.len();
+    }
+    rest.is_empty() && rope.run_at(msg, at).is_empty()
+}
+
+// Whether what stands together from each place on is some of the surrogate.
+fn runs_alike(shown: &Shown, msg: &[u8], made: &[u8]) -> bool
+    requires { IsShownOf msg.now shown.now }
+{
+    for offset in 0..560 {
+        let rest = made.get(offset..).unwrap_or(&[]);
+        let run = shown.run_at(msg, offset);
+        if run.is_empty() != rest.is_empty() || !rest.starts_with(run) {
+            return false;
+        }
+    }
+    true
+}
+
+#[test]
+fn a_surrogate_is_read_in_runs(rt: HostRuntime) -> Result<(), Fail> {
+    let msg = MENU.as_bytes();
+    let Some(rope) = rope_of(rt.alloc(), msg) else {
+        assert!(rt; false);
+        return Ok(());
+    };
+    let lens = [50, 27, 51, 235, 63, 69, 56];
+    assert!(rt; has_runs(&rope, msg, MENU_MADE.as_bytes(), &lens));
+    assert!(rt; runs_alike(&Shown::Rope(rope), msg, MENU_MADE.as_bytes()));
+    let Ok(tree) = read_tree(rt.alloc(), msg) else {
+        assert!(rt; false);
+        return Ok(());
+    };
+    let shown = Shown::Whole(tree);
+    assert!(rt; runs_alike(&shown, msg, msg) && shown.run_at(msg, 0).len() == 481);
+    Ok(())
+}
+
+// The rope that is loaded from the stored form of this one, and how many octets that form has.
+fn again(alloc: Global, rope: &Rope) -> Result<(Rope, usize), Memory>
+    ensures { IfOk result (λ made. made.0 ≡ rope.now) }
+{
+    let stored = rope.store(alloc)?;
+    let loaded = Rope::load(alloc, stored.as_slice())?;
+    Ok((loaded, stored.len()))
+}
+
+#[test]
+fn a_stored_rope_is_small_and_loaded(rt: HostRuntime) -> Result<(), Fail> {
+    let msg = MENU.as_bytes();
+    let Some(rope) = rope_of(rt.alloc(), msg) else {
+        assert!(rt; false);
+        return Ok(());
+    };
+    let (loaded, size) = again(rt.alloc(), &rope)?;
+    assert!(rt; size == 24 + 3 * 17 + 4 * 9 + 233 + 3 * 41 && size <= 617);
+    assert!(rt; loaded.size() == 551 && loaded.rewritten() == 4);
+    assert!(rt; reads_alike(&loaded, msg, MENU_MADE.as_bytes(), &[600]));
+    assert!(rt;
+        stands_at(
+            MENU_MADE.as_bytes(),
+            loaded.section(&[2], Part::Whole),
+            Some("JVBERg==")
+        )
+    );
+    let Some(whole) = rope_of(rt.alloc(), SHUT.as_bytes()) else {
+        assert!(rt; false);
+        return Ok(());
+    };
+    let (_loaded, size) = again(rt.alloc(), &whole)?;
+    assert!(rt; size == 24 + 17 + 2 * 41);
     Ok(())
 }

@@ -8,7 +8,7 @@ use Rattle.utf8_reports.proofs.shown.surrogate_header.Goals as goal
 
 pub returns : goal.returns
 returns c =
-    let rope = c.in_ok-rope.ensures in
+    let rope = c.in_ok-rope.ensures.rope in
     let holds = c.header_span-span.ensures c.args.msg.now rope in
     IfOk-weaker c.header_of.result (HasEndedHeader c.as_slice.result.now) (IsShownHeader false c.args.msg.now)
     (λ header has. record {

@@ -1,15 +1,20 @@
-use Rattle.std.proofs.Common.{sym, ◌∙◌}
-use Rattle.std.proofs.lemmas.Bool.{true≢false}
-use Rattle.surrogate_rope.proofs.BuiltRopes.{rope_read, made_sound, memory_alone}
+use Rattle.std.proofs.Common.{map, rules}
+use Rattle.mime_tree.specs.Outlines.{seen_outline}
+use Rattle.surrogate_rope.proofs.BuiltRopes.{built_rope, built_new, built_places, built_parents}
 use Rattle.surrogate_rope.proofs.rope.Rope.build.Goals as goal
 
-pub read_sound_tree-requires : goal.read_sound_tree-requires
-read_sound_tree-requires c = made_sound c.args.msg.now c.args.tree.now.entities c.in_ok-made.made c.as_slice.result.now c.requires c.in_ok-made.ensures c.as_slice.ensures
+pub moved_outlines-requires-clause-places : goal.moved_outlines-requires-clause-places
+moved_outlines-requires-clause-places c =
+    rw c.as_slice.ensures (built_places c.args.msg.now c.args.tree.now.entities c.requires (search rules))
 
-pub unreachable-requires : goal.unreachable-requires
-unreachable-requires c =
-    true≢false (sym (c.is_memory.ensures.1 (memory_alone c.args.msg.now c.args.tree.now.entities c.in_ok-made.made c.as_slice.result.now _ c.requires c.in_ok-made.ensures c.as_slice.ensures c.in-Err.ensures.exact))
-    ∙ c.if-not-is_memory.true)
+pub invariant_of-result : goal.invariant_of-result
+invariant_of-result c =
+    (c.in_ok-made.ensures.few, built_parents c.args.msg.now c.args.tree.now.entities _ _ c.requires (rw c.as_slice.ensures at c.in_ok-outlines.ensures) (search rules))
 
-pub returns-in-Ok : goal.returns-in-Ok
-returns-in-Ok c = rope_read c.args.msg.now c.args.tree.now.entities c.in_ok-made.made c.as_slice.result.now c.in-Ok.tree.entities c.requires c.in_ok-made.ensures c.as_slice.ensures c.in-Ok.ensures.exact
+pub returns-clause-rope : goal.returns-clause-rope
+returns-clause-rope c =
+    built_rope c.args.msg.now c.args.tree.now.entities c.in_ok-made.made c.in_ok-made.ends.items (map seen_outline c.in_ok-outlines.outlines.items) c.requires c.in_ok-made.ensures
+    (rw (c.as_slice.ensures, c.deref.ensures.value) at c.in_ok-outlines.ensures)
+
+pub returns-clause-new : goal.returns-clause-new
+returns-clause-new c = built_new c.args.msg.now c.args.tree.now.entities c.in_ok-made.made c.in_ok-made.ends.items (map seen_outline c.in_ok-outlines.outlines.items) c.in_ok-made.ensures
