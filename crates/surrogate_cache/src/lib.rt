@@ -2,8 +2,10 @@
 #![tactic(auto)]
 
 mod cache;
+mod giving;
 pub mod laws;
 mod view;
 
 pub use cache::Cache;
+pub use giving::give_range;
 pub use view::{Enabled, Legacy, View};

@@ -1,11 +1,11 @@
 //! What is shown of a message, in both kinds.
 ghost use Rattle.surrogate_rope.specs.Served.{IsShownOf};
 
-use mail_wire::{Memory, Octets};
+use mail_wire::{Entry, Failed, Failure, MemWire, Memory, Octets};
 use mime_tree::read_tree;
 use std::alloc::Global;
 use std::test::Fail;
-use surrogate_cache::{Cache, Enabled, Legacy, View};
+use surrogate_cache::{Cache, Enabled, Legacy, View, give_range};
 use surrogate_rope::Shown;
 
 // All that is shown, read in pieces of seven octets.
@@ -46,5 +46,64 @@ fn fields_of_inner_messages_are_shown_by_kind(rt: HostRuntime) -> Result<(), Fai
         "Content-Type: message/rfc822\r\n\r\nSubject:\r\n =?UTF-8?B?w6k=?=\r\n\r\né".as_bytes();
     assert!(rt; shown::<Legacy>(rt.alloc(), message)?.as_slice() == made);
     assert!(rt; shown::<Enabled>(rt.alloc(), message)?.as_slice() == message);
+    Ok(())
+}
+
+// What is left on a wire of a range of what is shown: the answer, and each part that was given.
+fn given<V: View>(
+    alloc: Global,
+    msg: &[u8],
+    at: usize,
+    len: usize,
+    failures: &[Failure],
+) -> Result<(Result<(), Failed>, Vec<Entry>), Fail> {
+    let tree = read_tree(alloc, msg).map_err(|_| "no tree")?;
+    let mut cache = Cache::plain();
+    let shown = V::show(alloc, &mut cache, 0, msg, tree)?;
+    let size = shown.size(msg);
+    if size < len || size - len < at {
+        return Err(Fail::from("no such range"));
+    }
+    let mut wire = MemWire::new(
+        alloc,
+        Octets::new(alloc),
+        Vec::new(alloc),
+        Vec::from_slice(alloc, failures)?,
+    );
+    let answer = give_range(&shown, msg, at, len, &mut wire);
+    Ok((answer, wire.into_entries()))
+}
+
+// Whether these parts were given, and nothing was taken.
+fn are_given(entries: &[Entry], parts: &[&str]) -> bool {
+    entries.len() == parts.len()
+        && entries.iter().zip(parts).all(|(entry, part)| match entry {
+            Entry::Given(octets) => octets.as_slice() == part.as_bytes(),
+            Entry::Taken(_) => false,
+        })
+}
+
+const STORED: &str = "A: b\r\nSubject: é\r\nC: d\r\n\r\nx\r\n";
+
+#[test]
+fn a_range_is_given_run_by_run(rt: HostRuntime) -> Result<(), Fail> {
+    let message = STORED.as_bytes();
+    let made = "Subject:\r\n =?UTF-8?B?w6k=?=\r\n";
+    let (answer, entries) = given::<Legacy>(rt.alloc(), message, 0, 46, &[])?;
+    assert!(rt; answer.is_ok() && are_given(&entries, &["A: b\r\n", made, "C: d\r\n\r\nx\r\n"]));
+    let (answer, entries) = given::<Legacy>(rt.alloc(), message, 3, 38, &[])?;
+    assert!(rt; answer.is_ok() && are_given(&entries, &["b\r\n", made, "C: d\r\n"]));
+    let (answer, entries) = given::<Legacy>(rt.alloc(), message, 46, 0, &[])?;
+    assert!(rt; answer.is_ok() && entries.is_empty());
+    let (answer, entries) = given::<Enabled>(rt.alloc(), message, 6, 11, &[])?;
+    assert!(rt; answer.is_ok() && are_given(&entries, &["Subject: é"]));
+    Ok(())
+}
+
+#[test]
+fn a_wire_that_fails_was_given_a_prefix(rt: HostRuntime) -> Result<(), Fail> {
+    let failure = Failure { call: 1, kept: 3 };
+    let (answer, entries) = given::<Legacy>(rt.alloc(), STORED.as_bytes(), 3, 38, &[failure])?;
+    assert!(rt; answer == Err(Failed::Outside) && are_given(&entries, &["b\r\n", "Sub"]));
     Ok(())
 }
