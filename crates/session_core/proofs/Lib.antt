@@ -15,3 +15,4 @@ pub mod TranscriptLemmas
 pub mod ServingLemmas
 pub mod StoreTurns
 pub mod MomentLemmas
+pub mod ServedSizes

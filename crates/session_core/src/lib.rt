@@ -3,6 +3,7 @@
 
 mod desk;
 mod feeding;
+mod giving;
 pub mod laws;
 mod machine;
 mod outside;
@@ -11,6 +12,7 @@ mod serving;
 
 pub use desk::{Desk, LIMITS, Limits, next_desk, open_desk};
 pub use feeding::{Reading, Session, feed};
+pub use giving::Giving;
 pub use machine::{Came, Machine};
 pub use outside::{Created, Delivered, Outside, Stamp};
 pub use rows::{Framed, Rows, Wants};

@@ -1,8 +1,8 @@
 //! All that a session meets, as one value: its wire, its keeper, its clock, and the desk that it is served from.
-ghost use Rattle.std.specs.Prelude.{◌≡◌, ◌<◌, ◌≤◌, ◌==◌, ◌∷◌, length, IfOk, OnErr, Err, None, false, []};
+ghost use Rattle.std.specs.Prelude.{◌≡◌, ◌+◌, ◌<◌, ◌≤◌, ◌==◌, ◌∷◌, ℕ, List, length, take, drop, IfOk, OnErr, Err, None, false, []};
 ghost use Rattle.std.specs.List.{IsDistinct};
 ghost use Rattle.mail_wire.specs.Keeping.{HasKeeperCause};
-ghost use Rattle.mail_wire.specs.Moves.{TakesNothing, TakesPiece};
+ghost use Rattle.mail_wire.specs.Moves.{GivesOrFails, HasWireCause, TakesNothing, TakesPiece};
 ghost use Rattle.journal_records.specs.Grammar.{IsFolderName, kept_name};
 ghost use Rattle.journal_records.specs.declared.records.Record.TheVariants as records;
 ghost use Rattle.mail_store.specs.Changing.{IsAppendable, IsDeliverable, append_refusal, delivery_refusal, expunged, expunge_refusal, flags_refusal, folder_refusal, settle_refusal};
@@ -16,12 +16,14 @@ ghost use Rattle.session_core.specs.Doing.{IsChanged, Makes, Replies};
 ghost use Rattle.session_core.specs.Keeps.{Keeps, fault_of};
 
 use crate::desk::{Desk, Limits};
+use crate::giving::{Giving, ShownRange, StoredRange};
 use kept_mail::Delivery;
 use mail_store::{Store, StoreFault};
 use mail_wire::{
-    Clock, Fault, Keeper, Memory, Octets, Wire, date_text, give_all, internal_date, take_piece,
+    Clock, Fault, Keeper, Memory, Octets, Span, Wire, date_text, give_all, internal_date,
+    take_piece,
 };
-use mime_tree::{TreeFault, read_tree};
+use mime_tree::{TreeFault, read_sound_tree};
 use std::alloc::Global;
 use std::marker::Model;
 use surrogate_cache::{Cache, View};
@@ -92,11 +94,47 @@ fn show_message<V: View>(
     ensures headers { IfOk result (λ shown. HasServedHeaders V.mode (shown_octets (stored_octets store.now id) shown)) }
 {
     let octets = store.octets(id);
-    match read_tree(alloc, octets) {
+    match read_sound_tree(alloc, octets) {
         Ok(tree) => V::show(alloc, cache, id, octets, tree),
         Err(TreeFault::Memory) => Err(Memory),
         // It has a tree.
         Err(_) => unreachable!(),
+    }
+}
+
+// How many octets a session of this kind is served of a message. A legacy one is served its surrogate, which takes its tree.
+fn served_size<V: View>(
+    alloc: Global,
+    store: &Store,
+    cache: &mut Cache,
+    id: u32,
+) -> Result<usize, Memory>
+    requires { id < length store.now.kept.messages }
+    ensures { IfOk result (λ size. (shown : List ℕ) × IsServed V.mode (stored_octets store.now id) shown × (size ≡ length shown)) }
+{
+    if V::enabled() {
+        return Ok(store.octets(id).len());
+    }
+    let shown = show_message::<V>(alloc, store, cache, id)?;
+    Ok(shown.size(store.octets(id)))
+}
+
+// Gives of a message.
+fn give_from<G: Giving, W: Wire>(
+    store: &Store,
+    id: u32,
+    giving: &G,
+    wire: &mut W,
+) -> Result<(), Fault>
+    requires id { id < length store.now.kept.messages }
+    requires fits { G.fits giving.now (stored_octets store.now id) }
+    ensures gives { GivesOrFails (W.tells wire.old) (W.tells wire.new) result (G.given giving.now (stored_octets store.now id)) }
+    ensures cause { HasWireCause (W.tells wire.old) (W.tells wire.new) result Fault.Wire }
+    ensures keeper { ¬ (result ≡ Err Fault.Keeper) }
+{
+    match giving.give_to(store.octets(id), wire) {
+        Ok(()) => Ok(()),
+        Err(failed) => Err(Fault::from(failed)),
     }
 }
 
@@ -334,6 +372,15 @@ impl<'w, 'k, 'c, W: Wire, J: Keeper, C: Clock> Outside<'w, 'k, 'c, W, J, C> {
         show_message::<V>(self.alloc, &self.desk.store, &mut self.desk.cache, id)
     }
 
+    /// How many octets a session of this kind is served of a message of the store. Where UTF-8 is enabled no tree is read for it.
+    pub fn size<V: View>(&mut self, id: u32) -> Result<usize, Memory>
+        requires { id < length self.old.desk.store.kept.messages }
+        ensures size { IfOk result (λ size. (shown : List ℕ) × IsServed V.mode (stored_octets self.old.desk.store id) shown × (size ≡ length shown)) }
+        ensures same { self.new ≡ self.old }
+    {
+        served_size::<V>(self.alloc, &self.desk.store, &mut self.desk.cache, id)
+    }
+
     /// Takes the next piece, which is empty only at the end of input.
     pub fn take(&mut self, into: &mut [u8]) -> Result<usize, Fault>
         requires { 0 < length into.old }
@@ -353,6 +400,37 @@ impl<'w, 'k, 'c, W: Wire, J: Keeper, C: Clock> Outside<'w, 'k, 'c, W, J, C> {
         ensures keeps { Keeps self.old self.new (fault_of result) }
     {
         give_all(self.wire, octets)
+    }
+
+    /// Gives of a message of the store, whose octets are lent meanwhile.
+    pub fn give_of<G: Giving>(&mut self, id: u32, giving: &G) -> Result<(), Fault>
+        requires id { id < length self.old.desk.store.kept.messages }
+        requires fits { G.fits giving.now (stored_octets self.old.desk.store id) }
+        ensures replies { Replies self.old self.new (fault_of result) (G.given giving.now (stored_octets self.old.desk.store id)) }
+        ensures keeps { Keeps self.old self.new (fault_of result) }
+    {
+        give_from(&self.desk.store, id, giving, self.wire)
+    }
+
+    /// Gives a range of what is shown of a message of the store.
+    pub fn give_range(&mut self, id: u32, shown: &Shown, span: Span) -> Result<(), Fault>
+        requires id { id < length self.old.desk.store.kept.messages }
+        requires shown { IsShownOf (stored_octets self.old.desk.store id) shown.now }
+        requires within { span.at + span.len ≤ length (shown_octets (stored_octets self.old.desk.store id) shown.now) }
+        ensures replies { Replies self.old self.new (fault_of result) (take span.len (drop span.at (shown_octets (stored_octets self.old.desk.store id) shown.now))) }
+        ensures keeps { Keeps self.old self.new (fault_of result) }
+    {
+        self.give_of(id, &ShownRange { shown, span })
+    }
+
+    /// Gives a range of a message of the store as it is stored, for which no tree is read.
+    pub fn give_stored(&mut self, id: u32, span: Span) -> Result<(), Fault>
+        requires id { id < length self.old.desk.store.kept.messages }
+        requires within { span.at + span.len ≤ length (stored_octets self.old.desk.store id) }
+        ensures replies { Replies self.old self.new (fault_of result) (take span.len (drop span.at (stored_octets self.old.desk.store id))) }
+        ensures keeps { Keeps self.old self.new (fault_of result) }
+    {
+        self.give_of(id, &StoredRange { span })
     }
 
     /// Keeps a message for each local account, and puts one into the queue for the remote recipients, all by one call of the

@@ -6,6 +6,8 @@
 mod changing;
 mod echo;
 #[cfg(test)]
+mod giving;
+#[cfg(test)]
 mod tests;
 
 pub use echo::Echo;

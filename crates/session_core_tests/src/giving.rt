@@ -1,0 +1,101 @@
+//! Sizes and ranges of a message of the store, by the calls of the outside.
+use journal_records::{Record, push_record};
+use mail_wire::{Entry, FixedClock, MemKeeper, MemWire, Memory, Octets, Span};
+use session_core::{LIMITS, Outside, open_desk};
+use std::alloc::Global;
+use std::test::Fail;
+use surrogate_cache::{Enabled, Legacy, View};
+
+const MESSAGE: &str = "Subject: é\r\n\r\n.x\r\n";
+
+const SURROGATE: &str = "Subject:\r\n =?UTF-8?B?w6k=?=\r\n\r\n.x\r\n";
+
+// The journal of an account and its message.
+fn journal_of(alloc: Global) -> Result<Octets, Memory> {
+    let mut journal = Octets::from_slice(alloc, b"MAILJNL1")?;
+    let name = Octets::from_slice(alloc, b"x.org")?;
+    push_record(&mut journal, &Record::Domain { name })?;
+    let address = Octets::from_slice(alloc, b"a@x.org")?;
+    let password = Octets::from_slice(alloc, b"pw")?;
+    push_record(&mut journal, &Record::Account { address, password })?;
+    let message = Record::Message {
+        folder: 0,
+        flags: 0,
+        date: Octets::from_slice(alloc, b"01-Jan-1970 00:00:00 +0000")?,
+        octets: Octets::from_slice(alloc, MESSAGE.as_bytes())?,
+    };
+    push_record(&mut journal, &message)?;
+    Ok(journal)
+}
+
+// How many octets a session of this kind is served of the message.
+fn size<V: View>(outside: &mut Outside<MemWire, MemKeeper, FixedClock>) -> Result<usize, Fail> {
+    if outside.store().message_count() == 0 {
+        return Err(Fail::from("no message"));
+    }
+    Ok(outside.size::<V>(0)?)
+}
+
+// Gives a range of what a session of this kind is shown of the message.
+fn give_shown<V: View>(
+    outside: &mut Outside<MemWire, MemKeeper, FixedClock>,
+    span: Span,
+) -> Result<(), Fail> {
+    if outside.store().message_count() == 0 {
+        return Err(Fail::from("no message"));
+    }
+    let shown = outside.show::<V>(0)?;
+    let size = shown.size(outside.octets(0));
+    if size < span.at || size - span.at < span.len {
+        return Err(Fail::from("no such range"));
+    }
+    Ok(outside.give_range(0, &shown, span)?)
+}
+
+// Gives a range of the message as it is stored.
+fn give_stored(
+    outside: &mut Outside<MemWire, MemKeeper, FixedClock>,
+    span: Span,
+) -> Result<(), Fail> {
+    if outside.store().message_count() == 0 {
+        return Err(Fail::from("no message"));
+    }
+    let size = outside.octets(0).len();
+    if size < span.at || size - span.at < span.len {
+        return Err(Fail::from("no such range"));
+    }
+    Ok(outside.give_stored(0, span)?)
+}
+
+fn octets_given(alloc: Global, wire: &MemWire) -> Result<Octets, Memory> {
+    let mut octets = Octets::new(alloc);
+    for entry in wire.entries() {
+        if let Entry::Given(more) = entry {
+            octets.push_slice(more.as_slice())?;
+        }
+    }
+    Ok(octets)
+}
+
+#[test]
+fn ranges_are_given_as_they_are_served(rt: HostRuntime) -> Result<(), Fail> {
+    let alloc = rt.alloc();
+    let mut keeper = MemKeeper::new(journal_of(alloc)?, Vec::new(alloc));
+    let desk = open_desk(alloc, &mut keeper, LIMITS)?;
+    let mut wire = MemWire::new(alloc, Octets::new(alloc), Vec::new(alloc), Vec::new(alloc));
+    let mut clock = FixedClock::new(0);
+    let mut outside = Outside::new(alloc, desk, &mut wire, &mut keeper, &mut clock);
+    let stored = size::<Enabled>(&mut outside)?;
+    assert!(rt; stored == MESSAGE.len());
+    let served = size::<Legacy>(&mut outside)?;
+    assert!(rt; served == SURROGATE.len());
+    give_shown::<Legacy>(&mut outside, Span { at: 8, len: 25 })?;
+    give_shown::<Enabled>(&mut outside, Span { at: 0, len: 7 })?;
+    give_stored(&mut outside, Span { at: 17, len: 1 })?;
+    give_stored(&mut outside, Span { at: 18, len: 0 })?;
+    let (_desk, _wire, _keeper, _clock) = outside.into_parts();
+    let given = octets_given(alloc, &wire)?;
+    let want = "\r\n =?UTF-8?B?w6k=?=\r\n\r\n.xSubject\r";
+    assert!(rt; given.as_slice() == want.as_bytes());
+    Ok(())
+}
