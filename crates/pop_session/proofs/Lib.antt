@@ -11,3 +11,5 @@ pub mod ManyLines
 pub mod ModeLemmas
 pub mod MarkLemmas
 pub mod StoreLemmas
+pub mod RunLemmas
+pub mod StoredReplies

@@ -1,8 +1,8 @@
 -- Reading an octet at a time what TOP shows is taking lines.
-use Rattle.std.proofs.Common.{◌≡◌, ◌≤◌, ◌≢◌, ℕ, zero, suc, ◌+◌, ◌-◌, ◌==◌, List, [], ◌∷◌, ◌++◌, length, take, drop, Bool, true, false, arith, refl, sym, ap, ◌∙◌, cond}
+use Rattle.std.proofs.Common.{◌≡◌, ◌≤◌, ◌≢◌, ℕ, zero, suc, ◌+◌, ◌-◌, ◌==◌, List, [], ◌∷◌, ◌++◌, length, take, drop, min, Bool, true, false, arith, refl, sym, ap, ◌∙◌, cond}
 use Rattle.std.specs.List.{sum_by}
 use Rattle.std.specs.Str.{bytes_eq}
-use Rattle.std.proofs.lemmas.List.{drop-drop}
+use Rattle.std.proofs.lemmas.List.{take-append-drop, take_at, length-take-le, length-drop, drop-drop}
 use Rattle.std.proofs.lemmas.List.Sums.{sum_by-cons}
 use Rattle.std.proofs.lemmas.Bool.Decides.{nat_tests}
 use Rattle.mail_wire.specs.Lines.{lines_of, put_before, is_crlf, crlf}
@@ -14,9 +14,21 @@ use Rattle.pop_session.specs.declared.top.Scan.{Scan}
 use Rattle.pop_session.specs.Machine.{top_lines, top_length}
 use Rattle.pop_session.specs.private.Stuffing.{is_start, is_after_cr}
 use Rattle.pop_session.specs.private.Top.{begin, is_ended, behind_octet, all_behind, count_from}
-use Rattle.pop_session.proofs.StuffedPieces.{IsRead}
 
 -- ---- pieces
+
+-- a read of a message at a place gave this piece
+pub record IsRead (octets piece : List ℕ) (at n : ℕ) : Type 0 where
+  pub len : length piece ≡ n
+  pub parts : drop at octets ≡ piece ++ drop n (drop at octets)
+
+pub read_piece : (octets buffer old piece : List ℕ) (at n : ℕ) → n ≡ min (length old) (length octets - at) → buffer ≡ take n (drop at octets) ++ drop n old → piece ≡ take n buffer
+    → IsRead octets piece at n
+read_piece octets buffer old piece at n count read is =
+    let low : n ≤ length (drop at octets) = rw (length-drop at octets) (omega arith) in
+    let len : length (take n (drop at octets)) ≡ n = length-take-le n (drop at octets) low in
+    let front : piece ≡ take n (drop at octets) = is ∙ (rw read (take_at (take n (drop at octets)) (drop n old) n len)) in
+    record { len = rw front len; parts = rw front (sym (take-append-drop n (drop at octets))) }
 
 -- nothing is shown behind the end
 pub count_ended : (scan : Scan) (octets : List ℕ) → is_ended scan ≡ true → count_from scan octets ≡ 0

@@ -1,5 +1,5 @@
 -- The octets of a reply (RFC 1939, 3), and what may be sent in it (RFC 6856, 2; RFC 6857).
-use Rattle.std.specs.Prelude.{◌≡◌, ℕ, ◌++◌, List, true, take, drop}
+use Rattle.std.specs.Prelude.{◌≡◌, ℕ, ◌++◌, List, true, take, drop, codes}
 use Rattle.std.specs.List.{flat_map, list_all, AllByRecursion}
 use Rattle.mail_wire.specs.Dots.{missing_end, stuffed}
 use Rattle.mail_wire.specs.Lines.{crlf}
@@ -12,6 +12,10 @@ use Rattle.pop_session.specs.Machine.{ReplyPart, line, shown}
 -- the octets of a message in a reply of many lines: each line stuffed, and the last one complete
 abbrev pub multi_line : List ℕ → List ℕ
 multi_line octets = stuffed octets ++ missing_end octets
+
+-- the same, with the line behind them that ends the reply
+abbrev pub ended_lines : List ℕ → List ℕ
+ended_lines octets = multi_line octets ++ codes ".\r\n"
 
 -- the octets of a part
 abbrev pub part_octets : Meanings → ReplyPart → List ℕ

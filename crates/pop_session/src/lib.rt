@@ -11,3 +11,4 @@ mod top;
 
 pub use session::{PopSession, serve_pop};
 pub use states::PopState;
+pub use stuffing::give_dotted;

@@ -1,6 +1,7 @@
 //! Replies on messages.
-ghost use Rattle.std.specs.Prelude.{◌≡◌, ◌<◌, ◌-◌, ◌^◌, min, ℕ, ◌++◌, length, IfOk, IfSome, string_bytes, []};
+ghost use Rattle.std.specs.Prelude.{◌≡◌, ◌<◌, ◌-◌, ◌^◌, min, ℕ, ◌++◌, length, IfOk, IfSome, string_bytes, codes, []};
 ghost use Rattle.mail_wire.specs.Lines.{crlf};
+ghost use Rattle.session_core.specs.Desks.{stored_octets};
 ghost use Rattle.session_core.specs.Doing.{Replies};
 ghost use Rattle.session_core.specs.Keeps.{Keeps, fault_of};
 ghost use Rattle.session_core.specs.Meanings.{Meanings, WithMeanings};
@@ -11,12 +12,12 @@ ghost use Rattle.pop_session.specs.Replies.{reply_octets};
 ghost use Rattle.pop_session.specs.States.{Knows};
 
 use crate::states::MaildropMessage;
-use crate::stuffing::give_message;
+use crate::stuffing::{ShownLines, StoredLines};
 use crate::top::top_length;
 use kept_mail::Listed;
 use mail_store::Store;
 use mail_wire::{Clock, Fault, Keeper, Memory, Wire, read_number};
-use session_core::Outside;
+use session_core::{Giving, Outside};
 use std::alloc::Global;
 use surrogate_cache::View;
 
@@ -29,9 +30,7 @@ fn size<V: View, W: Wire, J: Keeper, C: Clock>(
     ensures size { IfOk result (λ n. WithMeanings (λ meanings. n ≡ size_of meanings V.mode outside.old.desk.store one.now)) }
     ensures same { outside.new ≡ outside.old }
 {
-    let shown = outside.show::<V>(one.id)?;
-    let octets = outside.octets(one.id);
-    Ok(shown.size(octets))
+    outside.size::<V>(one.id)
 }
 
 /// How many messages aren't marked, and the sum of their sizes.
@@ -124,7 +123,22 @@ pub fn uidl_one(alloc: Global, number: u64, one: &Listed) -> Result<String, Memo
     Ok(format!(in alloc; "+OK {number} {uid}\r\n")?)
 }
 
-/// The octets of a message.
+// Gives the lines of a message as a reply.
+fn give_lines<G: Giving, W: Wire, J: Keeper, C: Clock>(
+    id: u32,
+    lines: &G,
+    outside: &mut Outside<W, J, C>,
+) -> Result<(), Fault>
+    requires id { id < length outside.old.desk.store.kept.messages }
+    requires fits { G.fits lines.now (stored_octets outside.old.desk.store id) }
+    ensures replies { Replies outside.old outside.new (fault_of result) (codes "+OK\r\n" ++ G.given lines.now (stored_octets outside.old.desk.store id)) }
+    ensures keeps { Keeps outside.old outside.new (fault_of result) }
+{
+    outside.give(b"+OK\r\n")?;
+    outside.give_of(id, lines)
+}
+
+/// The octets of a message. Where UTF-8 is enabled they are those that are stored, and no tree is read for them.
 pub fn retr<V: View, W: Wire, J: Keeper, C: Clock>(
     one: &Listed,
     outside: &mut Outside<W, J, C>,
@@ -133,9 +147,13 @@ pub fn retr<V: View, W: Wire, J: Keeper, C: Clock>(
     ensures replies { WithMeanings (λ meanings. Replies outside.old outside.new (fault_of result) (reply_octets meanings (retr_reply meanings V.mode outside.old.desk.store 0 one.now))) }
     ensures keeps { Keeps outside.old outside.new (fault_of result) }
 {
+    if V::enabled() {
+        return give_lines(one.id, &StoredLines {}, outside);
+    }
     let shown = outside.show::<V>(one.id)?;
     let len = shown.size(outside.octets(one.id));
-    give_message(one.id, &shown, len, outside)
+    let lines = ShownLines { shown: &shown, len };
+    give_lines(one.id, &lines, outside)
 }
 
 /// The header of a message, and so many lines behind its empty line.
@@ -151,7 +169,8 @@ pub fn top<V: View, W: Wire, J: Keeper, C: Clock>(
 {
     let shown = outside.show::<V>(one.id)?;
     let len = top_length(&shown, outside.octets(one.id), lines);
-    give_message(one.id, &shown, len, outside)
+    let lines = ShownLines { shown: &shown, len };
+    give_lines(one.id, &lines, outside)
 }
 
 /// What a text asks for that is to be the number of a message.

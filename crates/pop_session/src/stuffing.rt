@@ -1,17 +1,16 @@
-//! Gives what is shown of a message as a reply of many lines.
-ghost use Rattle.std.specs.Prelude.{◌≡◌, ◌<◌, ◌≤◌, ◌++◌, length, take, IfOk, OnOk, OnErr, [], if◌then◌else◌, Err, codes};
+//! Gives octets of a message as the lines of a reply.
+ghost use Rattle.std.specs.Prelude.{◌≡◌, ◌+◌, ◌<◌, ◌≤◌, ◌++◌, ⊤, length, take, drop, IfOk, [], if◌then◌else◌, codes};
+ghost use Rattle.mail_wire.specs.Dots.{stuffed};
 ghost use Rattle.mail_wire.specs.Lines.{crlf};
-ghost use Rattle.mail_wire.specs.Moves.{GivesPrefix};
+ghost use Rattle.mail_wire.specs.Message.{IsEnded};
+ghost use Rattle.mail_wire.specs.Moves.{GivesOrFails, HasWireCause};
 ghost use Rattle.surrogate_rope.specs.Served.{IsShownOf, shown_octets};
-ghost use Rattle.session_core.specs.Around.{LeavesDesk};
-ghost use Rattle.session_core.specs.Desks.{stored_octets};
-ghost use Rattle.session_core.specs.Doing.{Replies};
-ghost use Rattle.session_core.specs.Keeps.{Keeps, fault_of};
-ghost use Rattle.pop_session.specs.Replies.{multi_line};
-ghost use Rattle.pop_session.specs.private.Stuffing.{is_start, needs_dot, next_place as place_behind, place_after, stuffed_from, PassesOn};
+ghost use Rattle.pop_session.specs.Replies.{ended_lines};
+ghost use Rattle.pop_session.specs.private.Stuffing.{is_start, begins_with_dot, next_place as place_by, place_after, dot_before, stuffed_from, HasNoLfDot};
 
-use mail_wire::{Clock, Fault, Keeper, Memory, Octets, PIECE, Wire};
-use session_core::Outside;
+use mail_wire::{Failed, Wire};
+use memchr::memmem;
+use session_core::Giving;
 use surrogate_rope::Shown;
 
 /// Where in its line an octet stands.
@@ -22,15 +21,16 @@ pub enum Place {
     Within,
 }
 
-fn needs_dot(place: Place, octet: u8) -> bool
-    ensures { result ≡ needs_dot place octet }
+// Whether a dot is put before the first of these octets, which stand from a place on.
+fn needs_dot(place: Place, octets: &[u8]) -> bool
+    ensures { result ≡ begins_with_dot place octets.now }
 {
-    matches!(place, Place::LineStart) && octet == b'.'
+    matches!(place, Place::LineStart) && matches!(octets, [b'.', ..])
 }
 
 /// The place behind an octet.
 pub fn next_place(place: Place, octet: u8) -> Place
-    ensures { result ≡ place_behind place octet }
+    ensures { result ≡ place_by place octet }
 {
     match octet {
         b'\r' => Place::AfterCr,
@@ -39,92 +39,146 @@ pub fn next_place(place: Place, octet: u8) -> Place
     }
 }
 
-// Puts a piece last, with a dot more before each line that begins with one.
-fn push_stuffed(pending: &mut Octets, place: Place, piece: &[u8]) -> Result<Place, Memory>
-    ensures place { IfOk result (λ after. after ≡ place_after place piece.now) }
-    ensures octets { OnOk result (pending.new ≡ pending.old ++ stuffed_from place piece.now) }
+// The place behind octets that stand from a place on. Only the last two tell it.
+fn place_behind(place: Place, octets: &[u8]) -> Place
+    ensures { result ≡ place_after place octets.now }
+{
+    match octets {
+        [] => place,
+        [octet] => next_place(place, *octet),
+        [.., before, octet] => next_place(next_place(Place::Within, *before), *octet),
+    }
+}
+
+// How many octets stand before the next dot that follows an LF.
+fn run_len(octets: &[u8]) -> usize
+    ensures bound { result ≤ length octets.now }
+    ensures some { 0 < length octets.now → 0 < result }
+    ensures run { HasNoLfDot (take result octets.now) }
+{
+    match memmem::find(octets, b"\n.") {
+        Some(at) => at + 1,
+        None => octets.len(),
+    }
+}
+
+// Gives octets as they are.
+fn give_plain<W: Wire>(octets: &[u8], wire: &mut W) -> Result<(), Failed>
+    ensures gives { GivesOrFails (W.tells wire.old) (W.tells wire.new) result octets.now }
+    ensures cause { HasWireCause (W.tells wire.old) (W.tells wire.new) result Failed.Outside }
+{
+    wire.give(octets)
+}
+
+// Gives the dot that is put before these octets, which stand from a place on, where there is one.
+fn give_dot<W: Wire>(place: Place, octets: &[u8], wire: &mut W) -> Result<(), Failed>
+    ensures gives { GivesOrFails (W.tells wire.old) (W.tells wire.new) result (dot_before place octets.now) }
+    ensures cause { HasWireCause (W.tells wire.old) (W.tells wire.new) result Failed.Outside }
+{
+    if needs_dot(place, octets) {
+        return give_plain(b".", wire);
+    }
+    Ok(())
+}
+
+// Gives octets that stand from a place on, with a dot more before each line that begins with one, and answers the place behind them.
+fn give_stuffed<W: Wire>(place: Place, octets: &[u8], wire: &mut W) -> Result<Place, Failed>
+    ensures place { IfOk result (λ behind. behind ≡ place_after place octets.now) }
+    ensures gives { GivesOrFails (W.tells wire.old) (W.tells wire.new) result (stuffed_from place octets.now) }
+    ensures cause { HasWireCause (W.tells wire.old) (W.tells wire.new) result Failed.Outside }
 {
     let mut at = place;
-    for octet in piece {
-        if needs_dot(at, *octet) {
-            pending.push(b'.')?;
-        }
-        pending.push(*octet)?;
-        at = next_place(at, *octet);
+    let mut rest = octets;
+    while !rest.is_empty() {
+        give_dot(at, rest, wire)?;
+        let (run, others) = rest.split_at(run_len(rest));
+        give_plain(run, wire)?;
+        at = place_behind(at, run);
+        rest = others;
     }
     Ok(at)
 }
 
-// Gives what is pending, once it is a piece.
-fn give_piece<W: Wire, J: Keeper, C: Clock>(
-    pending: &mut Octets,
-    outside: &mut Outside<W, J, C>,
-) -> Result<(), Fault>
-    ensures passes { OnOk result (PassesOn outside.old.wire outside.new.wire pending.old pending.new) }
-    ensures fails { OnErr result (GivesPrefix outside.old.wire outside.new.wire pending.old) }
-    ensures leaves { LeavesDesk outside.old outside.new }
-    ensures keeper { ¬ (result ≡ Err Fault.Keeper) }
-    ensures keeps { Keeps outside.old outside.new (fault_of result) }
+/// Gives the lines of a range of what is shown of a message, with a dot more before each that begins with one, or a prefix of them where
+/// that fails. They go to the wire from where they stand, in runs up to the next dot, so it takes no memory.
+pub fn give_dotted<W: Wire>(
+    shown: &Shown,
+    msg: &[u8],
+    at: usize,
+    len: usize,
+    wire: &mut W,
+) -> Result<(), Failed>
+    requires shown { IsShownOf msg.now shown.now }
+    requires within { at + len ≤ length (shown_octets msg.now shown.now) }
+    // It starts where a line does: nothing stands before it, or a CRLF.
+    requires start { IsEnded (take at (shown_octets msg.now shown.now)) }
+    ensures gives { GivesOrFails (W.tells wire.old) (W.tells wire.new) result (stuffed (take len (drop at (shown_octets msg.now shown.now)))) }
+    ensures cause { HasWireCause (W.tells wire.old) (W.tells wire.new) result Failed.Outside }
 {
-    if pending.len() < PIECE {
-        return Ok(());
+    // Its places are numbers, as they stand within a size.
+    let _size = shown.size(msg);
+    let mut given = 0;
+    let mut place = Place::LineStart;
+    while given < len {
+        let run = shown.run_at(msg, at + given);
+        let count = run.len().min(len - given);
+        let (run, _) = run.split_at(count);
+        place = give_stuffed(place, run, wire)?;
+        given += count;
     }
-    outside.give(pending.as_slice())?;
-    pending.clear();
     Ok(())
 }
 
-// What lines lack whose end stands here.
-fn missing_end(place: Place) -> &'static [u8]
-    ensures { result.now ≡ (if is_start place then [] else crlf) }
+// The place behind the first octets, so many, of what is shown of a message.
+fn place_at(shown: &Shown, msg: &[u8], len: usize) -> Place
+    requires shown { IsShownOf msg.now shown.now }
+    requires len { len ≤ length (shown_octets msg.now shown.now) }
+    ensures { result ≡ place_after Place.LineStart (take len (shown_octets msg.now shown.now)) }
+{
+    let mut last = [0; 2];
+    let count = shown.read_at(msg, len.saturating_sub(2), &mut last);
+    place_behind(Place::LineStart, &last[..count.min(len)])
+}
+
+// The end of a reply of many lines, whose last octet stands before this place.
+fn end_of(place: Place) -> &'static [u8]
+    ensures { result.now ≡ (if is_start place then [] else crlf) ++ codes ".\r\n" }
 {
     match place {
-        Place::LineStart => b"",
-        Place::AfterCr | Place::Within => b"\r\n",
+        Place::LineStart => b".\r\n",
+        Place::AfterCr | Place::Within => b"\r\n.\r\n",
     }
 }
 
-// Puts the end of a reply of many lines last, which stands here, and gives all that is pending.
-fn give_end<W: Wire, J: Keeper, C: Clock>(
-    mut pending: Octets,
-    place: Place,
-    outside: &mut Outside<W, J, C>,
-) -> Result<(), Fault>
-    ensures replies { Replies outside.old outside.new (fault_of result)
-        (pending ++ ((if is_start place then [] else crlf) ++ codes ".\r\n")) }
-    ensures keeps { Keeps outside.old outside.new (fault_of result) }
-{
-    pending.push_slice(missing_end(place))?;
-    pending.push_slice(b".\r\n")?;
-    outside.give(pending.as_slice())
+/// The first octets, so many, of what is shown of a message, as the lines of a reply up to its end.
+#[derive(Clone, Copy)]
+pub struct ShownLines<'a> {
+    pub shown: &'a Shown,
+    pub len: usize,
 }
 
-/// Gives the first octets, so many, of what is shown of a message of the store as the lines of a reply: each stuffed, and the last one
-/// complete.
-pub fn give_message<W: Wire, J: Keeper, C: Clock>(
-    id: u32,
-    shown: &Shown,
-    len: usize,
-    outside: &mut Outside<W, J, C>,
-) -> Result<(), Fault>
-    requires id { id < length outside.old.desk.store.kept.messages }
-    requires shown { IsShownOf (stored_octets outside.old.desk.store id) shown.now }
-    requires len { len ≤ length (shown_octets (stored_octets outside.old.desk.store id) shown.now) }
-    ensures replies { Replies outside.old outside.new (fault_of result)
-        (codes "+OK\r\n" ++ (multi_line (take len (shown_octets (stored_octets outside.old.desk.store id) shown.now)) ++ codes ".\r\n")) }
-    ensures keeps { Keeps outside.old outside.new (fault_of result) }
-{
-    let mut pending = Octets::from_slice(outside.alloc(), b"+OK\r\n")?;
-    let mut place = Place::LineStart;
-    let mut at = 0;
-    let mut piece = [0; PIECE];
-    while at < len {
-        let count = shown
-            .read_at(outside.octets(id), at, &mut piece)
-            .min(len - at);
-        place = push_stuffed(&mut pending, place, &piece[..count])?;
-        give_piece(&mut pending, outside)?;
-        at += count;
+impl<'a> Giving for ShownLines<'a> {
+    ghost given = { λ lines msg. ended_lines (take lines.len (shown_octets msg lines.shown.now)) };
+
+    ghost fits = { λ lines msg. IsShownOf msg lines.shown.now × (lines.len ≤ length (shown_octets msg lines.shown.now)) };
+
+    fn give_to<W: Wire>(&self, msg: &[u8], wire: &mut W) -> Result<(), Failed> {
+        give_dotted(self.shown, msg, 0, self.len, wire)?;
+        give_plain(end_of(place_at(self.shown, msg, self.len)), wire)
     }
-    give_end(pending, place, outside)
+}
+
+/// A message as it is stored, as the lines of a reply up to its end.
+#[derive(Clone, Copy)]
+pub struct StoredLines {}
+
+impl Giving for StoredLines {
+    ghost given = { λ lines msg. ended_lines msg };
+
+    ghost fits = { λ lines msg. ⊤ };
+
+    fn give_to<W: Wire>(&self, msg: &[u8], wire: &mut W) -> Result<(), Failed> {
+        let place = give_stuffed(Place::LineStart, msg, wire)?;
+        give_plain(end_of(place), wire)
+    }
 }

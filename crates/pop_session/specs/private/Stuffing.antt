@@ -1,7 +1,5 @@
 -- Stuffing (RFC 1939, 3) an octet at a time, for the functions that give a message in pieces.
-use Rattle.std.specs.Prelude.{◌≡◌, ℕ, ◌++◌, ◌==◌, ◌&&◌, List, [], ◌∷◌, Bool, true, false, fold, if◌then◌else◌}
-use Rattle.mail_wire.specs.Telling.{Telling}
-use Rattle.mail_wire.specs.Moves.{Gives}
+use Rattle.std.specs.Prelude.{◌≡◌, ℕ, ◌+◌, ◌++◌, ◌==◌, ◌&&◌, List, [], ◌∷◌, Bool, true, false, fold, slice_index, if◌then◌else◌}
 use Rattle.pop_session.specs.declared.stuffing.Place.{Place}
 use Rattle.pop_session.specs.declared.stuffing.Place.TheVariants.{LineStart, AfterCr, Within}
 
@@ -34,8 +32,14 @@ abbrev pub stuffed_from : Place → List ℕ → List ℕ
 stuffed_from place [] = []
 stuffed_from place (x ∷ rest) = stuffed_octet place x ++ stuffed_from (next_place place x) rest
 
--- Of what was pending a first part was given, and the others are pending now.
-pub record PassesOn (before now : Telling) (old new : List ℕ) : Type 0 where
-  pub given : List ℕ
-  pub gives : Gives before now given
-  pub split : given ++ new ≡ old
+-- a dot is put before the first of these octets, which stand from a place on
+abbrev pub begins_with_dot : Place → List ℕ → Bool
+begins_with_dot place [] = false
+begins_with_dot place (x ∷ rest) = needs_dot place x
+
+abbrev pub dot_before : Place → List ℕ → List ℕ
+dot_before place octets = if begins_with_dot place octets then 46 ∷ [] else []
+
+-- no dot follows an LF
+abbrev pub HasNoLfDot : List ℕ → Type 0
+HasNoLfDot octets = (at : ℕ) → slice_index octets at ≡ 10 → slice_index octets (at + 1) ≡ 46 → ⊥

@@ -11,7 +11,7 @@ use Rattle.pop_session.proofs.replies.top.Goals as goal
 pub returns-clause-replies : goal.returns-clause-replies
 returns-clause-replies g c = λ meanings are n capped.
     let size = top_length-many n c.args.lines c.top_length-len.result (shown_octets c.octets.result.now c.in_ok-shown.shown) capped c.top_length-len.ensures.length (omega arith) in
-    let gave = rw size at c.give_message.ensures.replies in
+    let gave = rw size at c.give_lines.ensures.replies in
     search (rules, gave, are)
 
 pub returns-in_err-shown-clause-replies : goal.returns-in_err-shown-clause-replies

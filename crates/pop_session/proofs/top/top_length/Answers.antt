@@ -2,8 +2,7 @@ use Rattle.std.proofs.Common.{take, drop, refl, sym, arith}
 use Rattle.std.proofs.lemmas.List.{length-take}
 use Rattle.surrogate_rope.specs.Served.{shown_octets}
 use Rattle.pop_session.specs.Machine.{top_length as top_length_of}
-use Rattle.pop_session.proofs.StuffedPieces.{read_piece}
-use Rattle.pop_session.proofs.TopLemmas.{none_counted, piece_counted, count_from-le, count_ended}
+use Rattle.pop_session.proofs.TopLemmas.{none_counted, piece_counted, read_piece, count_from-le, count_ended}
 use Rattle.pop_session.proofs.top.top_length.Goals as goal
 
 pub loop-at-init : goal.loop-at-init
