@@ -10,7 +10,7 @@ use Rattle.mail_wire.specs.declared.outside.Fault.{Fault}
 use Rattle.kept_mail.specs.declared.kept.Listed.{Listed}
 use Rattle.mail_store.specs.StoreState.{StoreState}
 use Rattle.surrogate_rope.specs.declared.shown.Shown.{Shown}
-use Rattle.surrogate_cache.specs.Served.{Mode}
+use Rattle.surrogate_cache.specs.Served.{Mode, is_enabled}
 use Rattle.session_core.specs.Acts.{Act, changes, gives}
 use Rattle.session_core.specs.Around.{Around}
 use Rattle.session_core.specs.Meanings.{Meanings}
@@ -262,11 +262,14 @@ pub stands_next : {A : Type 0} (others : Bool) (items : List A) (at : ℕ) (x : 
 stands_next others items at x low = sym (ap (stands_behind others) (take_more items at x low) ∙ behind-push others (take at items) (get_or items at x))
 
 -- what is shown is there for each item that needs it
-pub HasShown-at : (mode : Mode) (msg : List ℕ) (items : List FetchItem) (at : ℕ) (x : FetchItem) (found : Option Shown) → at < length items → x ≡ get_or items at x → HasShown mode msg (list_any shows items) found
-    → HasShown mode msg (shows x) found
+pub HasShown-at : (mode : Mode) (msg : List ℕ) (items : List FetchItem) (at : ℕ) (x : FetchItem) (found : Option Shown) → at < length items → x ≡ get_or items at x
+    → HasShown mode msg (list_any (shows (is_enabled mode)) items) found → HasShown mode msg (shows (is_enabled mode) x) found
 HasShown-at mode msg items at x (Some found) low here has = has
-HasShown-at mode msg items at x None low here has = unneeded (shows x) refl
+HasShown-at mode msg items at x None low here has = unneeded (needed x) refl
   where
-    unneeded : (b : Bool) → shows x ≡ b → b ≡ false
+    needed : FetchItem → Bool
+    needed x = shows (is_enabled mode) x
+
+    unneeded : (b : Bool) → needed x ≡ b → b ≡ false
     unneeded false is = refl
-    unneeded true is = let some : list_any shows items ≡ true = list_any_at shows items at x low (ap shows (sym here) ∙ is) in cc
+    unneeded true is = let some : list_any needed items ≡ true = list_any_at needed items at x low (ap needed (sym here) ∙ is) in cc

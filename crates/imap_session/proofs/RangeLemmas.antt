@@ -1,26 +1,29 @@
 -- What is served of a message, and ranges of it as literals.
-use Rattle.std.proofs.Common.{◌≡◌, ℕ, Bool, ◌+◌, ◌-◌, ◌<◌, ◌≤◌, min, List, [], ◌∷◌, ◌++◌, length, take, drop, Option, None, Some, refl, sym, ap, subst, ◌∙◌, append-nil, arith}
-use Rattle.std.specs.Prelude.{codes, IfSome}
+use Rattle.std.proofs.Common.{◌≡◌, ℕ, zero, suc, Bool, true, ◌+◌, ◌-◌, ◌<◌, ◌≤◌, List, [], ◌∷◌, ◌++◌, length, take, drop, Option, None, Some, refl, sym, ap, subst, ◌∙◌, append-nil, arith}
+use Rattle.std.specs.Prelude.{codes, false, not, option_map, slice_get, IfSome}
 use Rattle.std.specs.Fmt.{decimal}
 use Rattle.std.specs.List.{flat_map}
-use Rattle.std.proofs.lemmas.List.{drop-drop, drop-take, length-drop, length-take-le, take-append-drop, take-append-le, take-take, take_all}
-use Rattle.std.proofs.Math.Seq.{take-append-add}
-use Rattle.mail_wire.specs.Moves.{Gives, GivesPrefix}
-use Rattle.mail_wire.specs.Telling.{Telling}
+use Rattle.std.specs.Option.{option_map_or}
+use Rattle.std.proofs.lemmas.Option.{same_Some}
 use Rattle.mail_wire.specs.declared.outside.Fault.{Fault}
 use Rattle.mail_wire.specs.declared.values.Span.{Span}
-use Rattle.mail_wire.proofs.Moving.{Gives-prefix, Gives-trans, GivesPrefix-more}
-use Rattle.mime_tree.specs.Outlines.{Outline}
+use Rattle.journal_records.specs.Stored.{IsStored}
+use Rattle.mail_wire.proofs.LineLemmas.{concat_lines_of}
+use Rattle.mail_wire.specs.Lines.{lines_of}
+use Rattle.mime_tree.specs.declared.entity.Entity.{Entity}
+use Rattle.mime_tree.specs.Outlines.{Outline, outlines_of}
+use Rattle.mime_tree.specs.Tree.{HasTree, IsEntity, IsWithInner, depth_max}
 use Rattle.mime_tree.specs.Sections.{section}
 use Rattle.mime_tree.specs.declared.sections.Part.{Part}
 use Rattle.mime_tree.specs.declared.sections.Part.TheVariants as place
 use Rattle.kept_mail.specs.declared.kept.Listed.{Listed}
+use Rattle.kept_mail.specs.declared.kept.Message.{Message}
 use Rattle.mail_store.specs.StoreState.{StoreState}
 use Rattle.surrogate_rope.specs.Ropes.{octets_of}
 use Rattle.surrogate_rope.specs.Served.{IsShownOf, shown_octets, shown_outlines}
 use Rattle.surrogate_rope.specs.declared.shown.Shown.{Shown}
 use Rattle.surrogate_rope.specs.declared.shown.Shown.TheVariants.{Whole, Rope}
-use Rattle.surrogate_cache.specs.Served.{Mode, served_by}
+use Rattle.surrogate_cache.specs.Served.{Mode, enabled, is_enabled, legacy, served_by}
 use Rattle.surrogate_cache.proofs.ServedLemmas.{IsServed-by}
 use Rattle.session_core.specs.Around.{Around}
 use Rattle.session_core.specs.Desks.{stored_octets}
@@ -36,9 +39,9 @@ use Rattle.imap_session.specs.declared.sections.Asked.{Asked}
 use Rattle.imap_session.specs.declared.sections.Chosen.{Chosen}
 use Rattle.imap_session.specs.declared.sections.Wanted.{Wanted}
 use Rattle.imap_session.specs.declared.sections.Wanted.TheVariants as want
-use Rattle.imap_session.specs.private.Asking.{AddsFields, asked_parts, head_octets, wanted_parts, wanted_place}
+use Rattle.imap_session.specs.private.Asking.{AddsFields, AsksStored, asked_parts, head_octets, name_of, wanted_parts, wanted_place}
 use Rattle.imap_session.specs.private.Pending.{Carries}
-use Rattle.imap_session.specs.private.Shown.{IsShownIn}
+use Rattle.imap_session.specs.private.Shown.{HasShown, IsShownIn, octets_shown}
 use Rattle.imap_session.specs.private.Viewing.{AddsView, header_shown, octets_in}
 use Rattle.imap_session.proofs.FetchLemmas.{Carries-text}
 use Rattle.imap_session.proofs.SectionLemmas.{nothing_wanted}
@@ -100,6 +103,41 @@ pub found_below : (found : Option Span) (size end : ℕ) → size < end → IfSo
 found_below None size end few within = tt
 found_below (Some span) size end few within = omega arith
 
+-- ---- the message, as it is stored
+
+-- an entity is the first of those of its lines, and stands where these do
+with_inner : (levels : ℕ) (octets : List ℕ) (parent : Option ℕ) (digest : Bool) (number at : ℕ) (lines : List (List ℕ)) (entities : List Entity) → IsEntity levels octets parent digest number at lines entities
+    → (depth : ℕ) × IsWithInner parent depth at lines entities
+unfolding IsEntity
+with_inner zero octets parent digest number at lines entities is = (_, is.0)
+with_inner (suc levels) octets parent digest number at lines entities is = (_, is.0)
+
+abbrev span_of : (at len : ℕ) → Span
+span_of at len = record { at = at; len = len }
+
+abbrev all_of : List ℕ → Span
+all_of octets = span_of 0 (length octets)
+
+span_same : (at len size : ℕ) → at ≡ 0 → len ≡ size → span_of at len ≡ span_of 0 size
+span_same at len size at_is len_is = rw (at_is, len_is) refl
+
+first_found : (octets : List ℕ) (depth : ℕ) (entities : List Entity) → IsWithInner None depth 0 (lines_of octets) entities → section (outlines_of entities) [] place.Whole ≡ Some (all_of octets)
+first_found octets depth entities is =
+    let len : is.entity.end - is.entity.at ≡ length octets = (let at_is = is.at_is in let end_is = is.end_is in let size = ap length (concat_lines_of octets) in omega arith) in
+    ap (λ (all : List Entity). section (outlines_of all) [] place.Whole) is.entities_are
+    ∙ ap (λ (span : Span). Some span) (span_same is.entity.at (is.entity.end - is.entity.at) (length octets) is.at_is len)
+
+-- the message is the first of its entities
+message_found : (octets : List ℕ) (entities : List Entity) → HasTree octets entities → section (outlines_of entities) [] place.Whole ≡ Some (all_of octets)
+message_found octets entities tree =
+    let first = with_inner depth_max octets None false 0 0 (lines_of octets) entities tree.root in
+    first_found octets first.0 entities first.1
+
+-- a session that has enabled UTF-8 is shown it
+shown_stored : (mode : Mode) (octets : List ℕ) (entities : List Entity) → is_enabled mode ≡ true → HasTree octets entities → IsShownIn mode octets (Whole (record { entities = entities }))
+shown_stored legacy octets entities is tree = absurd cc
+shown_stored enabled octets entities is tree = (tree, refl)
+
 -- ---- views
 
 -- the structure of what is shown is that of its octets
@@ -119,12 +157,21 @@ view_given meanings are mode word view octets served old new same adds =
     let view_is : adds.text ≡ meanings.view_of view served = are.views view octets adds.text adds.is_view ∙ ap (meanings.view_of view) (sym same) in
     adds.new_is ∙ ap (λ (l : List ℕ). old ++ (word ++ l)) (view_is ∙ sym (append-nil (meanings.view_of view served)))
 
-pub size_given : (meanings : Meanings) → AreMeanings meanings → (mode : Mode) (store : StoreState) (one : Listed) (msg : List ℕ) (seen : Shown) (size : ℕ) (old new : List ℕ)
-    → msg ≡ stored_octets store one.id → IsShownIn mode msg seen → size ≡ length (shown_octets msg seen) → new ≡ old ++ (codes "RFC822.SIZE " ++ decimal size)
+served_without : (meanings : Meanings) (mode : Mode) (octets : List ℕ) → not (is_enabled mode) ≡ false → served_by meanings.surrogate mode octets ≡ octets
+served_without meanings legacy octets is = cc
+served_without meanings enabled octets is = refl
+
+-- the octets that are shown are those that are served, also where nothing tells them but the store
+served_octets : (meanings : Meanings) → AreMeanings meanings → (mode : Mode) (store : StoreState) (one : Listed) (msg : List ℕ) (seen : Option Shown) → msg ≡ stored_octets store one.id
+    → HasShown mode msg (not (is_enabled mode)) seen → octets_shown msg seen ≡ served_of meanings mode store one
+served_octets meanings are mode store one msg (Some seen) msg_is is = sym (serving meanings are mode store one msg seen msg_is is).octets_are
+served_octets meanings are mode store one msg None msg_is is = sym (ap (served_by meanings.surrogate mode) (sym msg_is) ∙ served_without meanings mode msg is)
+
+pub size_given : (meanings : Meanings) → AreMeanings meanings → (mode : Mode) (store : StoreState) (one : Listed) (msg : List ℕ) (seen : Option Shown) (size : ℕ) (old new : List ℕ)
+    → msg ≡ stored_octets store one.id → HasShown mode msg (not (is_enabled mode)) seen → size ≡ length (octets_shown msg seen) → new ≡ old ++ (codes "RFC822.SIZE " ++ decimal size)
     → new ≡ old ++ reply_octets meanings (text (codes "RFC822.SIZE " ++ decimal (size_of meanings mode store one)) ∷ [])
 size_given meanings are mode store one msg seen size old new msg_is is size_is new_is =
-    let served = serving meanings are mode store one msg seen msg_is is in
-    new_is ∙ (ap (λ (n : ℕ). old ++ (codes "RFC822.SIZE " ++ decimal n)) (size_is ∙ sym (ap length served.octets_are))
+    new_is ∙ (ap (λ (n : ℕ). old ++ (codes "RFC822.SIZE " ++ decimal n)) (size_is ∙ ap length (served_octets meanings are mode store one msg seen msg_is is))
     ∙ ap (λ (l : List ℕ). old ++ l) (sym (append-nil (codes "RFC822.SIZE " ++ decimal (size_of meanings mode store one)))))
 
 pub envelope_given : (meanings : Meanings) → AreMeanings meanings → (mode : Mode) (store : StoreState) (one : Listed) (msg : List ℕ) (seen : Shown) (old new : List ℕ)
@@ -140,72 +187,6 @@ pub structure_given : (meanings : Meanings) → AreMeanings meanings → (mode :
 structure_given meanings are mode store one msg seen word extended old new msg_is is adds =
     view_given meanings are mode word (structure extended) (shown_octets msg seen) (served_of meanings mode store one) old new
     (serving meanings are mode store one msg seen msg_is is).octets_are adds
-
--- ---- a range, a piece after another
-
--- one number of octets more
-take_two : (octets : List ℕ) (at n : ℕ) → at ≤ length octets → take (at + n) octets ≡ take at octets ++ take n (drop at octets)
-take_two octets at n low =
-    let front = take at octets in
-    ap (λ (k : ℕ). take (k + n) octets) (sym (length-take-le at octets low)) ∙ (ap (take (length front + n)) (sym (take-append-drop at octets)) ∙ take-append-add front (drop at octets) n)
-
--- of what is read, which fills the front of the buffer, so many octets are of the range
-pub record ReadsOn (octets buffer old : List ℕ) (from len at read n : ℕ) : Type 0 where
-  pub count : read ≡ min (length old) (length octets - (from + at))
-  pub filled : buffer ≡ take read (drop (from + at) octets) ++ drop read old
-  pub taken : n ≡ min read (len - at)
-  pub within : from + len ≤ length octets
-  pub low : at ≤ len
-
-range_of : (octets : List ℕ) (from len : ℕ) → List ℕ
-range_of octets from len = take len (drop from octets)
-
-range_length : (octets : List ℕ) (from len : ℕ) → from + len ≤ length octets → length (take len (drop from octets)) ≡ len
-range_length octets from len within = let rest = length-drop from octets in length-take-le len (drop from octets) (omega arith)
-
--- what of a range stands behind a place
-range_on : (octets : List ℕ) (from len at n : ℕ) → at + n ≤ len → take n (drop at (take len (drop from octets))) ≡ take n (drop (from + at) octets)
-range_on octets from len at n low =
-    let rest : len ≡ at + (len - at) = omega arith in
-    ap (λ (k : ℕ). take n (drop at (take k (drop from octets)))) rest
-    ∙ (ap (take n) (drop-take at (len - at) (drop from octets)) ∙ (take-take n (len - at) (drop at (drop from octets)) (omega arith) ∙ ap (take n) (drop-drop at from octets)))
-
-read_front : (octets buffer old : List ℕ) (from len at read n : ℕ) → ReadsOn octets buffer old from len at read n → take n buffer ≡ take n (drop at (take len (drop from octets)))
-read_front octets buffer old from len at read n reads =
-    let behind = drop (from + at) octets in
-    let count = reads.count in
-    let taken = reads.taken in
-    let low = reads.low in
-    let within = reads.within in
-    let rest : length behind ≡ length octets - (from + at) = length-drop (from + at) octets in
-    let size : length (take read behind) ≡ read = length-take-le read behind (omega arith) in
-    ap (take n) reads.filled
-    ∙ (take-append-le n (take read behind) (drop read old) (omega arith) ∙ (take-take n read behind (omega arith) ∙ sym (range_on octets from len at n (omega arith))))
-
-range_two : (octets buffer old : List ℕ) (from len at read n : ℕ) → ReadsOn octets buffer old from len at read n
-    → take at (take len (drop from octets)) ++ take n buffer ≡ take (at + n) (take len (drop from octets))
-range_two octets buffer old from len at read n reads =
-    let low = reads.low in
-    let size = range_length octets from len reads.within in
-    ap (λ (l : List ℕ). take at (take len (drop from octets)) ++ l) (read_front octets buffer old from len at read n reads)
-    ∙ sym (take_two (take len (drop from octets)) at n (omega arith))
-
-pub gives_more : (a b c : Telling) (octets buffer old : List ℕ) (from len at read n : ℕ) → ReadsOn octets buffer old from len at read n
-    → Gives a b (take at (take len (drop from octets))) → Gives b c (take n buffer) → Gives a c (take (at + n) (take len (drop from octets)))
-gives_more a b c octets buffer old from len at read n reads front gave =
-    subst (Gives a c) (range_two octets buffer old from len at read n reads) (Gives-trans a b c (take at (take len (drop from octets))) (take n buffer) front gave)
-
-pub gives_first : (a b c : Telling) (octets buffer old : List ℕ) (from len at read n : ℕ) → ReadsOn octets buffer old from len at read n
-    → Gives a b (take at (take len (drop from octets))) → GivesPrefix b c (take n buffer) → GivesPrefix a c (take len (drop from octets))
-gives_first a b c octets buffer old from len at read n reads front gave =
-    let range = take len (drop from octets) in
-    let so_far = subst (GivesPrefix a c) (range_two octets buffer old from len at read n reads) (Gives-prefix a b c (take at range) (take n buffer) front gave) in
-    subst (GivesPrefix a c) (take-append-drop (at + n) range) (GivesPrefix-more a c (take (at + n) range) (drop (at + n) range) so_far)
-
-pub gives_all : (a b : Telling) (octets : List ℕ) (from len at : ℕ) → from + len ≤ length octets → len ≤ at → Gives a b (take at (take len (drop from octets))) → Gives a b (take len (drop from octets))
-gives_all a b octets from len at within past gave =
-    let size = range_length octets from len within in
-    subst (Gives a b) (take_all at (take len (drop from octets)) (omega arith)) gave
 
 -- ---- a literal
 
@@ -248,19 +229,56 @@ Carries-headed meanings mode store one asked msg span a b met owed had mid owes 
 
 -- there is none
 pub Carries-nothing : (meanings : Meanings) (mode : Mode) (store : StoreState) (one : Listed) (asked : Asked) (a : Around) (owed owes : List ℕ) → section_at meanings mode store one asked.path.now (wanted_place asked.wanted) ≡ None
-    → owes ≡ owed ++ (asked.name ++ codes " NIL") → Carries (part_octets meanings) a a None owed owes (reply (asked_parts meanings mode store one asked))
+    → owes ≡ owed ++ ((name_of asked) ++ codes " NIL") → Carries (part_octets meanings) a a None owed owes (reply (asked_parts meanings mode store one asked))
 Carries-nothing meanings mode store one asked a owed owes none put =
-    let parts : text (asked.name ++ codes " NIL") ∷ [] ≡ asked_parts meanings mode store one asked =
-    sym (ap (wanted_parts meanings mode store one asked.name asked.partial asked.wanted) none ∙ nothing_wanted meanings mode store one asked.name asked.partial asked.wanted) in
-    subst (λ (l : List ReplyPart). Carries (part_octets meanings) a a None owed owes (reply l)) parts (Carries-text meanings a owed owes (asked.name ++ codes " NIL") put)
+    let parts : text ((name_of asked) ++ codes " NIL") ∷ [] ≡ asked_parts meanings mode store one asked =
+    sym (ap (wanted_parts meanings mode store one (name_of asked) asked.partial asked.wanted) none ∙ nothing_wanted meanings mode store one (name_of asked) asked.partial asked.wanted) in
+    subst (λ (l : List ReplyPart). Carries (part_octets meanings) a a None owed owes (reply l)) parts (Carries-text meanings a owed owes ((name_of asked) ++ codes " NIL") put)
 
 -- octets of it
-pub octets_told : (meanings : Meanings) (mode : Mode) (store : StoreState) (one : Listed) (asked : Asked) (what : Part) (span part : Span) (named : List ℕ) → asked.wanted ≡ want.Octets what
-    → section_at meanings mode store one asked.path.now (wanted_place asked.wanted) ≡ Some span → part ≡ partial_span asked.partial span → named ≡ asked.name
-    → span_parts mode store one named part ≡ asked_parts meanings mode store one asked
-octets_told meanings mode store one asked what span part named wanted found part_is named_is =
-    rw (part_is, named_is) (sym (ap (wanted_parts meanings mode store one asked.name asked.partial asked.wanted) found
-    ∙ ap (λ (w : Wanted). wanted_parts meanings mode store one asked.name asked.partial w (Some span)) wanted))
+pub octets_told : (meanings : Meanings) (mode : Mode) (store : StoreState) (one : Listed) (asked : Asked) (what : Part) (span part : Span) → asked.wanted ≡ want.Octets what
+    → section_at meanings mode store one asked.path.now (wanted_place asked.wanted) ≡ Some span → part ≡ partial_span asked.partial span
+    → span_parts mode store one (name_of asked) part ≡ asked_parts meanings mode store one asked
+octets_told meanings mode store one asked what span part wanted found part_is =
+    rw part_is (sym (ap (wanted_parts meanings mode store one (name_of asked) asked.partial asked.wanted) found
+    ∙ ap (λ (w : Wanted). wanted_parts meanings mode store one (name_of asked) asked.partial w (Some span)) wanted))
+
+-- what the store tells of a message is what it keeps
+pub octets_in_store : (store : StoreState) (id : ℕ) (told : List ℕ) → option_map (λ (message : Message). message.octets) (slice_get store.kept.messages id) ≡ Some told → IsStored told
+    → (told ≡ stored_octets store id) × IsStored (stored_octets store id)
+octets_in_store store id told told_is stored = let same = known (slice_get store.kept.messages id) told_is in (same, subst IsStored same stored)
+  where
+    known : (found : Option Message) → option_map (λ (message : Message). message.octets) found ≡ Some told → told ≡ option_map_or (λ (message : Message). message.octets) found []
+    known None is = cc
+    known (Some message) is = sym (same_Some message.octets told is)
+
+pub spans_all : (asked : Asked) (msg told : List ℕ) (span : Span) → told ≡ msg → span ≡ partial_span asked.partial (all_of told) → span ≡ partial_span asked.partial (all_of msg)
+spans_all asked msg told span told_is span_is = span_is ∙ ap (λ (octets : List ℕ). partial_span asked.partial (all_of octets)) told_is
+
+-- all that is stored, or a part of it
+stored_told : (meanings : Meanings) → AreMeanings meanings → (mode : Mode) (store : StoreState) (one : Listed) (asked : Asked) (msg : List ℕ) (entities : List Entity) (span : Span) → AsksStored (is_enabled mode) asked
+    → msg ≡ stored_octets store one.id → HasTree msg entities → span ≡ partial_span asked.partial (all_of msg) → span_parts mode store one (name_of asked) span ≡ asked_parts meanings mode store one asked
+stored_told meanings are mode store one asked msg entities span asks msg_is tree span_is =
+    let found = section_found meanings are mode store one msg (Whole (record { entities = entities })) [] place.Whole (Some (all_of msg)) msg_is (shown_stored mode msg entities asks.is_enabled tree)
+    (sym (message_found msg entities tree)) in
+    octets_told meanings mode store one asked place.Whole (all_of msg) span asks.wanted (rw (asks.path, asks.wanted) found) span_is
+
+-- it is given behind its header
+pub Carries-stored : (meanings : Meanings) → AreMeanings meanings → (mode : Mode) (store : StoreState) (one : Listed) (asked : Asked) (msg : List ℕ) (span : Span) (a b c : Around) (met : Option Fault) (owed had : List ℕ)
+    → AsksStored (is_enabled mode) asked → msg ≡ stored_octets store one.id → IsStored msg → span ≡ partial_span asked.partial (all_of msg) → had ≡ owed ++ head_octets (name_of asked) span.len
+    → Carries (part_octets meanings) a b None had [] [] → Replies b c met (take span.len (drop span.at msg)) → Carries (part_octets meanings) a c met owed [] (reply (asked_parts meanings mode store one asked))
+Carries-stored meanings are mode store one asked msg span a b c met owed had asks msg_is stored span_is had_is given replies =
+    subst (λ (parts : List ReplyPart). Carries (part_octets meanings) a c met owed [] (reply parts)) (stored_told meanings are mode store one asked msg stored.entities span asks msg_is stored.tree span_is)
+    (Carries-literal meanings are mode store one (name_of asked) msg (Whole (record { entities = stored.entities })) span a b c met owed had msg_is
+    (shown_stored mode msg stored.entities asks.is_enabled stored.tree) had_is given replies)
+
+-- a fault before that
+pub Carries-unstored : (meanings : Meanings) → AreMeanings meanings → (mode : Mode) (store : StoreState) (one : Listed) (asked : Asked) (msg : List ℕ) (span : Span) (a b : Around) (met : Fault) (owed had mid owes : List ℕ)
+    → AsksStored (is_enabled mode) asked → msg ≡ stored_octets store one.id → IsStored msg → span ≡ partial_span asked.partial (all_of msg) → had ≡ owed ++ head_octets (name_of asked) span.len
+    → Carries (part_octets meanings) a b (Some met) had mid [] → Carries (part_octets meanings) a b (Some met) owed owes (reply (asked_parts meanings mode store one asked))
+Carries-unstored meanings are mode store one asked msg span a b met owed had mid owes asks msg_is stored span_is had_is given =
+    subst (λ (parts : List ReplyPart). Carries (part_octets meanings) a b (Some met) owed owes (reply parts)) (stored_told meanings are mode store one asked msg stored.entities span asks msg_is stored.tree span_is)
+    (Carries-headed meanings mode store one (name_of asked) msg span a b met owed had mid owes msg_is had_is given)
 
 view_told : (meanings : Meanings) (mode : Mode) (asked octets owed owes : List ℕ) → owes ≡ owed ++ (head_octets asked (length octets) ++ octets) → owes ≡ owed ++ flat_map (part_octets meanings) (view_parts mode asked octets)
 view_told meanings mode asked octets owed owes is = is ∙ ap (λ (l : List ℕ). owed ++ (head_octets asked (length octets) ++ l)) (sym (append-nil octets))
@@ -272,10 +290,10 @@ pub Carries-fields : (meanings : Meanings) → AreMeanings meanings → (mode : 
 Carries-fields meanings are mode store one asked chosen span header a owed owes wanted found header_is adds =
     let view = fields chosen.names.now chosen.negated in
     let told : adds.text ≡ meanings.view_of view (octets_at meanings mode store one span) = are.views view header adds.text adds.are_chosen ∙ ap (meanings.view_of view) header_is in
-    let parts : view_parts mode asked.name (partial_octets asked.partial adds.text) ≡ asked_parts meanings mode store one asked =
-    ap (λ (l : List ℕ). view_parts mode asked.name (partial_octets asked.partial l)) told
-    ∙ sym (ap (wanted_parts meanings mode store one asked.name asked.partial asked.wanted) found
-    ∙ ap (λ (w : Wanted). wanted_parts meanings mode store one asked.name asked.partial w (Some span)) wanted) in
+    let parts : view_parts mode (name_of asked) (partial_octets asked.partial adds.text) ≡ asked_parts meanings mode store one asked =
+    ap (λ (l : List ℕ). view_parts mode (name_of asked) (partial_octets asked.partial l)) told
+    ∙ sym (ap (wanted_parts meanings mode store one (name_of asked) asked.partial asked.wanted) found
+    ∙ ap (λ (w : Wanted). wanted_parts meanings mode store one (name_of asked) asked.partial w (Some span)) wanted) in
     subst (λ (l : List ReplyPart). Carries (part_octets meanings) a a None owed owes (reply l)) parts
-    (Carries-parts (part_octets meanings) a owed owes (view_parts mode asked.name (partial_octets asked.partial adds.text))
-    (view_told meanings mode asked.name (partial_octets asked.partial adds.text) owed owes adds.new_is))
+    (Carries-parts (part_octets meanings) a owed owes (view_parts mode (name_of asked) (partial_octets asked.partial adds.text))
+    (view_told meanings mode (name_of asked) (partial_octets asked.partial adds.text) owed owes adds.new_is))

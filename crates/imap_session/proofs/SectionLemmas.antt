@@ -5,7 +5,6 @@ use Rattle.std.specs.Fmt.{decimal}
 use Rattle.std.specs.List.{join_with_byte}
 use Rattle.std.proofs.lemmas.List.{drop_min, length-drop, length-take-le, map_more, take_all, take_min}
 use Rattle.mail_wire.specs.declared.values.Span.{Span}
-use Rattle.mime_tree.specs.declared.sections.Part.{Part}
 use Rattle.kept_mail.specs.declared.kept.Listed.{Listed}
 use Rattle.mail_store.specs.StoreState.{StoreState}
 use Rattle.surrogate_cache.specs.Served.{Mode}
@@ -14,13 +13,14 @@ use Rattle.imap_grammar.specs.declared.command.SectionPart.{SectionPart}
 use Rattle.imap_grammar.specs.declared.command.SectionPart.TheVariants as part
 use Rattle.imap_views.specs.Chosen.{AreChosen}
 use Rattle.imap_views.specs.Strings.{AddsText}
-use Rattle.imap_session.specs.Items.{part_words, partial_octets, partial_span, partial_text, section_at, section_name, section_parts, shown_parts}
+use Rattle.imap_session.specs.Items.{part_words, partial_octets, partial_span, partial_text, section_name}
 use Rattle.imap_session.specs.Replies.{text}
 use Rattle.imap_session.specs.declared.sections.Asked.{Asked}
 use Rattle.imap_session.specs.declared.sections.Chosen.{Chosen}
 use Rattle.imap_session.specs.declared.sections.Wanted.{Wanted}
 use Rattle.imap_session.specs.declared.sections.Wanted.TheVariants as want
-use Rattle.imap_session.specs.private.Asking.{AddsFields, IsOfMessage, IsWanted, apart_octets, asked_parts, head_octets, names_all, wanted_parts}
+use Rattle.imap_session.specs.private.Asking.{AddsFields, apart_octets, head_octets, name_of, wanted_parts}
+use Rattle.imap_session.specs.private.Shown.{names_all}
 use Rattle.imap_session.proofs.FetchLemmas.{stands_behind}
 
 -- ---- texts with an octet between any two
@@ -67,24 +67,14 @@ joined_words path (part.Fields names negated) = joined_word path _
 joined_words path part.Text = joined_word path (codes "TEXT")
 joined_words path part.Mime = joined_word path (codes "MIME")
 
--- the name is put together a piece after another
-pub name_made : (path : List ℕ) (what : SectionPart) (partial : Option (ℕ × ℕ)) (apart : Bool) (begun numbered spaced worded closed name : List ℕ) → begun ≡ codes "BODY[" → numbered ≡ begun ++ join_with_byte 46 (map decimal path)
+-- the name is put last a piece after another
+pub name_made : (path : List ℕ) (what : SectionPart) (partial : Option (ℕ × ℕ)) (apart : Bool) (old begun numbered spaced worded closed name : List ℕ) → begun ≡ old ++ codes "BODY[" → numbered ≡ begun ++ join_with_byte 46 (map decimal path)
     → apart ≡ (not (names_all what) && not (length path == 0)) → spaced ≡ numbered ++ apart_octets 46 apart → worded ≡ spaced ++ join_with_byte 46 (part_words what) → closed ≡ worded ++ codes "]"
-    → name ≡ closed ++ partial_text partial → name ≡ section_name path what partial
-name_made path what partial apart begun numbered spaced worded closed name begun_is numbered_is apart_is spaced_is worded_is closed_is name_is =
+    → name ≡ closed ++ partial_text partial → name ≡ old ++ section_name path what partial
+name_made path what partial apart old begun numbered spaced worded closed name begun_is numbered_is apart_is spaced_is worded_is closed_is name_is =
     rw (name_is, closed_is, worded_is, spaced_is, apart_is, numbered_is, begun_is, joined_words path what) (simp append_assoc)
 
 -- ---- what is asked
-
--- a section that a path and a part name
-pub section_asked : (meanings : Meanings) (mode : Mode) (store : StoreState) (one : Listed) (what : SectionPart) (asked : Asked) → IsWanted what asked.wanted
-    → section_parts meanings mode store one asked.name asked.path.now what asked.partial ≡ asked_parts meanings mode store one asked
-section_asked meanings mode store one what asked is = rw is.at (is.parts meanings mode store one asked.name asked.partial _)
-
--- octets of the whole message
-pub message_asked : (meanings : Meanings) (mode : Mode) (store : StoreState) (one : Listed) (called : List ℕ) (what : Part) (asked : Asked) → IsOfMessage called what asked
-    → shown_parts mode store one called None (section_at meanings mode store one [] what) ≡ asked_parts meanings mode store one asked
-message_asked meanings mode store one called what asked is = rw (is.wanted, is.partial, is.path, is.name) refl
 
 -- where there is no such section
 pub nothing_wanted : (meanings : Meanings) (mode : Mode) (store : StoreState) (one : Listed) (asked : List ℕ) (partial : Option (ℕ × ℕ)) (wanted : Wanted)
@@ -110,7 +100,7 @@ partial_alone (Some asked) octets whole at len =
 
 -- the part of the fields that was asked is put last as a literal
 part_added : (asked : Asked) (chosen : Chosen) (header told : List ℕ) (whole : Span) (old headed new : List ℕ) → AddsText (AreChosen header chosen.names.now chosen.negated) [] told → whole.at ≡ 0 → whole.len ≡ length told
-    → headed ≡ old ++ head_octets asked.name (partial_span asked.partial whole).len
+    → headed ≡ old ++ head_octets (name_of asked) (partial_span asked.partial whole).len
     → new ≡ headed ++ slice_range told (partial_span asked.partial whole).at ((partial_span asked.partial whole).at + (partial_span asked.partial whole).len) → AddsFields asked chosen header old new
 part_added asked chosen header told whole old headed new are at len headed_is new_is =
     let span = partial_span asked.partial whole in
@@ -123,17 +113,17 @@ part_added asked chosen header told whole old headed new are at len headed_is ne
       text = told;
       are_chosen = subst (AreChosen header chosen.names.now chosen.negated) (sym are.2) are.1;
       new_is = new_is ∙ (ap (λ (l : List ℕ). l ++ slice_range told span.at (span.at + span.len)) headed_is
-          ∙ (append_assoc old (head_octets asked.name span.len) (slice_range told span.at (span.at + span.len))
-          ∙ (ap (λ (l : List ℕ). old ++ (head_octets asked.name span.len ++ l)) slice
-          ∙ (ap (λ (n : ℕ). old ++ (head_octets asked.name n ++ take span.len (drop span.at told))) (sym size)
-          ∙ ap (λ (l : List ℕ). old ++ (head_octets asked.name (length l) ++ l)) (sym part)))));
+          ∙ (append_assoc old (head_octets (name_of asked) span.len) (slice_range told span.at (span.at + span.len))
+          ∙ (ap (λ (l : List ℕ). old ++ (head_octets (name_of asked) span.len ++ l)) slice
+          ∙ (ap (λ (n : ℕ). old ++ (head_octets (name_of asked) n ++ take span.len (drop span.at told))) (sym size)
+          ∙ ap (λ (l : List ℕ). old ++ (head_octets (name_of asked) (length l) ++ l)) (sym part)))));
     }
   where
     add_sub : (a b : ℕ) → (a + b) - a ≡ b
     add_sub a b = omega arith
 
-pub fields_added : (asked : Asked) (chosen : Chosen) (header told : List ℕ) (whole span : Span) (named read old headed new : List ℕ) → AddsText (AreChosen header chosen.names.now chosen.negated) [] told → whole.at ≡ 0
-    → whole.len ≡ length told → span ≡ partial_span asked.partial whole → named ≡ asked.name → read ≡ told → headed ≡ old ++ head_octets named span.len → new ≡ headed ++ slice_range read span.at (span.at + span.len)
+pub fields_added : (asked : Asked) (chosen : Chosen) (header told : List ℕ) (whole span : Span) (read old headed new : List ℕ) → AddsText (AreChosen header chosen.names.now chosen.negated) [] told → whole.at ≡ 0
+    → whole.len ≡ length told → span ≡ partial_span asked.partial whole → read ≡ told → headed ≡ old ++ head_octets (name_of asked) span.len → new ≡ headed ++ slice_range read span.at (span.at + span.len)
     → AddsFields asked chosen header old new
-fields_added asked chosen header told whole span named read old headed new are at len span_is named_is read_is headed_is new_is =
-    part_added asked chosen header told whole old headed new are at len (rw (named_is, span_is) at headed_is) (rw (read_is, span_is) at new_is)
+fields_added asked chosen header told whole span read old headed new are at len span_is read_is headed_is new_is =
+    part_added asked chosen header told whole old headed new are at len (rw span_is at headed_is) (rw (read_is, span_is) at new_is)

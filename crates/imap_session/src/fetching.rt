@@ -1,8 +1,10 @@
 //! FETCH (RFC 3501, 6.4.5 and 7.4.2).
-ghost use Rattle.std.specs.Prelude.{◌≡◌, ◌<◌, ◌++◌, ⊤, true, false, length, map, codes, decimal, IfOk, OnOk};
+ghost use Rattle.std.specs.Prelude.{◌≡◌, ◌<◌, ◌++◌, ⊤, true, false, length, map, codes, decimal, IfOk, IfSome, OnOk};
 ghost use Rattle.std.specs.List.{list_any};
 ghost use Rattle.std.specs.Option.{option_copied};
 ghost use Rattle.mail_store.specs.StoreState.{StoreState};
+ghost use Rattle.surrogate_rope.specs.Served.{IsShownOf};
+ghost use Rattle.surrogate_cache.specs.Served.{is_enabled};
 ghost use Rattle.session_core.specs.Desks.{stored_octets};
 ghost use Rattle.session_core.specs.Keeps.{Keeps, fault_of};
 ghost use Rattle.session_core.specs.Meanings.{WithMeanings};
@@ -12,10 +14,10 @@ ghost use Rattle.imap_session.specs.Replies.{part_octets, reply_octets};
 ghost use Rattle.imap_session.specs.private.Fetched.{end_octets, space_octets, tells_flags_last, tells_uid_first, uid_first_octets};
 ghost use Rattle.imap_session.specs.private.Pending.{Carries};
 ghost use Rattle.imap_session.specs.private.Messages.{ShowsAlike};
-ghost use Rattle.imap_session.specs.private.Shown.{HasShown, asks_section, shows};
+ghost use Rattle.imap_session.specs.private.Shown.{HasShown, asks_section, octets_shown, shows};
 
 use crate::messages::{EachMessage, change_flags};
-use crate::sections::{asked_by, push_number, put_section};
+use crate::sections::{asked_by, is_message, push_number, put_section, put_stored};
 use crate::states::Kind;
 use crate::views::{put_envelope, put_structure};
 use imap_grammar::{FetchItem, StoreOp};
@@ -23,7 +25,6 @@ use imap_mailboxes::{has_flag, push_flags};
 use kept_mail::Listed;
 use mail_wire::{Clock, Fault, Keeper, Memory, Octets, Wire};
 use session_core::Outside;
-use std::alloc::Global;
 use std::marker::PhantomData;
 use surrogate_rope::Shown;
 
@@ -52,21 +53,26 @@ fn sets_seen(item: &FetchItem) -> bool
     }
 }
 
-// Whether the octets that are served tell the item.
-fn needs_shown(item: &FetchItem) -> bool
-    ensures { result ≡ shows item.now }
+// Whether what is shown of a message, for which its tree is read, is needed to tell the item. Where UTF-8 is enabled it isn't for all that is stored.
+fn needs_shown(item: &FetchItem, enabled: bool) -> bool
+    ensures { result ≡ shows enabled item.now }
 {
-    !matches!(
-        item,
-        FetchItem::Flags | FetchItem::Uid | FetchItem::InternalDate
-    )
+    match item {
+        FetchItem::Flags => false,
+        FetchItem::Uid => false,
+        FetchItem::InternalDate => false,
+        FetchItem::Size => !enabled,
+        FetchItem::Rfc822 => !enabled,
+        FetchItem::Section { path, part, .. } => !(enabled && is_message(path.as_slice(), part)),
+        _ => true,
+    }
 }
 
-// Whether the octets that are served tell some item.
-fn asks_shown(items: &[FetchItem]) -> bool
-    ensures { result ≡ list_any shows items.now }
+// Whether it is needed for some item.
+fn asks_shown(items: &[FetchItem], enabled: bool) -> bool
+    ensures { result ≡ list_any (shows enabled) items.now }
 {
-    items.iter().any(needs_shown)
+    items.iter().any(|item| needs_shown(item, enabled))
 }
 
 fn asks_uid(items: &[FetchItem]) -> bool
@@ -97,17 +103,17 @@ pub struct Fetching<'a, V> {
     pub view: PhantomData<V>,
 }
 
-// What a session of this kind is shown of a message, where an item tells of it.
+// What a session of this kind is shown of a message, where an item needs it.
 fn shown_for<V: Kind, W: Wire, J: Keeper, C: Clock>(
     items: &[FetchItem],
     id: u32,
     outside: &mut Outside<W, J, C>,
 ) -> Result<Option<Shown>, Memory>
     requires { id < length outside.old.desk.store.kept.messages }
-    ensures shown { IfOk result (λ shown. HasShown V.mode (stored_octets outside.old.desk.store id) (list_any shows items.now) shown) }
+    ensures shown { IfOk result (λ shown. HasShown V.mode (stored_octets outside.old.desk.store id) (list_any (shows (is_enabled V.mode)) items.now) shown) }
     ensures same { outside.new ≡ outside.old }
 {
-    if !asks_shown(items) {
+    if !asks_shown(items, V::enabled()) {
         return Ok(None);
     }
     Ok(Some(outside.show::<V>(id)?))
@@ -123,11 +129,22 @@ fn push_date(pending: &mut Octets, date: &[u8]) -> Result<(), Memory>
 }
 
 // Puts the beginning of a message's reply last.
-fn push_front(alloc: Global, pending: &mut Octets, number: u32) -> Result<(), Memory>
+fn push_front(pending: &mut Octets, number: u32) -> Result<(), Memory>
     ensures { OnOk result (pending.new ≡ pending.old ++ (codes "* " ++ (decimal number ++ codes " FETCH ("))) }
 {
-    let front = format!(in alloc; "* {number} FETCH (")?;
-    pending.push_slice(front.as_bytes())
+    push_number(pending, b"* ", number as usize)?;
+    pending.push_slice(b" FETCH (")
+}
+
+// How many octets are shown of a message: those that are stored, where nothing else tells it.
+fn shown_size(shown: Option<&Shown>, msg: &[u8]) -> usize
+    requires { IfSome (option_copied shown) (IsShownOf msg.now) }
+    ensures { result ≡ length (octets_shown msg.now (option_copied shown.entry)) }
+{
+    match shown {
+        Some(shown) => shown.size(msg),
+        None => msg.len(),
+    }
 }
 
 // Puts what an item tells of a message last, where it asks no section.
@@ -140,18 +157,18 @@ fn push_told<V: Kind, W: Wire, J: Keeper, C: Clock>(
 ) -> Result<(), Memory>
     requires id { one.now.id < length outside.now.desk.store.kept.messages }
     requires other { asks_section item.now ≡ false }
-    requires shown { HasShown V.mode (stored_octets outside.now.desk.store one.now.id) (shows item.now) (option_copied shown) }
+    requires shown { HasShown V.mode (stored_octets outside.now.desk.store one.now.id) (shows (is_enabled V.mode) item.now) (option_copied shown) }
     ensures { WithMeanings (λ meanings. (store : StoreState) → ShowsAlike store outside.now.desk.store
         → OnOk result (pending.new ≡ pending.old ++ reply_octets meanings (item_parts meanings V.mode store one.now item.now))) }
 {
     let alloc = outside.alloc();
     match (item, shown) {
         (FetchItem::Flags, _) => push_flags(pending, one.flags),
-        (FetchItem::Uid, _) => push_number(alloc, pending, "UID ", one.uid as usize),
+        (FetchItem::Uid, _) => push_number(pending, b"UID ", one.uid as usize),
         (FetchItem::InternalDate, _) => push_date(pending, outside.date(one.id)),
-        (FetchItem::Size, Some(shown)) => {
-            let size = shown.size(outside.octets(one.id));
-            push_number(alloc, pending, "RFC822.SIZE ", size)
+        (FetchItem::Size, _) => {
+            let size = shown_size(shown, outside.octets(one.id));
+            push_number(pending, b"RFC822.SIZE ", size)
         }
         (FetchItem::Envelope, Some(shown)) => {
             put_envelope(alloc, shown, outside.octets(one.id), pending)
@@ -175,18 +192,18 @@ fn put_item<V: Kind, W: Wire, J: Keeper, C: Clock>(
     outside: &mut Outside<W, J, C>,
 ) -> Result<(), Fault>
     requires id { one.now.id < length outside.old.desk.store.kept.messages }
-    requires shown { HasShown V.mode (stored_octets outside.old.desk.store one.now.id) (shows item.now) (option_copied shown) }
+    requires shown { HasShown V.mode (stored_octets outside.old.desk.store one.now.id) (shows (is_enabled V.mode) item.now) (option_copied shown) }
     ensures carries { WithMeanings (λ meanings. (store : StoreState) → ShowsAlike store outside.old.desk.store → Carries (part_octets meanings) outside.old outside.new (fault_of result)
         pending.old pending.new (reply (item_parts meanings V.mode store one.now item.now))) }
     ensures desk { OnOk result (outside.new.desk ≡ outside.old.desk) }
     ensures keeps { Keeps outside.old outside.new (fault_of result) }
 {
-    match (asked_by(outside.alloc(), item)?, shown) {
+    match (asked_by(item), shown) {
         (None, _) => Ok(push_told::<V, W, J, C>(item, one, shown, outside, pending)?),
         (Some(asked), Some(shown)) => {
             put_section::<V, W, J, C>(&asked, one, shown, pending, outside)
         }
-        (Some(_), None) => unreachable!(),
+        (Some(asked), None) => put_stored::<V, W, J, C>(&asked, one, pending, outside),
     }
 }
 
@@ -232,19 +249,14 @@ impl<'a, V: Kind> Fetching<'a, V> {
     }
 
     // Puts the UID of a message last, where it is told before all that was asked, and answers whether it is.
-    fn push_uid_first(
-        &self,
-        alloc: Global,
-        one: &Listed,
-        pending: &mut Octets,
-    ) -> Result<bool, Memory>
+    fn push_uid_first(&self, one: &Listed, pending: &mut Octets) -> Result<bool, Memory>
         ensures first { IfOk result (λ first. first ≡ tells_uid_first self.now.by_uid self.now.items.now) }
         ensures told { IfOk result (λ first. pending.new ≡ pending.old ++ uid_first_octets first one.now) }
     {
         if !self.by_uid || asks_uid(self.items) {
             return Ok(false);
         }
-        push_number(alloc, pending, "UID ", one.uid as usize)?;
+        push_number(pending, b"UID ", one.uid as usize)?;
         Ok(true)
     }
 
@@ -280,9 +292,8 @@ impl<'a, V: Kind> Fetching<'a, V> {
         ensures desk { OnOk result (outside.new.desk ≡ outside.old.desk) }
         ensures keeps { Keeps outside.old outside.new (fault_of result) }
     {
-        let alloc = outside.alloc();
-        push_front(alloc, pending, number)?;
-        let uid_first = self.push_uid_first(alloc, one, pending)?;
+        push_front(pending, number)?;
+        let uid_first = self.push_uid_first(one, pending)?;
         put_items::<V, W, J, C>(self.items, one, uid_first, pending, outside)?;
         self.push_end(one, flags_changed, pending)?;
         Ok(())

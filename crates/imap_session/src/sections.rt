@@ -1,21 +1,21 @@
 //! Sections of a message (RFC 3501, 6.4.5): their names in a reply, and the literals that follow these.
-ghost use Rattle.std.specs.Prelude.{◌≡◌, ◌<◌, ◌≤◌, ◌+◌, ◌^◌, ◌++◌, ◌&&◌, ◌==◌, not, length, map, take, drop, codes, decimal, IfOk, IfSome, OnOk};
+ghost use Rattle.std.specs.Prelude.{◌≡◌, ◌<◌, ◌≤◌, ◌+◌, ◌^◌, ◌++◌, ◌&&◌, ◌==◌, not, length, map, codes, decimal, IfSome, OnOk};
 ghost use Rattle.std.specs.List.{join_with_byte, list_all};
 ghost use Rattle.imap_words.specs.Tokens.{is_atom_char};
 ghost use Rattle.mime_tree.specs.Sections.{section};
+ghost use Rattle.surrogate_cache.specs.Served.{is_enabled};
 ghost use Rattle.surrogate_rope.specs.Served.{IsShownOf, shown_octets, shown_outlines};
 ghost use Rattle.mail_store.specs.StoreState.{StoreState};
 ghost use Rattle.session_core.specs.Desks.{stored_octets};
-ghost use Rattle.session_core.specs.Doing.{Replies};
 ghost use Rattle.session_core.specs.Keeps.{Keeps, fault_of};
 ghost use Rattle.session_core.specs.Meanings.{WithMeanings};
-ghost use Rattle.imap_session.specs.Items.{field_name, fields_word as word_of_fields, part_words, partial_span as span_of_partial, partial_text, section_name as name_of_section, span_parts};
+ghost use Rattle.imap_session.specs.Items.{field_name, fields_word as word_of_fields, part_words, partial_span as span_of_partial, partial_text, section_name, span_parts};
 ghost use Rattle.imap_session.specs.Machine.{reply};
 ghost use Rattle.imap_session.specs.Replies.{part_octets};
-ghost use Rattle.imap_session.specs.private.Asking.{IsAsked, IsOfMessage, IsWanted, apart_octets, asked_parts, head_octets, names_all, wanted_place};
+ghost use Rattle.imap_session.specs.private.Asking.{AsksStored, IsAsked, IsOfMessage, IsWanted, apart_octets, asked_parts, head_octets, name_of, wanted_place};
 ghost use Rattle.imap_session.specs.private.Messages.{ShowsAlike};
 ghost use Rattle.imap_session.specs.private.Pending.{Carries};
-ghost use Rattle.imap_session.specs.private.Shown.{IsShownIn};
+ghost use Rattle.imap_session.specs.private.Shown.{IsShownIn, names_all, names_message};
 
 use crate::messages::give_pending;
 use crate::states::Kind;
@@ -24,8 +24,9 @@ use imap_grammar::{FetchItem, SectionPart};
 use imap_mailboxes::quote;
 use imap_views::read_range;
 use imap_words::{Kind as Run, passes};
+use itoa::Buffer;
 use kept_mail::Listed;
-use mail_wire::{Clock, Fault, Keeper, Memory, Octets, PIECE, Span, Wire};
+use mail_wire::{Clock, Fault, Keeper, Memory, Octets, Span, Wire};
 use mime_tree::Part;
 use session_core::Outside;
 use std::alloc::Global;
@@ -34,16 +35,12 @@ use surrogate_rope::Shown;
 // ---- names
 
 /// Puts a number last, behind a word.
-pub fn push_number(
-    alloc: Global,
-    made: &mut Octets,
-    word: &str,
-    number: usize,
-) -> Result<(), Memory>
+pub fn push_number(made: &mut Octets, word: &[u8], number: usize) -> Result<(), Memory>
     ensures { OnOk result (made.new ≡ made.old ++ (word.now ++ decimal number)) }
 {
-    let text = format!(in alloc; "{word}{number}")?;
-    made.push_slice(text.as_bytes())
+    let mut digits = Buffer::new();
+    made.push_slice(word)?;
+    made.push_slice(digits.format(number).as_bytes())
 }
 
 // Puts an octet last where something stands before what comes next.
@@ -56,13 +53,13 @@ fn push_apart(made: &mut Octets, octet: u8, apart: bool) -> Result<(), Memory>
     Ok(())
 }
 
-fn push_path(alloc: Global, name: &mut Octets, path: &[u32]) -> Result<(), Memory>
+fn push_path(name: &mut Octets, path: &[u32]) -> Result<(), Memory>
     ensures { OnOk result (name.new ≡ name.old ++ join_with_byte 46 (map decimal path.now)) }
 {
     let mut apart = false;
     for number in path {
         push_apart(name, b'.', apart)?;
-        push_number(alloc, name, "", *number as usize)?;
+        push_number(name, b"", *number as usize)?;
         apart = true;
     }
     Ok(())
@@ -142,6 +139,13 @@ fn is_whole(part: &SectionPart) -> bool
     matches!(part, SectionPart::Whole)
 }
 
+/// Whether a section is the message.
+pub fn is_message(path: &[u32], part: &SectionPart) -> bool
+    ensures { result ≡ names_message path.now part.now }
+{
+    is_whole(part) && path.is_empty()
+}
+
 // Whether a part has a word behind a path.
 fn stands_apart(path: &[u32], part: &SectionPart) -> bool
     ensures { result ≡ (not (names_all part.now) && not (length path.now == 0)) }
@@ -150,32 +154,32 @@ fn stands_apart(path: &[u32], part: &SectionPart) -> bool
 }
 
 // Puts the octet last from which on a part of the section is asked.
-fn push_partial(alloc: Global, name: &mut Octets, partial: Option<(u32, u32)>) -> Result<(), Memory>
+fn push_partial(name: &mut Octets, partial: Option<(u32, u32)>) -> Result<(), Memory>
     ensures { OnOk result (name.new ≡ name.old ++ partial_text partial) }
 {
     let Some((from, _)) = partial else {
         return Ok(());
     };
-    let text = format!(in alloc; "<{from}>")?;
-    name.push_slice(text.as_bytes())
+    push_number(name, b"<", from as usize)?;
+    name.push(b'>')
 }
 
-// The name of a section in a reply.
-fn section_name(
+// Puts the name of a section last.
+fn push_section(
     alloc: Global,
+    name: &mut Octets,
     path: &[u32],
     part: &SectionPart,
     partial: Option<(u32, u32)>,
-) -> Result<Octets, Memory>
-    ensures { IfOk result (λ name. name ≡ name_of_section path.now part.now partial) }
+) -> Result<(), Memory>
+    ensures { OnOk result (name.new ≡ name.old ++ section_name path.now part.now partial) }
 {
-    let mut name = Octets::from_slice(alloc, b"BODY[")?;
-    push_path(alloc, &mut name, path)?;
-    push_apart(&mut name, b'.', stands_apart(path, part))?;
-    push_word(alloc, &mut name, part)?;
+    name.push_slice(b"BODY[")?;
+    push_path(name, path)?;
+    push_apart(name, b'.', stands_apart(path, part))?;
+    push_word(alloc, name, part)?;
     name.push(b']')?;
-    push_partial(alloc, &mut name, partial)?;
-    Ok(name)
+    push_partial(name, partial)
 }
 
 // ---- what is asked
@@ -194,10 +198,17 @@ pub enum Wanted<'a> {
     Fields(Chosen<'a>),
 }
 
-/// A section that is asked, and its name in the reply.
-#[derive(Drop)]
+/// What a section is called in the reply: a word, or what its own words say.
+#[derive(Clone, Copy)]
+pub enum Called<'a> {
+    Word(&'a [u8]),
+    Section(&'a SectionPart),
+}
+
+/// A section that is asked.
+#[derive(Clone, Copy)]
 pub struct Asked<'a> {
-    pub name: Octets,
+    pub called: Called<'a>,
     pub path: &'a [u32],
     pub wanted: Wanted<'a>,
     /// From this octet on, at most so many.
@@ -220,37 +231,47 @@ fn wanted_of(part: &SectionPart) -> Wanted<'_>
 }
 
 // Octets of the whole message, under a name of their own.
-fn of_message(alloc: Global, name: &[u8], part: Part) -> Result<Asked<'static>, Memory>
-    ensures { IfOk result (IsOfMessage name.now part) }
+fn of_message(word: &'static [u8], part: Part) -> Asked<'static>
+    ensures { IsOfMessage word.now part result }
 {
-    Ok(Asked {
-        name: Octets::from_slice(alloc, name)?,
+    Asked {
+        called: Called::Word(word),
         path: &[],
         wanted: Wanted::Octets(part),
         partial: None,
-    })
+    }
 }
 
 /// The section that an item asks, if it asks one.
-pub fn asked_by(alloc: Global, item: &FetchItem) -> Result<Option<Asked<'_>>, Memory>
-    ensures { IfOk result (IsAsked item.now) }
+pub fn asked_by(item: &FetchItem) -> Option<Asked<'_>>
+    ensures { IsAsked item.now result }
 {
     match item {
-        FetchItem::Rfc822 => Ok(Some(of_message(alloc, b"RFC822", Part::Whole)?)),
-        FetchItem::Rfc822Header => Ok(Some(of_message(alloc, b"RFC822.HEADER", Part::Header)?)),
-        FetchItem::Rfc822Text => Ok(Some(of_message(alloc, b"RFC822.TEXT", Part::Text)?)),
+        FetchItem::Rfc822 => Some(of_message(b"RFC822", Part::Whole)),
+        FetchItem::Rfc822Header => Some(of_message(b"RFC822.HEADER", Part::Header)),
+        FetchItem::Rfc822Text => Some(of_message(b"RFC822.TEXT", Part::Text)),
         FetchItem::Section {
             path,
             part,
             partial,
             ..
-        } => Ok(Some(Asked {
-            name: section_name(alloc, path.as_slice(), part, *partial)?,
+        } => Some(Asked {
+            called: Called::Section(part),
             path: path.as_slice(),
             wanted: wanted_of(part),
             partial: *partial,
-        })),
-        _ => Ok(None),
+        }),
+        _ => None,
+    }
+}
+
+// Puts the name of what is asked last.
+fn push_name(alloc: Global, pending: &mut Octets, asked: &Asked<'_>) -> Result<(), Memory>
+    ensures { OnOk result (pending.new ≡ pending.old ++ name_of asked.now) }
+{
+    match asked.called {
+        Called::Word(word) => pending.push_slice(word),
+        Called::Section(part) => push_section(alloc, pending, asked.path, part, asked.partial),
     }
 }
 
@@ -271,56 +292,31 @@ pub fn partial_span(partial: Option<(u32, u32)>, span: Span) -> Span
     }
 }
 
-/// Puts the header of a literal last, behind the name of what was asked.
+/// Puts the header of a literal last, behind the name of what is asked.
 pub fn push_head(
     alloc: Global,
     pending: &mut Octets,
-    asked: &[u8],
+    asked: &Asked<'_>,
     size: usize,
 ) -> Result<(), Memory>
-    ensures { OnOk result (pending.new ≡ pending.old ++ head_octets asked.now size) }
+    ensures { OnOk result (pending.new ≡ pending.old ++ head_octets (name_of asked.now) size) }
 {
-    pending.push_slice(asked)?;
-    let head = format!(in alloc; " {{{size}}}\r\n")?;
-    pending.push_slice(head.as_bytes())
+    push_name(alloc, pending, asked)?;
+    push_number(pending, b" {", size)?;
+    pending.push_slice(b"}\r\n")
 }
 
 // Puts the answer last where there is no such section.
-fn push_nil(pending: &mut Octets, asked: &[u8]) -> Result<(), Memory>
-    ensures { OnOk result (pending.new ≡ pending.old ++ (asked.now ++ codes " NIL")) }
+fn push_nil(alloc: Global, pending: &mut Octets, asked: &Asked<'_>) -> Result<(), Memory>
+    ensures { OnOk result (pending.new ≡ pending.old ++ (name_of asked.now ++ codes " NIL")) }
 {
-    pending.push_slice(asked)?;
+    push_name(alloc, pending, asked)?;
     pending.push_slice(b" NIL")
 }
 
-// Gives a range of what is shown of a message of the store.
-fn give_range<W: Wire, J: Keeper, C: Clock>(
-    id: u32,
-    shown: &Shown,
-    span: Span,
-    outside: &mut Outside<W, J, C>,
-) -> Result<(), Fault>
-    requires id { id < length outside.old.desk.store.kept.messages }
-    requires shown { IsShownOf (stored_octets outside.old.desk.store id) shown.now }
-    requires within { span.at + span.len ≤ length (shown_octets (stored_octets outside.old.desk.store id) shown.now) }
-    requires fits { span.at + span.len < 2 ^ 64 }
-    ensures replies { Replies outside.old outside.new (fault_of result) (take span.len (drop span.at (shown_octets (stored_octets outside.old.desk.store id) shown.now))) }
-    ensures keeps { Keeps outside.old outside.new (fault_of result) }
-{
-    let mut piece = [0; PIECE];
-    let mut at = 0;
-    while at < span.len {
-        let read = shown.read_at(outside.octets(id), span.at + at, &mut piece);
-        let count = read.min(span.len - at);
-        outside.give(&piece[..count])?;
-        at += count;
-    }
-    Ok(())
-}
-
-// Gives a range of what is shown of a message as a literal, behind what is pending and the name of what was asked.
+// Gives a range of what is shown of a message as a literal, behind what is pending and the name of what is asked.
 fn give_span<V: Kind, W: Wire, J: Keeper, C: Clock>(
-    asked: &[u8],
+    asked: &Asked<'_>,
     span: Span,
     one: &Listed,
     shown: &Shown,
@@ -330,15 +326,38 @@ fn give_span<V: Kind, W: Wire, J: Keeper, C: Clock>(
     requires id { one.now.id < length outside.old.desk.store.kept.messages }
     requires shown { IsShownIn V.mode (stored_octets outside.old.desk.store one.now.id) shown.now }
     requires within { span.at + span.len ≤ length (shown_octets (stored_octets outside.old.desk.store one.now.id) shown.now) }
-    requires fits { span.at + span.len < 2 ^ 64 }
     ensures carries { WithMeanings (λ meanings. (store : StoreState) → ShowsAlike store outside.old.desk.store → Carries (part_octets meanings) outside.old outside.new (fault_of result)
-        pending.old pending.new (reply (span_parts V.mode store one.now asked.now span))) }
+        pending.old pending.new (reply (span_parts V.mode store one.now (name_of asked.now) span))) }
     ensures desk { OnOk result (outside.new.desk ≡ outside.old.desk) }
     ensures keeps { Keeps outside.old outside.new (fault_of result) }
 {
     push_head(outside.alloc(), pending, asked, span.len)?;
     give_pending(pending, outside)?;
-    give_range(one.id, shown, span, outside)
+    outside.give_range(one.id, shown, span)
+}
+
+/// Tells a message as it is stored, or the part of it that is asked. What it is shown of isn't needed.
+pub fn put_stored<V: Kind, W: Wire, J: Keeper, C: Clock>(
+    asked: &Asked<'_>,
+    one: &Listed,
+    pending: &mut Octets,
+    outside: &mut Outside<W, J, C>,
+) -> Result<(), Fault>
+    requires id { one.now.id < length outside.old.desk.store.kept.messages }
+    requires stored { AsksStored (is_enabled V.mode) asked.now }
+    ensures carries { WithMeanings (λ meanings. (store : StoreState) → ShowsAlike store outside.old.desk.store → Carries (part_octets meanings) outside.old outside.new (fault_of result)
+        pending.old pending.new (reply (asked_parts meanings V.mode store one.now asked.now))) }
+    ensures desk { OnOk result (outside.new.desk ≡ outside.old.desk) }
+    ensures keeps { Keeps outside.old outside.new (fault_of result) }
+{
+    let whole = Span {
+        at: 0,
+        len: outside.store().octets(one.id).len(),
+    };
+    let span = partial_span(asked.partial, whole);
+    push_head(outside.alloc(), pending, asked, span.len)?;
+    give_pending(pending, outside)?;
+    outside.give_stored(one.id, span)
 }
 
 // ---- sections
@@ -381,12 +400,12 @@ pub fn put_section<V: Kind, W: Wire, J: Keeper, C: Clock>(
     ensures keeps { Keeps outside.old outside.new (fault_of result) }
 {
     let Some(span) = find(asked, shown, outside.octets(one.id)) else {
-        return Ok(push_nil(pending, asked.name.as_slice())?);
+        return Ok(push_nil(outside.alloc(), pending, asked)?);
     };
     match asked.wanted {
         Wanted::Octets(_) => {
             let span = partial_span(asked.partial, span);
-            give_span::<V, W, J, C>(asked.name.as_slice(), span, one, shown, pending, outside)
+            give_span::<V, W, J, C>(asked, span, one, shown, pending, outside)
         }
         Wanted::Fields(chosen) => {
             let header = read_range(outside.alloc(), shown, outside.octets(one.id), span)?;

@@ -84,6 +84,6 @@ pub fn put_fields(
         len: text.len(),
     };
     let span = partial_span(asked.partial, whole);
-    push_head(alloc, pending, asked.name.as_slice(), span.len)?;
+    push_head(alloc, pending, asked, span.len)?;
     pending.push_slice(&text.as_slice()[span.at..span.at + span.len])
 }

@@ -42,7 +42,7 @@ fn a_legacy_session_is_shown_surrogates(rt: HostRuntime) -> Result<(), Fail> {
 fn an_enabled_session_is_shown_what_is_stored(rt: HostRuntime) -> Result<(), Fail> {
     let alloc = rt.alloc();
     let journal = journal_of(alloc, &[(0, CAFE)])?;
-    let rows: [Row; 6] = [
+    let rows: [Row; 8] = [
         LOGIN,
         ENABLE,
         (b"b ENABLE utf8=accept\r\n", b"* ENABLED\r\nb OK done\r\n"),
@@ -54,6 +54,14 @@ fn an_enabled_session_is_shown_what_is_stored(rt: HostRuntime) -> Result<(), Fai
         (
             b"d UID FETCH 1:* (FLAGS RFC822)\r\n",
             b"* 1 FETCH (UID 1 FLAGS (\\Seen) RFC822 {25}\r\nSubject: caf\xc3\xa9 bar\r\n\r\nx\r\n)\r\nd OK done\r\n",
+        ),
+        (
+            b"e FETCH 1 (BODY[]<9.5> BODY.PEEK[]<25.1> BODY.PEEK[]<26.1>)\r\n",
+            b"* 1 FETCH (BODY[]<9> {5}\r\ncaf\xc3\xa9 BODY[]<25> {0}\r\n BODY[]<26> {0}\r\n)\r\ne OK done\r\n",
+        ),
+        (
+            b"f FETCH 1 (RFC822.SIZE BODY.PEEK[HEADER] BODY.PEEK[]<21.4>)\r\n",
+            b"* 1 FETCH (RFC822.SIZE 25 BODY[HEADER] {22}\r\nSubject: caf\xc3\xa9 bar\r\n\r\n BODY[]<21> {4}\r\n\nx\r\n)\r\nf OK done\r\n",
         ),
     ];
     assert!(rt; keeps(alloc, &journal, &rows, FIRST_SEEN)?);

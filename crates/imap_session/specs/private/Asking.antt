@@ -10,12 +10,13 @@ use Rattle.surrogate_cache.specs.Served.{Mode}
 use Rattle.session_core.specs.Meanings.{Meanings}
 use Rattle.imap_grammar.specs.declared.command.FetchItem.{FetchItem}
 use Rattle.imap_grammar.specs.declared.command.SectionPart.{SectionPart}
-use Rattle.imap_grammar.specs.declared.command.SectionPart.TheVariants as part
 use Rattle.imap_views.specs.Chosen.{AreChosen}
 use Rattle.imap_views.specs.Views.{fields}
-use Rattle.imap_session.specs.Items.{fields_parts, found_parts, item_parts, partial_octets, place_of, section_at, shown_parts}
+use Rattle.imap_session.specs.Items.{fields_parts, found_parts, item_parts, partial_octets, place_of, section_at, section_name, shown_parts}
 use Rattle.imap_session.specs.Replies.{ReplyPart}
 use Rattle.imap_session.specs.declared.sections.Asked.{Asked}
+use Rattle.imap_session.specs.declared.sections.Called.{Called}
+use Rattle.imap_session.specs.declared.sections.Called.TheVariants as calls
 use Rattle.imap_session.specs.declared.sections.Chosen.{Chosen}
 use Rattle.imap_session.specs.declared.sections.Wanted.{Wanted}
 use Rattle.imap_session.specs.declared.sections.Wanted.TheVariants as want
@@ -26,16 +27,19 @@ abbrev pub apart_octets : (octet : ℕ) → (apart : Bool) → List ℕ
 apart_octets octet false = []
 apart_octets octet true = octet ∷ []
 
--- a part that is asked whole has no word
-abbrev pub names_all : SectionPart → Bool
-names_all part.Whole = true
-names_all other = false
-
 -- the header of a literal
 abbrev pub head_octets : (asked : List ℕ) → (size : ℕ) → List ℕ
 head_octets asked size = asked ++ (codes " {" ++ (decimal size ++ codes "}\r\n"))
 
 -- ---- what is asked
+
+-- the name of what is asked
+abbrev pub name_as : Called → (path : List ℕ) → Option (ℕ × ℕ) → List ℕ
+name_as (calls.Word word) path partial = word.now
+name_as (calls.Section what) path partial = section_name path what.now partial
+
+abbrev pub name_of : Asked → List ℕ
+name_of asked = name_as asked.called asked.path.now asked.partial
 
 -- the part of an entity from which what is wanted is taken
 abbrev pub wanted_place : Wanted → Part
@@ -49,7 +53,7 @@ wanted_parts meanings mode store one asked partial (want.Fields chosen) span = f
 
 abbrev pub asked_parts : Meanings → Mode → StoreState → Listed → Asked → List ReplyPart
 asked_parts meanings mode store one asked =
-    wanted_parts meanings mode store one asked.name asked.partial asked.wanted (section_at meanings mode store one asked.path.now (wanted_place asked.wanted))
+    wanted_parts meanings mode store one (name_of asked) asked.partial asked.wanted (section_at meanings mode store one asked.path.now (wanted_place asked.wanted))
 
 -- what the words of a section want
 pub record IsWanted (what : SectionPart) (wanted : Wanted) : Type 0 where
@@ -58,17 +62,24 @@ pub record IsWanted (what : SectionPart) (wanted : Wanted) : Type 0 where
       → found_parts meanings mode store one asked partial what span ≡ wanted_parts meanings mode store one asked partial wanted span
 
 -- octets of the whole message, under this name
-pub record IsOfMessage (called : List ℕ) (what : Part) (asked : Asked) : Type 0 where
-  pub name : asked.name ≡ called
+pub record IsOfMessage (word : List ℕ) (what : Part) (asked : Asked) : Type 0 where
+  pub name : (path : List ℕ) (partial : Option (ℕ × ℕ)) → name_as asked.called path partial ≡ word
   pub path : asked.path.now ≡ []
   pub wanted : asked.wanted ≡ want.Octets what
   pub partial : asked.partial ≡ None
+
+-- what is asked is what is stored, or a part of it
+pub record AsksStored (enabled : Bool) (asked : Asked) : Type 0 where
+  pub is_enabled : enabled ≡ true
+  pub path : asked.path.now ≡ []
+  pub wanted : asked.wanted ≡ want.Octets place.Whole
 
 -- the item asks this section, or none
 abbrev pub IsAsked : FetchItem → Option Asked → Type 0
 IsAsked item None = asks_section item ≡ false
 IsAsked item (Some asked) =
-    (shows item ≡ true) × ((meanings : Meanings) (mode : Mode) (store : StoreState) (one : Listed) → item_parts meanings mode store one item ≡ asked_parts meanings mode store one asked)
+    ((enabled : Bool) → shows enabled item ≡ false → AsksStored enabled asked)
+    × ((meanings : Meanings) (mode : Mode) (store : StoreState) (one : Listed) → item_parts meanings mode store one item ≡ asked_parts meanings mode store one asked)
 
 -- ---- fields
 
@@ -76,4 +87,4 @@ IsAsked item (Some asked) =
 pub record AddsFields (asked : Asked) (chosen : Chosen) (header old new : List ℕ) : Type 0 where
   pub text : List ℕ
   pub are_chosen : AreChosen header chosen.names.now chosen.negated text
-  pub new_is : new ≡ old ++ (head_octets asked.name (length (partial_octets asked.partial text)) ++ partial_octets asked.partial text)
+  pub new_is : new ≡ old ++ (head_octets (name_of asked) (length (partial_octets asked.partial text)) ++ partial_octets asked.partial text)

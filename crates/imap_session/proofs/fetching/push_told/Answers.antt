@@ -1,16 +1,17 @@
 use Rattle.std.proofs.Common.{codes, true, false}
+use Rattle.std.specs.Option.{option_copied}
 use Rattle.std.proofs.lemmas.Result.{on_ok_weaker}
 use Rattle.session_core.specs.Desks.{stored_octets}
 use Rattle.imap_session.proofs.RangeLemmas.{envelope_given, size_given, structure_given}
 use Rattle.imap_session.proofs.fetching.push_told.Goals as goal
 
-pub returns-in-Size-Some : goal.returns-in-Size-Some
-returns-in-Size-Some g c = λ meanings are store alike.
+pub returns-in-Size-default : goal.returns-in-Size-default
+returns-in-Size-default g c = λ meanings are store alike.
     let msg = stored_octets c.args.outside.now.desk.store c.args.one.now.id in
-    let is_shown = rw c.in-Size-Some.is-1 at c.requires.shown in
-    let size = rw c.octets.ensures at c.size-size.ensures in
-    rw c.in-Size-Some.is-0 (on_ok_weaker c.push_number-in-Size-Some.result (λ put. size_given meanings are g.V.View.mode store c.args.one.now msg c.in-Size-Some.shown.now c.size-size.result
-    c.args.pending.now c.push_number-in-Size-Some.new.made (alike.octets c.args.one.now.id) is_shown size put) c.push_number-in-Size-Some.ensures)
+    let has_shown = rw c.in-Size-default.is-0 at c.requires.shown in
+    let size = rw c.octets.ensures at c.shown_size-size.ensures in
+    rw c.in-Size-default.is-0 (on_ok_weaker c.push_number-in-Size-default.result (λ put. size_given meanings are g.V.View.mode store c.args.one.now msg (option_copied c.args.shown) c.shown_size-size.result
+    c.args.pending.now c.push_number-in-Size-default.new.made (alike.octets c.args.one.now.id) has_shown size put) c.push_number-in-Size-default.ensures)
 
 pub returns-in-Envelope-Some : goal.returns-in-Envelope-Some
 returns-in-Envelope-Some g c = λ meanings are store alike.
