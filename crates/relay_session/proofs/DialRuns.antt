@@ -5,7 +5,7 @@ use Rattle.address_grammar.specs.declared.Address.{Address}
 use Rattle.mail_store.specs.Queue.{IsQueue, told_count}
 use Rattle.mail_store.specs.declared.queue.Queued.{Queued}
 use Rattle.mail_wire.specs.Causes.{Rose}
-use Rattle.mail_wire.specs.DialTelling.{DialTelling, IsDialled}
+use Rattle.mail_wire.specs.DialTelling.{AsksAtMost, DialTelling, IsDialled, with_host}
 use Rattle.mail_wire.specs.KeeperTelling.{KeeperTelling}
 use Rattle.mail_wire.specs.Keeping.{HasKeeperCause}
 use Rattle.mail_wire.specs.Telling.{Telling}
@@ -29,16 +29,18 @@ use Rattle.relay_session.proofs.RunBeginnings.{queue_short}
 pub not_empty : (queue : List Queued) (empty : Bool) → (empty ≡ true) ↔ (queue ≡ []) → empty ≡ false → queue ≢ []
 not_empty queue empty means isnt = λ none. false≢true (sym isnt ∙ means.1 none)
 
-pub queue_unbegun : (before now : AroundDial) → StaysHome before now → RelaysQueue before now (Err fault.Memory)
-queue_unbegun before now home path_of reads = unbegun_queue refl home
+pub queue_unbegun : (host : List ℕ) (before now : AroundDial) → StaysHome before now → AsksAtMost before.dial.asked now.dial.asked host
+    → RelaysQueue host before now (Err fault.Memory)
+queue_unbegun host before now home asked path_of reads = unbegun_queue refl home asked
 
-pub queue_idle : (before : AroundDial) (queue : List Queued) → IsQueue before.desk.store.kept.entries queue → queue ≡ []
-    → RelaysQueue before before (Ok (record { sent = 0; reported = 0; left = 0; cause = None }))
-queue_idle before queue told none path_of reads = nobody_waits (nobody_told before.desk.store.kept.entries queue told none) refl refl
+pub queue_idle : (host : List ℕ) (before : AroundDial) (queue : List Queued) → IsQueue before.desk.store.kept.entries queue → queue ≡ []
+    → RelaysQueue host before before (Ok (record { sent = 0; reported = 0; left = 0; cause = None }))
+queue_idle host before queue told none path_of reads = nobody_waits (nobody_told before.desk.store.kept.entries queue told none) refl refl
 
-pub queue_unreached : (before now : AroundDial) (queue : List Queued) → IsQueue before.desk.store.kept.entries queue → queue ≢ [] → StaysHome before now → Rose before.dial.faults now.dial.faults
-    → RelaysQueue before now (Ok (record { sent = 0; reported = 0; left = told_count queue; cause = Some cause.Dial }))
-queue_unreached before now queue told some home rose path_of reads = unreached queue told some home rose refl
+pub queue_unreached : (host : List ℕ) (before now : AroundDial) (queue : List Queued) → IsQueue before.desk.store.kept.entries queue → queue ≢ [] → StaysHome before now
+    → now.dial.asked ≡ with_host before.dial.asked host → Rose before.dial.faults now.dial.faults
+    → RelaysQueue host before now (Ok (record { sent = 0; reported = 0; left = told_count queue; cause = Some cause.Dial }))
+queue_unreached host before now queue told some home asked rose path_of reads = unreached queue told some home asked rose refl
 
 -- an answer of which no count was made
 pub idle_left : HasLeftCause (record { sent = 0; reported = 0; left = 0; cause = None })
@@ -91,11 +93,12 @@ relays_lent start done old new had has first last desk after result begins ends 
     )
 
 -- it was relayed over a connection that a dial made, and the dial was handed it back
-pub queue_connected : (before now : AroundDial) (opened closed : Telling) (queue : List Queued) (result : Result RelayEnd Fault)
-    → IsQueue before.desk.store.kept.entries queue → queue ≢ [] → IsDialled before.dial opened
-    → (loans : Loans) × Relays (over_wire before opened loans) (over_wire now closed loans) result → now.dial.transcript ≡ closed.transcript → RelaysQueue before now result
-queue_connected before now opened closed queue result told some dialled relays handed_back path_of reads =
+pub queue_connected : (host : List ℕ) (before now : AroundDial) (opened closed : Telling) (queue : List Queued) (result : Result RelayEnd Fault)
+    → IsQueue before.desk.store.kept.entries queue → queue ≢ [] → now.dial.asked ≡ with_host before.dial.asked host → IsDialled before.dial opened
+    → (loans : Loans) × Relays (over_wire before opened loans) (over_wire now closed loans) result → now.dial.transcript ≡ closed.transcript → RelaysQueue host before now result
+queue_connected host before now opened closed queue result told some asked dialled relays handed_back path_of reads =
     connected (somebody_told before.desk.store.kept.entries queue told some) (record {
+      asked = asked;
       opened = opened;
       closed = closed;
       loans = relays.0;

@@ -5,7 +5,7 @@ use Rattle.journal_records.specs.Addresses.{WithPaths}
 use Rattle.mail_store.specs.Queue.{IsQueue, open_numbers, told_count}
 use Rattle.mail_store.specs.declared.queue.Queued.{Queued}
 use Rattle.mail_wire.specs.Causes.{Rose}
-use Rattle.mail_wire.specs.DialTelling.{DialTelling, IsDialled}
+use Rattle.mail_wire.specs.DialTelling.{AsksAtMost, DialTelling, IsDialled, with_host}
 use Rattle.mail_wire.specs.KeeperTelling.{KeeperTelling}
 use Rattle.mail_wire.specs.Telling.{Telling}
 use Rattle.mail_wire.specs.declared.outside.Fault.{Fault}
@@ -34,8 +34,9 @@ pub record StaysHome (before now : AroundDial) : Type 0 where
   pub keeper : now.keeper ≡ before.keeper
   pub transcript : now.dial.transcript ≡ before.dial.transcript
 
--- The dial made a connection, on which nothing went yet, and the queue was relayed over it. Then the dial was handed it back.
-pub record RelaysOverDialled (path_of : List ℕ → Option (Option Address)) (before now : AroundDial) (result : Result RelayEnd Fault) : Type 0 where
+-- The dial made a connection to the host, on which nothing went yet, and the queue was relayed over it. Then the dial was handed it back.
+pub record RelaysOverDialled (path_of : List ℕ → Option (Option Address)) (host : List ℕ) (before now : AroundDial) (result : Result RelayEnd Fault) : Type 0 where
+  pub asked : now.dial.asked ≡ with_host before.dial.asked host
   pub opened : Telling
   pub closed : Telling
   pub loans : Loans
@@ -43,21 +44,22 @@ pub record RelaysOverDialled (path_of : List ℕ → Option (Option Address)) (b
   pub relays : RelaysBy path_of (over_wire before opened loans) (over_wire now closed loans) result
   pub handed_back : now.dial.transcript ≡ closed.transcript
 
--- what the relay does by a dial, by its answer
-pub data RelaysQueueBy (path_of : List ℕ → Option (Option Address)) (before now : AroundDial) (result : Result RelayEnd Fault) : Type 0 where
+-- what the relay does by a dial, which is asked for this host once at most, by its answer
+pub data RelaysQueueBy (path_of : List ℕ → Option (Option Address)) (host : List ℕ) (before now : AroundDial) (result : Result RelayEnd Fault) : Type 0 where
   -- there was no memory for the queue, or for a connection
-  unbegun : result ≡ Err fault.Memory → StaysHome before now → RelaysQueueBy path_of before now result
+  unbegun : result ≡ Err fault.Memory → StaysHome before now → AsksAtMost before.dial.asked now.dial.asked host → RelaysQueueBy path_of host before now result
   -- Nobody waits in the queue, and nobody is dialled.
   nobody_waits : open_numbers before.desk.store.kept.entries ≡ [] → now ≡ before
-      → result ≡ Ok (record { sent = 0; reported = 0; left = 0; cause = None }) → RelaysQueueBy path_of before now result
+      → result ≡ Ok (record { sent = 0; reported = 0; left = 0; cause = None }) → RelaysQueueBy path_of host before now result
   -- the dial failed, and everybody is left
-  unreached : (queue : List Queued) → IsQueue before.desk.store.kept.entries queue → queue ≢ [] → StaysHome before now → Rose before.dial.faults now.dial.faults
-      → result ≡ Ok (record { sent = 0; reported = 0; left = told_count queue; cause = Some cause.Dial }) → RelaysQueueBy path_of before now result
-  connected : open_numbers before.desk.store.kept.entries ≢ [] → RelaysOverDialled path_of before now result → RelaysQueueBy path_of before now result
+  unreached : (queue : List Queued) → IsQueue before.desk.store.kept.entries queue → queue ≢ [] → StaysHome before now → now.dial.asked ≡ with_host before.dial.asked host
+      → Rose before.dial.faults now.dial.faults → result ≡ Ok (record { sent = 0; reported = 0; left = told_count queue; cause = Some cause.Dial })
+      → RelaysQueueBy path_of host before now result
+  connected : open_numbers before.desk.store.kept.entries ≢ [] → RelaysOverDialled path_of host before now result → RelaysQueueBy path_of host before now result
 
 -- the same, whatever function reads paths
-abbrev pub RelaysQueue : AroundDial → AroundDial → Result RelayEnd Fault → Type 0
-RelaysQueue before now result = WithPaths (λ path_of. RelaysQueueBy path_of before now result)
+abbrev pub RelaysQueue : List ℕ → AroundDial → AroundDial → Result RelayEnd Fault → Type 0
+RelaysQueue host before now result = WithPaths (λ path_of. RelaysQueueBy path_of host before now result)
 
 -- ---- why recipients are left
 

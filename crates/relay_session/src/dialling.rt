@@ -48,8 +48,8 @@ fn relay_connected<W: Wire, J: Keeper, C: Clock>(
 
 /// Sends the queue of a desk to the server that the host names, and reports whom it couldn't be sent to. Gives the desk back.
 ///
-/// The host is for the dial to read. It dials once, where somebody waits in the queue, and the connection is handed back before this
-/// answers, also with a fault.
+/// The host is for the dial to read. It is dialled once, where somebody waits in the queue, and no other host is. The connection is
+/// handed back before this answers, also with a fault.
 pub fn relay_queue<L: Dial, J: Keeper, C: Clock>(
     alloc: Global,
     desk: Desk,
@@ -59,7 +59,7 @@ pub fn relay_queue<L: Dial, J: Keeper, C: Clock>(
     clock: &mut C,
 ) -> (Desk, Result<RelayEnd, Fault>)
     requires { IsOpen desk }
-    ensures relays { RelaysQueue
+    ensures relays { RelaysQueue host.now
         (record { dial = L.tells dial.old; keeper = J.tells keeper.old; clock = C.tells clock.old; desk = desk })
         (record { dial = L.tells dial.new; keeper = J.tells keeper.new; clock = C.tells clock.new; desk = result.0 }) result.1 }
     ensures left { IfOk result.1 HasLeftCause }

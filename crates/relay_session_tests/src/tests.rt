@@ -160,6 +160,10 @@ fn dialled(
     let host = "mail.example.net";
     let (_desk, end) = relay_queue(alloc, desk, host, &mut dial, &mut keeper, &mut clock);
     let end = end?;
+    let asked = dial.asked();
+    if asked.get(0).is_some_and(|asked| asked != host) || asked.get(1).is_some() {
+        return Err(Fail::from("more was dialled than this host once"));
+    }
     let given = given_of(alloc, dial.entries())?;
     let kept = kept_behind(alloc, &keeper, begun)?;
     Ok(Came { end, given, kept })

@@ -1,16 +1,16 @@
-use Rattle.std.proofs.Common.{refl, rules}
+use Rattle.std.proofs.Common.{refl, rules, ◌∙◌}
 use Rattle.relay_session.proofs.DialRuns.{connected_cause, no_wire_fault, not_empty, queue_connected, queue_idle, queue_unreached, unreached_left}
 use Rattle.relay_session.proofs.dialling.relay_queue.Goals as goal
 
 pub returns-then-is_empty-clause-relays : goal.returns-then-is_empty-clause-relays
 returns-then-is_empty-clause-relays g c =
-    rw (c.end.ensures, c.before-then-is_empty.ensures) (queue_idle _ c.in-Ok.queue c.in-Ok.ensures.queue (c.is_empty.ensures.0 c.if-is_empty.true))
+    rw (c.end.ensures, c.before-then-is_empty.ensures) (queue_idle c.args.host.now _ c.in-Ok.queue c.in-Ok.ensures.queue (c.is_empty.ensures.0 c.if-is_empty.true))
 
 pub returns-in-Err-Outside-clause-relays : goal.returns-in-Err-Outside-clause-relays
 returns-in-Err-Outside-clause-relays g c =
     rw (c.end-in-Err-Outside.ensures, c.before-in-Err-Outside.ensures, c.open_count-left.ensures, c.as_slice.ensures)
-    (queue_unreached _ _ c.in-Ok.queue c.in-Ok.ensures.queue (not_empty c.in-Ok.queue c.is_empty.result c.is_empty.ensures c.if-is_empty.false)
-    (record { desk = refl; keeper = refl; transcript = c.dial.ensures.transcript }) (search rules))
+    (queue_unreached c.args.host.now _ _ c.in-Ok.queue c.in-Ok.ensures.queue (not_empty c.in-Ok.queue c.is_empty.result c.is_empty.ensures c.if-is_empty.false)
+    (record { desk = refl; keeper = refl; transcript = c.dial.ensures.transcript }) (rw c.in-Err-Outside.field-0-is at c.in-Err-Outside.ensures.asked) (search rules))
 
 pub returns-in-Err-Outside-clause-left : goal.returns-in-Err-Outside-clause-left
 returns-in-Err-Outside-clause-left g c =
@@ -19,8 +19,8 @@ returns-in-Err-Outside-clause-left g c =
 
 pub returns-clause-relays : goal.returns-clause-relays
 returns-clause-relays g c =
-    queue_connected _ _ (g.L.Conn.Wire.tells c.in-Ok-dial.conn) (g.L.Conn.Wire.tells c.relay_connected-answer.new.wire) c.in-Ok.queue _ c.in-Ok.ensures.queue
-    (not_empty c.in-Ok.queue c.is_empty.result c.is_empty.ensures c.if-is_empty.false) c.in-Ok-dial.ensures.dialled c.relay_connected-answer.ensures.relays c.hand_back.ensures.transcript
+    queue_connected c.args.host.now _ _ (g.L.Conn.Wire.tells c.in-Ok-dial.conn) (g.L.Conn.Wire.tells c.relay_connected-answer.new.wire) c.in-Ok.queue _ c.in-Ok.ensures.queue
+    (not_empty c.in-Ok.queue c.is_empty.result c.is_empty.ensures c.if-is_empty.false) (c.hand_back.ensures.asked ∙ c.in-Ok-dial.ensures.asked) c.in-Ok-dial.ensures.dialled c.relay_connected-answer.ensures.relays c.hand_back.ensures.transcript
 
 pub returns-clause-cause : goal.returns-clause-cause
 returns-clause-cause g c =
