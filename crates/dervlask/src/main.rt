@@ -5,13 +5,13 @@ mod serve;
 mod telling;
 
 use crate::serve::serve;
-use crate::telling::{JOURNAL, tell_failure, tell_left};
-use mail_command::{WANT_OF_MEMORY, run, serve_words};
+use crate::telling::{JOURNAL, tell_failure, tell_left, tell_memory};
+use mail_command::{KEEPER_FAULT, WANT_OF_MEMORY, WIRE_FAULT, run, serve_words};
 use mail_wire::{FileKeeper, Memory, StdWire, SystemClock, Words};
 use std::alloc::{Alloc, Global};
 use std::env::{self, Env};
 use std::fs::{File, Files, OpenOptions};
-use std::io::{self, Eprint, Input, Print};
+use std::io::{self, BufWriter, Eprint, Input, Print, Read, Write};
 use std::net::{Net, TcpListener, TcpStream};
 use std::process::ExitCode;
 use std::rt::Clock;
@@ -37,6 +37,14 @@ fn root_folder<F: Files<File = File>>(files: &F) -> Option<File> {
     OpenOptions::new().read(true).open(files, "/").ok()
 }
 
+// The status that the program ends with: all that was given is to go out, unless the command failed before.
+fn finished<R: Read, W: Write>(status: u8, wire: &mut StdWire<R, W>) -> u8 {
+    match (status, wire.finish()) {
+        (KEEPER_FAULT | WANT_OF_MEMORY, _) | (_, Ok(())) => status,
+        (_, Err(_)) => WIRE_FAULT,
+    }
+}
+
 // Runs the command that the words name, over standard input and output, and says why it failed.
 fn run_words<T>(rt: &T, words: &Words) -> u8
 where
@@ -48,9 +56,13 @@ where
         + Eprint
         + Alloc<A = Global>,
 {
-    let mut wire = StdWire::new(rt.reader(), io::writer(rt));
+    let Ok(output) = BufWriter::new(rt.alloc(), io::writer(rt)) else {
+        let _told = tell_memory(rt);
+        return WANT_OF_MEMORY;
+    };
+    let mut wire = StdWire::new(rt.reader(), output);
     let mut keeper = FileKeeper::new(rt, JOURNAL);
-    let mut dial = TcpDial::new(rt);
+    let mut dial = TcpDial::new(rt.alloc(), rt);
     let mut clock = SystemClock::new(rt);
     let status = run(
         rt.alloc(),
@@ -60,6 +72,7 @@ where
         &mut dial,
         &mut clock,
     );
+    let status = finished(status, &mut wire);
     let _told = tell_failure(rt, status, &wire, &keeper);
     let _left = tell_left(rt, status, &dial);
     status
@@ -70,7 +83,7 @@ fn main(rt: HostRuntime) -> ExitCode {
     // to: else the journal would be opened in the place of one.
     let _taken = [root_folder(&rt), root_folder(&rt), root_folder(&rt)];
     let Ok(words) = words(&rt) else {
-        let _told = eprintln!(rt; "dervlask: out of memory");
+        let _told = tell_memory(&rt);
         return ExitCode::from(WANT_OF_MEMORY);
     };
     ExitCode::from(match serve_words(&words) {

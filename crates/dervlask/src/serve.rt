@@ -5,7 +5,7 @@ ghost use Rattle.session_core.specs.declared.desk.TheConstants.{LIMITS};
 
 use crate::telling::{JOURNAL, tell, tell_connection, tell_failure, tell_served};
 use mail_command::{
-    DONE, Desk, LIMITS, OpenFault, Role, WIRE_FAULT, open_desk, serve_next, status_after,
+    DONE, Desk, LIMITS, OpenFault, Role, Served, WIRE_FAULT, open_desk, serve_next, status_after,
     tell_unopened,
 };
 use mail_wire::{FileKeeper, StdWire, SystemClock};
@@ -34,6 +34,14 @@ fn tell_port<T: Eprint + Alloc<A = Global>>(rt: &T, port: u16, error: io::Error)
     tell(rt, place.as_str(), error)
 }
 
+// How a session came to its end: all that was given is to go out, unless it failed before.
+fn finished(served: Served, wire: &mut TcpWire) -> Served {
+    match (served, wire.finish()) {
+        (Served::Ended | Served::Limit, Err(_)) => Served::WireFault,
+        _ => served,
+    }
+}
+
 // Serves a connection, and says why it ended if its client didn't end it. The desk for the next one.
 fn serve_stream<T>(
     rt: &T,
@@ -49,7 +57,7 @@ where
     ensures { IfOk result (λ kept. IfSome kept (WorksWithin LIMITS)) }
 {
     let patience = Duration::from_secs(role.patience());
-    let mut wire = match TcpWire::new(stream, patience) {
+    let mut wire = match TcpWire::new(rt.alloc(), stream, patience) {
         Ok(wire) => wire,
         Err(error) => {
             let _told = tell_connection(rt, number, error);
@@ -58,6 +66,7 @@ where
     };
     let mut clock = SystemClock::new(rt);
     let (served, kept) = serve_next(rt.alloc(), role, kept, &mut wire, keeper, &mut clock)?;
+    let served = finished(served, &mut wire);
     let _told = tell_served(rt, number, served, &wire, keeper);
     Ok(kept)
 }

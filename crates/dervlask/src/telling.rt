@@ -28,6 +28,11 @@ pub fn tell<T: Eprint + Alloc<A = Global>>(
     eprintln!(rt; "dervlask: {place}: {reason}")
 }
 
+/// Says that memory was wanting.
+pub fn tell_memory<T: Eprint>(rt: &T) -> io::Result<()> {
+    eprintln!(rt; "dervlask: out of memory")
+}
+
 /// Says why a command ended with this status, where the outside failed or memory was wanting.
 pub fn tell_failure<T, R, W, F>(
     rt: &T,
@@ -51,7 +56,7 @@ where
             Some(error) => tell(rt, JOURNAL, error),
             None => Ok(()),
         },
-        WANT_OF_MEMORY => eprintln!(rt; "dervlask: out of memory"),
+        WANT_OF_MEMORY => tell_memory(rt),
         _ => Ok(()),
     }
 }

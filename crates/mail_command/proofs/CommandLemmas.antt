@@ -11,13 +11,13 @@ use Rattle.setup_command.specs.AddingRuns.{RunsAdding, Broken, InJournal}
 use Rattle.setup_command.specs.WordForms.{IsAccountCommand, IsDomainCommand}
 use Rattle.setup_command.proofs.FormLemmas.{account_once}
 use Rattle.mail_command.specs.Running.{BrokenOff, RefusesWords, words_refused}
-use Rattle.mail_command.specs.Words.{IsNoCommand, OpensJournal, OfSession, OfAccount, OfDomain, OfRelay}
+use Rattle.mail_command.specs.Words.{IsNoCommand, IsRelayCommand, OpensJournal, OfSession, OfAccount, OfDomain, OfRelay}
 
 third_same : (s t p q : List ℕ) → codes "account" ∷ s ∷ p ∷ [] ≡ codes "account" ∷ t ∷ q ∷ [] → p ≡ q
 third_same s t p q same = cc
 
-second_same : (a b : List ℕ) → codes "domain" ∷ a ∷ [] ≡ codes "domain" ∷ b ∷ [] → a ≡ b
-second_same a b same = cc
+second_same : (first a b : List ℕ) → first ∷ a ∷ [] ≡ first ∷ b ∷ [] → a ≡ b
+second_same first a b same = cc
 
 -- what holds of what the words of `account` were read as holds of whatever they say
 pub account_at : (P : Address → List ℕ → Type 0) (words : List (List ℕ)) (a b : Address) (p q : List ℕ) → IsAccountCommand words a p → IsAccountCommand words b q → P a p → P b q
@@ -27,7 +27,11 @@ account_at P words a b p q one other holds =
 
 -- so for `domain`
 pub domain_at : (P : List ℕ → Type 0) (words : List (List ℕ)) (a b : List ℕ) → IsDomainCommand words a → IsDomainCommand words b → P a → P b
-domain_at P words a b one other holds = subst P (second_same a b (sym one.words_are ∙ other.words_are)) holds
+domain_at P words a b one other holds = subst P (second_same (codes "domain") a b (sym one.words_are ∙ other.words_are)) holds
+
+-- and for `relay`
+pub relay_at : (P : List ℕ → Type 0) (words : List (List ℕ)) (a b : List ℕ) → IsRelayCommand words a → IsRelayCommand words b → P a → P b
+relay_at P words a b one other holds = subst P (second_same (codes "relay") a b (sym one.words_are ∙ other.words_are)) holds
 
 -- words of no command don't open the journal
 pub none_opens : (words : List (List ℕ)) → IsNoCommand words → OpensJournal words → ⊥

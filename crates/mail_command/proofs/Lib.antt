@@ -2,9 +2,9 @@ pub mod TakingLemmas
 pub mod WordsLemmas
 pub mod ApartLemmas
 pub mod CommandLemmas
-pub mod RopeLemmas
 pub mod FigureLemmas
 pub mod OutcomeLemmas
+pub mod GivingLemmas
 pub mod RunLemmas
 pub mod AccountLemmas
 pub mod MadeLemmas

@@ -1,7 +1,6 @@
 -- A command comes to one outcome.
 use Rattle.std.proofs.Common.{◌≡◌, ℕ, ◌≤◌, List, ◌++◌, length, codes, sym, ap, ◌∙◌, arith, length-append, subst, ◌⊎◌, inl, inr}
-use Rattle.std.specs.Prelude.{◌≢◌, IfOk, Result, Ok, Err}
-use Rattle.mail_wire.specs.declared.values.Memory.{Memory}
+use Rattle.std.specs.Prelude.{◌≢◌}
 use Rattle.mime_tree.specs.declared.entity.Entity.{Entity}
 use Rattle.mime_tree.specs.declared.entity.TreeFault.{TreeFault}
 use Rattle.mime_tree.specs.declared.entity.TreeFault.TheVariants.{Memory as NoMemory}
@@ -10,16 +9,11 @@ use Rattle.mime_tree.specs.Faults.{IsTreeFault}
 use Rattle.mime_tree.specs.Tree.{HasTree}
 use Rattle.mime_tree.proofs.NoFaults.{no_tree_fault}
 use Rattle.mime_tree.proofs.OneTreeFault.{one_tree_fault}
-use Rattle.surrogate_rope.specs.Layout.{HasSurrogate}
-use Rattle.surrogate_rope.specs.Ropes.{RopeValue, IsRopeOf, octets_of}
-use Rattle.mail_command.specs.declared.lines.Reply.{Reply}
-use Rattle.mail_command.specs.declared.figures.Figures.{Figures}
 use Rattle.mail_command.specs.declared.tasks.Task.{Task}
 use Rattle.mail_command.specs.declared.tasks.Task.TheVariants.{Downgrade, Check}
-use Rattle.mail_command.specs.Checking.{HasFigures, figures_text}
 use Rattle.mail_command.specs.Outcome.{message_max, refusal_line, fault_line, IsGivenBy, Outcome, TooLarge, Refused, Done}
 use Rattle.mail_command.proofs.FigureLemmas.{told_once}
-use Rattle.surrogate_rope.proofs.SurrogateBlocks.{one_surrogate, rope_surrogate}
+use Rattle.surrogate_rope.proofs.SurrogateBlocks.{one_surrogate}
 
 -- the last line of a message is ended in one way
 one_completed : (octets one two : List ℕ) → IsCompleted octets one → IsCompleted octets two → one ≡ two
@@ -97,19 +91,3 @@ pub outcome_fine : (task : Task) (octets : List ℕ) (status : ℕ) (given : Lis
 outcome_fine task octets status given (TooLarge past s g) = inl s
 outcome_fine task octets status given (Refused msg fault fits is found some s g) = inl s
 outcome_fine task octets status given (Done msg fits is of s) = inr s
-
--- the reply that tells a fault
-pub refused_by : (task : Task) (octets msg : List ℕ) (fault : TreeFault) (result : Result Reply Memory) → length octets ≤ message_max → IsCompleted octets msg → IsTreeFault msg fault
-    → IfOk result (λ reply. (fault ≢ NoMemory) × (reply.status ≡ 7) × (reply.given ≡ fault_line fault)) → IfOk result (λ reply. Outcome task octets reply.status reply.given)
-refused_by task octets msg fault (Ok reply) fits is found told = Refused msg fault fits is found told.0 told.1 told.2
-refused_by task octets msg fault (Err memory) fits is found told = tt
-
--- the octets of a rope are the surrogate
-pub surrogate_given : (msg : List ℕ) (rope : RopeValue) (result : Result (List ℕ) Memory) → IsRopeOf msg rope → IfOk result (λ octets. octets ≡ octets_of msg rope) → IfOk result (IsGivenBy Downgrade msg)
-surrogate_given msg rope (Ok octets) made given = subst (HasSurrogate msg) (sym given) (rope_surrogate msg rope made)
-surrogate_given msg rope (Err memory) made given = tt
-
--- the text of the figures
-pub figures_given : (msg : List ℕ) (figures : Figures) (result : Result (List ℕ) Memory) → HasFigures msg figures → IfOk result (λ text. text ≡ figures_text figures) → IfOk result (IsGivenBy Check msg)
-figures_given msg figures (Ok text) has told = record { figures = figures; has = has; text_is = told }
-figures_given msg figures (Err memory) has told = tt

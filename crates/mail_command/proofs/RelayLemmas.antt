@@ -68,56 +68,56 @@ puts_over_wire path_of before now result (idle none same is) other =
     puts_none _ _ _ _ (ap (λ (around : Around). around.desk.store) same) (ap (λ (around : Around). around.keeper.octets) same)
 puts_over_wire path_of before now result (begun bag some to) other = puts_by_answer path_of before now bag to.entries to.replies to.behind result to.answers other
 
-puts_by_dial : (path_of : List ℕ → Option (Option Address)) (before now : AroundDial) (result : Result RelayEnd Fault) → RelaysQueueBy path_of before now result → result ≢ Err fault.Keeper
+puts_by_dial : (path_of : List ℕ → Option (Option Address)) (host : List ℕ) (before now : AroundDial) (result : Result RelayEnd Fault) → RelaysQueueBy path_of host before now result → result ≢ Err fault.Keeper
     → PutsSome before.desk.store now.desk.store before.keeper.octets now.keeper.octets
-puts_by_dial path_of before now result (unbegun_queue is home) other =
+puts_by_dial path_of host before now result (unbegun_queue is home asked) other =
     puts_none _ _ _ _ (ap (λ (desk : Desk). desk.store) home.desk) (ap (λ (keeper : KeeperTelling). keeper.octets) home.keeper)
-puts_by_dial path_of before now result (nobody_waits none same is) other =
+puts_by_dial path_of host before now result (nobody_waits none same is) other =
     puts_none _ _ _ _ (ap (λ (around : AroundDial). around.desk.store) same) (ap (λ (around : AroundDial). around.keeper.octets) same)
-puts_by_dial path_of before now result (unreached queue are some home rose is) other =
+puts_by_dial path_of host before now result (unreached queue are some home asked rose is) other =
     puts_none _ _ _ _ (ap (λ (desk : Desk). desk.store) home.desk) (ap (λ (keeper : KeeperTelling). keeper.octets) home.keeper)
-puts_by_dial path_of before now result (connected some over) other = puts_over_wire path_of _ _ result over.relays other
+puts_by_dial path_of host before now result (connected some over) other = puts_over_wire path_of _ _ result over.relays other
 
-puts_some : (before now : AroundDial) (result : Result RelayEnd Fault) → RelaysQueue before now result → result ≢ Err fault.Keeper
+puts_some : (host : List ℕ) (before now : AroundDial) (result : Result RelayEnd Fault) → RelaysQueue host before now result → result ≢ Err fault.Keeper
     → PutsSome before.desk.store now.desk.store before.keeper.octets now.keeper.octets
-puts_some before now result relays = puts_by_dial meanings_given.0.path_of before now result (relays meanings_given.0.path_of meanings_given.1.paths)
+puts_some host before now result relays = puts_by_dial meanings_given.0.path_of host before now result (relays meanings_given.0.path_of meanings_given.1.paths)
 
 -- ---- the journal isn't opened
 
 -- memory was wanting for the words
-pub relay_unbegun : (limits : Limits) (before : OutsideTelling) → RunsRelay limits before before 3
-relay_unbegun limits before = Broken (inl (inr refl)) (InJournal (Gives-nil before.wire) (left_alone before.keeper.octets) refl)
+pub relay_unbegun : (limits : Limits) (host : List ℕ) (before : OutsideTelling) → RunsRelay limits host before before 3
+relay_unbegun limits host before = Broken (inl (inr refl)) (InJournal (Gives-nil before.wire) (left_alone before.keeper.octets) refl)
 
 -- why it isn't was told, or that was broken off
-pub relay_unopened : (limits : Limits) (before now : OutsideTelling) (met : OpenFault) (result : Result ℕ Fault) → LeavesRecords before.keeper.octets now.keeper.octets
+pub relay_unopened : (limits : Limits) (host : List ℕ) (before now : OutsideTelling) (met : OpenFault) (result : Result ℕ Fault) → LeavesRecords before.keeper.octets now.keeper.octets
     → IfSome before.keeper.octets (λ octets. IsJournalFault octets now.keeper.octets met) → TellsUnopened met before.wire now.wire result → now.dial ≡ before.dial
-    → RunsRelay limits before now (status_of result)
-relay_unopened limits before now faults.Keeper result leaves is tells home = rw tells.1 (Broken (inr refl) (InJournal (quiet before.wire now.wire tells.0) leaves home))
-relay_unopened limits before now faults.Memory result leaves is tells home = rw tells.1 (Broken (inl (inr refl)) (InJournal (quiet before.wire now.wire tells.0) leaves home))
-relay_unopened limits before now (faults.BadJournal at) (Ok status) leaves is tells home =
+    → RunsRelay limits host before now (status_of result)
+relay_unopened limits host before now faults.Keeper result leaves is tells home = rw tells.1 (Broken (inr refl) (InJournal (quiet before.wire now.wire tells.0) leaves home))
+relay_unopened limits host before now faults.Memory result leaves is tells home = rw tells.1 (Broken (inl (inr refl)) (InJournal (quiet before.wire now.wire tells.0) leaves home))
+relay_unopened limits host before now (faults.BadJournal at) (Ok status) leaves is tells home =
     Unopened (place_line (codes "bad journal at ") at) (record { fault = faults.BadJournal at; told = (tells.1, refl); is = is }) tells.0 home
-relay_unopened limits before now (faults.BadJournal at) (Err fault.Wire) leaves is tells home =
+relay_unopened limits host before now (faults.BadJournal at) (Err fault.Wire) leaves is tells home =
     Broken (inl (inl refl)) (InLine 5 (place_line (codes "bad journal at ") at) (record { fault = faults.BadJournal at; told = (refl, refl); is = is }) tells leaves home)
-relay_unopened limits before now (faults.BadJournal at) (Err fault.Memory) leaves is tells home =
+relay_unopened limits host before now (faults.BadJournal at) (Err fault.Memory) leaves is tells home =
     Broken (inl (inr refl)) (InLine 5 (place_line (codes "bad journal at ") at) (record { fault = faults.BadJournal at; told = (refl, refl); is = is }) tells leaves home)
-relay_unopened limits before now (faults.BadJournal at) (Err fault.Keeper) leaves is tells home = absurd tells
+relay_unopened limits host before now (faults.BadJournal at) (Err fault.Keeper) leaves is tells home = absurd tells
 
 -- ---- the queue was relayed
 
 -- from a desk that was opened over this keeper, to a desk
-pub record IsRelayed (limits : Limits) (before now : OutsideTelling) (opened : KeeperTelling) (desk after : Desk) (result : Result RelayEnd Fault) : Type 0 where
+pub record IsRelayed (limits : Limits) (host : List ℕ) (before now : OutsideTelling) (opened : KeeperTelling) (desk after : Desk) (result : Result RelayEnd Fault) : Type 0 where
   pub leaves : LeavesRecords before.keeper.octets opened.octets
   pub opens : OpensStore before.keeper.octets opened.octets desk.store
   pub works : IsOpen desk
   pub limits_are : desk.limits ≡ limits
-  pub relays : RelaysQueue (record { dial = before.dial; keeper = opened; clock = before.clock; desk = desk })
+  pub relays : RelaysQueue host (record { dial = before.dial; keeper = opened; clock = before.clock; desk = desk })
       (record { dial = now.dial; keeper = now.keeper; clock = now.clock; desk = after }) result
   pub left : IfOk result HasLeftCause
   pub cause : IfOk result (HasDialCause before.dial now.dial)
 
-sends_queue : (limits : Limits) (before now : OutsideTelling) (opened : KeeperTelling) (desk after : Desk) (result : Result RelayEnd Fault) → IsRelayed limits before now opened desk after result
-    → SendsQueue limits before now result
-sends_queue limits before now opened desk after result is = record {
+sends_queue : (limits : Limits) (host : List ℕ) (before now : OutsideTelling) (opened : KeeperTelling) (desk after : Desk) (result : Result RelayEnd Fault) → IsRelayed limits host before now opened desk after result
+    → SendsQueue limits host before now result
+sends_queue limits host before now opened desk after result is = record {
   desk = desk;
   after = after;
   opened = opened;
@@ -127,7 +127,7 @@ sends_queue limits before now opened desk after result is = record {
   relays = is.relays;
   left = is.left;
   cause = is.cause;
-  holds = λ other. let puts = puts_some _ _ result is.relays other in
+  holds = λ other. let puts = puts_some host _ _ result is.relays other in
       holds_by before.keeper.octets opened.octets now.keeper.octets desk.store after.store puts.0 is.leaves is.opens.opens puts.1;
 }
 
@@ -137,20 +137,20 @@ breaks_off fault.Keeper = inr refl
 breaks_off fault.Memory = inl (inr refl)
 
 -- it was broken off
-pub relay_failed : (limits : Limits) (before now : OutsideTelling) (opened : KeeperTelling) (desk after : Desk) (result : Result RelayEnd Fault) (met : Fault)
-    → IsRelayed limits before now opened desk after result → result ≡ Err met → now.wire ≡ before.wire → RunsRelay limits before now (status_of (Err met))
-relay_failed limits before now opened desk after result met is failed same =
-    Broken (breaks_off met) (InRelay met (rw failed at (sends_queue limits before now opened desk after result is)) refl (quiet before.wire now.wire same))
+pub relay_failed : (limits : Limits) (host : List ℕ) (before now : OutsideTelling) (opened : KeeperTelling) (desk after : Desk) (result : Result RelayEnd Fault) (met : Fault)
+    → IsRelayed limits host before now opened desk after result → result ≡ Err met → now.wire ≡ before.wire → RunsRelay limits host before now (status_of (Err met))
+relay_failed limits host before now opened desk after result met is failed same =
+    Broken (breaks_off met) (InRelay met (rw failed at (sends_queue limits host before now opened desk after result is)) refl (quiet before.wire now.wire same))
 
-told_by : (limits : Limits) (before now : OutsideTelling) (end : RelayEnd) (result : Result ℕ Fault) → SendsQueue limits before now (Ok end)
-    → TellsLine before.wire now.wire result (relay_status end) (relay_line end) → RunsRelay limits before now (status_of result)
-told_by limits before now end (Ok status) sends tells = Relayed end sends tells.0 tells.1
-told_by limits before now end (Err fault.Wire) sends tells = Broken (inl (inl refl)) (InEnd end sends (inl refl) tells)
-told_by limits before now end (Err fault.Keeper) sends tells = absurd tells
-told_by limits before now end (Err fault.Memory) sends tells = Broken (inl (inr refl)) (InEnd end sends (inr refl) tells)
+told_by : (limits : Limits) (host : List ℕ) (before now : OutsideTelling) (end : RelayEnd) (result : Result ℕ Fault) → SendsQueue limits host before now (Ok end)
+    → TellsLine before.wire now.wire result (relay_status end) (relay_line end) → RunsRelay limits host before now (status_of result)
+told_by limits host before now end (Ok status) sends tells = Relayed end sends tells.0 tells.1
+told_by limits host before now end (Err fault.Wire) sends tells = Broken (inl (inl refl)) (InEnd end sends (inl refl) tells)
+told_by limits host before now end (Err fault.Keeper) sends tells = absurd tells
+told_by limits host before now end (Err fault.Memory) sends tells = Broken (inl (inr refl)) (InEnd end sends (inr refl) tells)
 
 -- how it ended was told, or that was broken off
-pub relay_told : (limits : Limits) (before now : OutsideTelling) (opened : KeeperTelling) (desk after : Desk) (result : Result RelayEnd Fault) (end : RelayEnd) (told : Result ℕ Fault)
-    → IsRelayed limits before now opened desk after result → result ≡ Ok end → TellsLine before.wire now.wire told (relay_status end) (relay_line end) → RunsRelay limits before now (status_of told)
-relay_told limits before now opened desk after result end told is ended tells =
-    told_by limits before now end told (rw ended at (sends_queue limits before now opened desk after result is)) tells
+pub relay_told : (limits : Limits) (host : List ℕ) (before now : OutsideTelling) (opened : KeeperTelling) (desk after : Desk) (result : Result RelayEnd Fault) (end : RelayEnd) (told : Result ℕ Fault)
+    → IsRelayed limits host before now opened desk after result → result ≡ Ok end → TellsLine before.wire now.wire told (relay_status end) (relay_line end) → RunsRelay limits host before now (status_of told)
+relay_told limits host before now opened desk after result end told is ended tells =
+    told_by limits host before now end told (rw ended at (sends_queue limits host before now opened desk after result is)) tells

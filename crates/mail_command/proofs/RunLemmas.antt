@@ -8,11 +8,12 @@ use Rattle.mail_wire.specs.declared.outside.Entry.TheVariants.{Taken, Given}
 use Rattle.mail_wire.specs.Telling.{Telling}
 use Rattle.mail_wire.specs.Transcript.{IsLawful, taken_of, given_of}
 use Rattle.mail_wire.specs.Moves.{Moves, Gives, GivesPrefix}
-use Rattle.mail_wire.proofs.Moving.{Moves-trans, taken_of-append, given_of-append, AreGiven-taken_of, Gives-nil}
+use Rattle.mail_wire.proofs.Moving.{Moves-trans, taken_of-append, given_of-append, AreGiven-taken_of}
 use Rattle.mail_wire.proofs.LawfulLemmas.{IsLawful-give}
 use Rattle.mail_command.specs.Taking.{AreTaken, Takes, TakesUpTo}
 use Rattle.mail_command.specs.declared.tasks.Task.{Task}
-use Rattle.mail_command.specs.Outcome.{message_max, Outcome}
+use Rattle.mail_command.specs.Giving.{GivesOne, BeginsOne, GivesNone, GivesPart}
+use Rattle.mail_command.specs.Outcome.{message_max, Outcome, IsOutcome}
 use Rattle.mail_wire.specs.declared.traffic.TheConstants.{PIECE}
 use Rattle.session_core.specs.Serving.{IsPrefixOf}
 use Rattle.setup_command.specs.Running.{IsBrokenOff}
@@ -21,7 +22,7 @@ use Rattle.setup_command.specs.Statuses.{status_of}
 use Rattle.mail_wire.specs.declared.outside.Fault.{Fault}
 use Rattle.mail_wire.specs.declared.outside.Fault.TheVariants as fault
 use Rattle.mail_command.proofs.TakingLemmas.{AreTaken-given_of}
-use Rattle.mail_command.proofs.OutcomeLemmas.{IsEnough, outcome_once, outcome_whole}
+use Rattle.mail_command.proofs.OutcomeLemmas.{IsEnough, outcome_fine, outcome_once, outcome_whole}
 
 -- before each take nothing was given
 AreTaken-front : (xs ys : List Entry) → AreTaken (xs ++ ys) → AreTaken xs
@@ -91,7 +92,7 @@ all_of : (octets taken : List ℕ) → IsEnough octets taken → length octets �
 all_of octets taken all fits = let len = ap length all.begins in sym (all.whole (omega (arith, length-append taken all.more)))
 
 -- a message was taken, and its outcome given
-pub answers_all : (task : Task) (a b c : Telling) (taken given : List ℕ) (status : ℕ) → TakesUpTo message_max a b taken → Outcome task taken status given → Gives b c given → AnswersAll task a c status
+answers_all : (task : Task) (a b c : Telling) (taken given : List ℕ) (status : ℕ) → TakesUpTo message_max a b taken → Outcome task taken status given → Gives b c given → AnswersAll task a c status
 answers_all task a b c taken given status takes outcome gives =
     let both = takes_and_gives a b c taken given takes.takes gives in
     record {
@@ -104,8 +105,14 @@ answers_all task a b c taken given status takes outcome gives =
       all_taken = rw both.taken_is (IfSome_then a.left {P = λ octets. IsEnough octets taken} (enough a b taken takes) (λ octets all fits. all_of octets taken all fits));
     }
 
+-- nothing was given yet
+pub takes_partly : (task : Task) (a b c : Telling) (taken : List ℕ) → Takes a b taken → length taken ≤ message_max + PIECE → Gives b c [] → BreaksOff task a c
+takes_partly task a b c taken takes few none =
+    breaks_by task a c taken [] (takes_and_gives a b c taken [] takes none) few (λ status whole outcome. (whole, refl))
+    (some_of a.left (λ octets. (status : ℕ) (whole : List ℕ) → Outcome task octets status whole → IsPrefixOf [] whole) (λ octets status whole outcome. (whole, refl)))
+
 -- a message was taken, and its outcome given in part
-pub answers_partly : (task : Task) (a b c : Telling) (taken given : List ℕ) (status : ℕ) → TakesUpTo message_max a b taken → Outcome task taken status given → GivesPrefix b c given
+answers_partly : (task : Task) (a b c : Telling) (taken given : List ℕ) (status : ℕ) → TakesUpTo message_max a b taken → Outcome task taken status given → GivesPrefix b c given
     → BreaksOff task a c
 answers_partly task a b c taken given status takes outcome gives =
     let begins : IsPrefixOf gives.given given = (gives.missing, sym gives.whole) in
@@ -113,11 +120,30 @@ answers_partly task a b c taken given status takes outcome gives =
     (IfSome_then a.left {P = λ octets. IsEnough octets taken} (enough a b taken takes)
     (λ octets all. prefix_of_each task octets status gives.given given (outcome_whole task octets taken status given all outcome) begins))
 
--- nothing was given yet
-pub takes_partly : (task : Task) (a b : Telling) (taken : List ℕ) → Takes a b taken → length taken ≤ message_max + PIECE → BreaksOff task a b
-takes_partly task a b taken takes few =
-    breaks_by task a b taken [] (takes_and_gives a b b taken [] takes (Gives-nil b)) few (λ status whole outcome. (whole, refl))
-    (some_of a.left (λ octets. (status : ℕ) (whole : List ℕ) → Outcome task octets status whole → IsPrefixOf [] whole) (λ octets status whole outcome. (whole, refl)))
+breaks_partly : (task : Task) (a b c : Telling) (taken : List ℕ) → TakesUpTo message_max a b taken → BeginsOne (IsOutcome task taken) b c → BreaksOff task a c
+breaks_partly task a b c taken takes (GivesNone none) = takes_partly task a b c taken takes.takes takes.few none
+breaks_partly task a b c taken takes (GivesPart octets outcome part) = answers_partly task a b c taken octets outcome.0 takes outcome.1 part
+
+-- a message was taken, and this is what giving its outcome answered
+pub answers_by : (task : Task) (a b c : Telling) (taken : List ℕ) (result : Result ℕ Fault) → TakesUpTo message_max a b taken → IfOk result (λ status. GivesOne (Outcome task taken status) b c)
+    → IfOk result (AnswersAll task a c)
+answers_by task a b c taken (Ok status) takes one = answers_all task a b c taken one.octets status takes one.holds one.gives
+answers_by task a b c taken (Err fault) takes one = tt
+
+pub breaks_off_by : (task : Task) (a b c : Telling) (taken : List ℕ) (result : Result ℕ Fault) → TakesUpTo message_max a b taken → OnErr result (BeginsOne (IsOutcome task taken) b c)
+    → OnErr result (BreaksOff task a c)
+breaks_off_by task a b c taken (Ok status) takes one = tt
+breaks_off_by task a b c taken (Err fault) takes one = breaks_partly task a b c taken takes one
+
+not_broken : (status : ℕ) → (status ≡ 7) ⊎ (status ≡ 0) → ¬ IsBrokenOff status
+not_broken status (inl is) (inl wire) = absurd (omega (arith, is, wire))
+not_broken status (inl is) (inr memory) = absurd (omega (arith, is, memory))
+not_broken status (inr is) (inl wire) = absurd (omega (arith, is, wire))
+not_broken status (inr is) (inr memory) = absurd (omega (arith, is, memory))
+
+pub fine_by : (task : Task) (b c : Telling) (taken : List ℕ) (result : Result ℕ Fault) → IfOk result (λ status. GivesOne (Outcome task taken status) b c) → IfOk result (λ status. ¬ IsBrokenOff status)
+fine_by task b c taken (Ok status) one = not_broken status (outcome_fine task taken status one.octets one.holds)
+fine_by task b c taken (Err fault) one = tt
 
 -- the answer is the status of each outcome that the octets have
 pub exact_by : (task : Task) (a c : Telling) (status : ℕ) → AnswersAll task a c status → IsExact task a status

@@ -3,6 +3,7 @@ pub mod Words
 pub mod Protocols
 pub mod Checking
 pub mod Generating
+pub mod Giving
 pub mod Outcome
 pub mod Running
 pub mod RelayRuns

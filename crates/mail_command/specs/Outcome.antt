@@ -42,3 +42,7 @@ pub data Outcome (task : Task) (octets : List ℕ) (status : ℕ) (given : List 
       → status ≡ 7 → given ≡ fault_line fault → Outcome task octets status given
   -- a message, once its last line is ended
   Done : (completed : List ℕ) → length octets ≤ message_max → IsCompleted octets completed → IsGivenBy task completed given → status ≡ 0 → Outcome task octets status given
+
+-- the octets are what is given by an outcome of these
+abbrev pub IsOutcome : Task → List ℕ → List ℕ → Type 0
+IsOutcome task octets given = (status : ℕ) × Outcome task octets status given

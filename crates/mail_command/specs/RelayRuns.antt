@@ -35,41 +35,41 @@ relay_line end =
 abbrev pub relay_status : RelayEnd → ℕ
 relay_status end = if end.left == 0 then DONE else LEFT_QUEUED
 
--- A desk was opened over the keeper's records, and its queue was relayed, with this answer. Unless the keeper failed, it holds the journal of
--- the store that came of it.
-pub record SendsQueue (limits : Limits) (before now : OutsideTelling) (result : Result RelayEnd Fault) : Type 0 where
+-- A desk was opened over the keeper's records, and its queue was relayed to the host, with this answer. Unless the keeper failed, it holds the
+-- journal of the store that came of it.
+pub record SendsQueue (limits : Limits) (host : List ℕ) (before now : OutsideTelling) (result : Result RelayEnd Fault) : Type 0 where
   pub desk : Desk
   pub after : Desk
   pub opened : KeeperTelling
   pub opens : OpensStore before.keeper.octets opened.octets desk.store
   pub works : IsOpen desk
   pub limits_are : desk.limits ≡ limits
-  pub relays : RelaysQueue (record { dial = before.dial; keeper = opened; clock = before.clock; desk = desk })
+  pub relays : RelaysQueue host (record { dial = before.dial; keeper = opened; clock = before.clock; desk = desk })
       (record { dial = now.dial; keeper = now.keeper; clock = now.clock; desk = after }) result
   pub left : IfOk result HasLeftCause
   pub cause : IfOk result (HasDialCause before.dial now.dial)
   pub holds : result ≢ Err fault.Keeper → HoldsStore now.keeper.octets after.store
 
 -- how far the command came that was broken off and ended so
-pub data BreaksRelay (limits : Limits) (before now : OutsideTelling) (ended : ℕ) : Type 0 where
+pub data BreaksRelay (limits : Limits) (host : List ℕ) (before now : OutsideTelling) (ended : ℕ) : Type 0 where
   -- the journal wasn't opened
   InJournal : Gives before.wire now.wire [] → LeavesRecords before.keeper.octets now.keeper.octets → now.dial ≡ before.dial
-      → BreaksRelay limits before now ended
+      → BreaksRelay limits host before now ended
   -- the line that tells why it can't be
   InLine : (status : ℕ) (line : List ℕ) → IsUnopened before.keeper.octets now.keeper.octets status line → GivesPrefix before.wire now.wire line
-      → LeavesRecords before.keeper.octets now.keeper.octets → now.dial ≡ before.dial → BreaksRelay limits before now ended
-  InRelay : (met : Fault) → SendsQueue limits before now (Err met) → ended ≡ status_of (Err met) → Gives before.wire now.wire [] → BreaksRelay limits before now ended
+      → LeavesRecords before.keeper.octets now.keeper.octets → now.dial ≡ before.dial → BreaksRelay limits host before now ended
+  InRelay : (met : Fault) → SendsQueue limits host before now (Err met) → ended ≡ status_of (Err met) → Gives before.wire now.wire [] → BreaksRelay limits host before now ended
   -- the line that tells how the relay ended
-  InEnd : (end : RelayEnd) → SendsQueue limits before now (Ok end) → IsBrokenOff ended → GivesPrefix before.wire now.wire (relay_line end)
-      → BreaksRelay limits before now ended
+  InEnd : (end : RelayEnd) → SendsQueue limits host before now (Ok end) → IsBrokenOff ended → GivesPrefix before.wire now.wire (relay_line end)
+      → BreaksRelay limits host before now ended
 
--- what the command does, by its status
-pub data RunsRelay (limits : Limits) (before now : OutsideTelling) (status : ℕ) : Type 0 where
+-- what the command does that sends the queue to this host, by its status
+pub data RunsRelay (limits : Limits) (host : List ℕ) (before now : OutsideTelling) (status : ℕ) : Type 0 where
   -- the line tells how it ended
-  Relayed : (end : RelayEnd) → SendsQueue limits before now (Ok end) → Gives before.wire now.wire (relay_line end) → status ≡ relay_status end
-      → RunsRelay limits before now status
+  Relayed : (end : RelayEnd) → SendsQueue limits host before now (Ok end) → Gives before.wire now.wire (relay_line end) → status ≡ relay_status end
+      → RunsRelay limits host before now status
   -- the journal was told to be bad
   Unopened : (line : List ℕ) → IsUnopened before.keeper.octets now.keeper.octets status line → Gives before.wire now.wire line → now.dial ≡ before.dial
-      → RunsRelay limits before now status
+      → RunsRelay limits host before now status
   -- it was broken off
-  Broken : BreaksSessionOff status → BreaksRelay limits before now status → RunsRelay limits before now status
+  Broken : BreaksSessionOff status → BreaksRelay limits host before now status → RunsRelay limits host before now status

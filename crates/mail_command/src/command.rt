@@ -125,7 +125,7 @@ fn work<W: Wire, J: Keeper, L: Dial, C: Clock>(
     ensures domain_exact { (name : List ℕ) → IsDomainCommand words.now name
         → IfSome (J.tells keeper.old).octets (λ octets. IsExactAdding (λ kept. domain_refusal kept name) octets (status_of result)) }
     ensures help { IsHelpCommand words.now → GivesHelp (W.tells wire.old) (W.tells wire.new) (status_of result) }
-    ensures relay { (host : List ℕ) → IsRelayCommand words.now host → RunsRelay LIMITS
+    ensures relay { (host : List ℕ) → IsRelayCommand words.now host → RunsRelay LIMITS host
         (record { wire = W.tells wire.old; keeper = J.tells keeper.old; dial = L.tells dial.old; clock = C.tells clock.old })
         (record { wire = W.tells wire.new; keeper = J.tells keeper.new; dial = L.tells dial.new; clock = C.tells clock.new }) (status_of result) }
     ensures journal { OpensJournal words.now → IfSome (J.tells keeper.old).octets (λ octets. IsExactJournal octets (status_of result)) }
@@ -189,7 +189,7 @@ pub fn run<W: Wire, J: Keeper, L: Dial, C: Clock>(
     ensures domain_exact { (name : List ℕ) → IsDomainCommand words.now name
         → IfSome (J.tells keeper.old).octets (λ octets. IsExactAdding (λ kept. domain_refusal kept name) octets result) }
     ensures help { IsHelpCommand words.now → GivesHelp (W.tells wire.old) (W.tells wire.new) result }
-    ensures relay { (host : List ℕ) → IsRelayCommand words.now host → RunsRelay LIMITS
+    ensures relay { (host : List ℕ) → IsRelayCommand words.now host → RunsRelay LIMITS host
         (record { wire = W.tells wire.old; keeper = J.tells keeper.old; dial = L.tells dial.old; clock = C.tells clock.old })
         (record { wire = W.tells wire.new; keeper = J.tells keeper.new; dial = L.tells dial.new; clock = C.tells clock.new }) result }
     // A bad journal is told.

@@ -25,4 +25,4 @@ pub use sessions::run_session;
 pub use setup_command::{
     DONE, KEEPER_FAULT, LEFT_QUEUED, WANT_OF_MEMORY, WIRE_FAULT, tell_unopened,
 };
-pub use tasks::{Task, reply_of};
+pub use tasks::{Task, give_outcome};

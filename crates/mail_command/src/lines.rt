@@ -6,13 +6,6 @@ use itoa::Buffer;
 use mail_wire::{Memory, Octets};
 use std::alloc::Global;
 
-/// A status, and the octets that are given.
-#[derive(Debug, Drop)]
-pub struct Reply {
-    pub status: u8,
-    pub given: Octets,
-}
-
 /// The line that tells where a message is refused, and why.
 pub fn refusal_line(alloc: Global, at: u64, reason: &[u8]) -> Result<Octets, Memory>
     ensures { IfOk result (λ line. line ≡ refusal_line at reason.now) }

@@ -60,7 +60,7 @@ pub fn run_relay<W: Wire, J: Keeper, L: Dial, C: Clock>(
     dial: &mut L,
     clock: &mut C,
 ) -> Result<u8, Fault>
-    ensures runs { RunsRelay LIMITS
+    ensures runs { RunsRelay LIMITS host.now
         (record { wire = W.tells wire.old; keeper = J.tells keeper.old; dial = L.tells dial.old; clock = C.tells clock.old })
         (record { wire = W.tells wire.new; keeper = J.tells keeper.new; dial = L.tells dial.new; clock = C.tells clock.new }) (status_of result) }
     // A bad journal is told.

@@ -1,20 +1,22 @@
 //! The commands of one message: `downgrade` and `check`.
-ghost use Rattle.std.specs.Prelude.{◌≡◌, ◌≢◌, Err, IfOk, OnErr};
-ghost use Rattle.mail_wire.specs.Moves.{HasWireCause};
+ghost use Rattle.std.specs.Prelude.{◌≡◌, ◌≢◌, Err, IfOk, OnErr, OnOk};
+ghost use Rattle.mail_wire.specs.Moves.{GivesOrFails, HasWireCause};
 ghost use Rattle.mime_tree.specs.Tree.{HasTree};
 ghost use Rattle.surrogate_rope.specs.Ropes.{IsRopeOf, octets_of};
-ghost use Rattle.mail_command.specs.Outcome.{IsGivenBy, Outcome, fault_line, refusal_line};
+ghost use Rattle.mail_command.specs.Giving.{GivesOne, BeginsOne};
+ghost use Rattle.mail_command.specs.Outcome.{IsGivenBy, IsOutcome, Outcome, fault_line};
 ghost use Rattle.setup_command.specs.Running.{IsBrokenOff};
 ghost use Rattle.mail_command.specs.Running.{AnswersAll, BreaksOff};
 
 use crate::figures::{figures_of, figures_text};
-use crate::lines::{Reply, refusal_line};
+use crate::lines::refusal_line;
 use crate::taking::take_up_to;
 use mail_wire::{Fault, Memory, Octets, Wire, give_all};
 use mime_tree::{Tree, TreeFault, complete, read_tree};
 use setup_command::{DONE, MESSAGE_REFUSED};
 use std::alloc::Global;
-use surrogate_rope::Rope;
+use surrogate_cache::give_range;
+use surrogate_rope::{Rope, Shown};
 
 /// The most octets of a message: 32 MiB.
 pub const MESSAGE_MAX: usize = kept_mail::MESSAGE_MAX as usize;
@@ -28,71 +30,97 @@ pub enum Task {
     Check,
 }
 
-// A message is refused at this place.
-fn refused(alloc: Global, at: usize, reason: &[u8]) -> Result<Reply, Memory>
-    ensures { IfOk result (λ reply. (reply.status ≡ 7) × (reply.given ≡ refusal_line at reason.now)) }
-{
-    let given = refusal_line(alloc, at as u64, reason)?;
-    Ok(Reply {
-        status: MESSAGE_REFUSED,
-        given,
-    })
-}
-
-// The fault of a message, or want of memory.
-fn refused_fault(alloc: Global, fault: TreeFault) -> Result<Reply, Memory>
-    ensures { IfOk result (λ reply. (fault ≢ TreeFault.Memory) × (reply.status ≡ 7) × (reply.given ≡ fault_line fault)) }
+// The line that tells the fault of a message, or want of memory.
+fn fault_line(alloc: Global, fault: TreeFault) -> Result<Octets, Memory>
+    ensures { IfOk result (λ line. (fault ≢ TreeFault.Memory) × (line ≡ fault_line fault)) }
 {
     match fault {
-        TreeFault::Nul { at } => refused(alloc, at, b"nul"),
-        TreeFault::BareCr { at } => refused(alloc, at, b"bare cr"),
-        TreeFault::BareLf { at } => refused(alloc, at, b"bare lf"),
-        TreeFault::NotField { at } => refused(alloc, at, b"not a field"),
-        TreeFault::NotUtf8 { at } => refused(alloc, at, b"not utf-8"),
+        TreeFault::Nul { at } => refusal_line(alloc, at as u64, b"nul"),
+        TreeFault::BareCr { at } => refusal_line(alloc, at as u64, b"bare cr"),
+        TreeFault::BareLf { at } => refusal_line(alloc, at as u64, b"bare lf"),
+        TreeFault::NotField { at } => refusal_line(alloc, at as u64, b"not a field"),
+        TreeFault::NotUtf8 { at } => refusal_line(alloc, at as u64, b"not utf-8"),
         TreeFault::Memory => Err(Memory),
     }
 }
 
-// All octets of a rope.
-fn rope_octets(alloc: Global, msg: &[u8], rope: &Rope) -> Result<Octets, Memory>
-    requires { IsRopeOf msg.now rope.now }
-    ensures { IfOk result (λ octets. octets ≡ octets_of msg.now rope.now) }
+// Gives the line that refuses a message.
+fn refuse<W: Wire>(wire: &mut W, line: Octets) -> Result<u8, Fault>
+    ensures gives { GivesOrFails (W.tells wire.old) (W.tells wire.new) result line }
+    ensures status { IfOk result (λ status. status ≡ 7) }
+    ensures cause { HasWireCause (W.tells wire.old) (W.tells wire.new) result Fault.Wire }
+    ensures keeper { ¬ (result ≡ Err Fault.Keeper) }
 {
-    let mut octets = Vec::from_elem(alloc, 0, rope.size())?;
-    rope.read_at(msg, 0, octets.as_mut_slice());
-    Ok(Octets::from_vec(octets))
+    give_all(wire, line.as_slice())?;
+    Ok(MESSAGE_REFUSED)
 }
 
-// What is given of a message.
-fn given_by(alloc: Global, task: Task, msg: &[u8], tree: &Tree) -> Result<Octets, Memory>
-    requires { HasTree msg.now tree.now.entities }
-    ensures { IfOk result (IsGivenBy task msg.now) }
+// Gives all octets of a rope, piece by piece.
+fn give_rope<W: Wire>(msg: &[u8], rope: Rope, wire: &mut W) -> Result<(), Fault>
+    requires { IsRopeOf msg.now rope }
+    ensures gives { GivesOrFails (W.tells wire.old) (W.tells wire.new) result (octets_of msg.now rope) }
+    ensures cause { HasWireCause (W.tells wire.old) (W.tells wire.new) result Fault.Wire }
+    ensures keeper { ¬ (result ≡ Err Fault.Keeper) }
 {
-    let rope = Rope::build(alloc, msg, tree)?;
-    match task {
-        Task::Downgrade => rope_octets(alloc, msg, &rope),
-        Task::Check => figures_text(alloc, &figures_of(msg, tree, &rope)),
+    let len = rope.size();
+    let shown = Shown::Rope(rope);
+    match give_range(&shown, msg, 0, len, wire) {
+        Ok(()) => Ok(()),
+        Err(failed) => Err(Fault::from(failed)),
     }
 }
 
-/// What the task comes to on these octets.
-pub fn reply_of(alloc: Global, task: Task, octets: Octets) -> Result<Reply, Memory>
-    ensures { IfOk result (λ reply. Outcome task octets reply.status reply.given) }
+// Gives what the task makes of a message.
+fn give_made<W: Wire>(
+    alloc: Global,
+    task: Task,
+    msg: &[u8],
+    tree: &Tree,
+    wire: &mut W,
+) -> Result<(), Fault>
+    requires { HasTree msg.now tree.now.entities }
+    ensures gives { OnOk result (GivesOne (IsGivenBy task msg.now) (W.tells wire.old) (W.tells wire.new)) }
+    ensures begun { OnErr result (BeginsOne (IsGivenBy task msg.now) (W.tells wire.old) (W.tells wire.new)) }
+    ensures cause { HasWireCause (W.tells wire.old) (W.tells wire.new) result Fault.Wire }
+    ensures keeper { ¬ (result ≡ Err Fault.Keeper) }
+{
+    let rope = Rope::build(alloc, msg, tree)?;
+    match task {
+        Task::Downgrade => give_rope(msg, rope, wire),
+        Task::Check => {
+            let text = figures_text(alloc, &figures_of(msg, tree, &rope))?;
+            give_all(wire, text.as_slice())
+        }
+    }
+}
+
+/// Gives what the task comes to on these octets, and answers its status.
+pub fn give_outcome<W: Wire>(
+    alloc: Global,
+    task: Task,
+    octets: Octets,
+    wire: &mut W,
+) -> Result<u8, Fault>
+    ensures gives { IfOk result (λ status. GivesOne (Outcome task octets status) (W.tells wire.old) (W.tells wire.new)) }
+    ensures begun { OnErr result (BeginsOne (IsOutcome task octets) (W.tells wire.old) (W.tells wire.new)) }
+    ensures cause { HasWireCause (W.tells wire.old) (W.tells wire.new) result Fault.Wire }
+    ensures keeper { ¬ (result ≡ Err Fault.Keeper) }
 {
     if octets.len() > MESSAGE_MAX {
-        return refused(alloc, MESSAGE_MAX, b"too large");
+        let line = refusal_line(alloc, MESSAGE_MAX as u64, b"too large")?;
+        return refuse(wire, line);
     }
     let mut completed = octets;
     complete(&mut completed)?;
     let tree = match read_tree(alloc, completed.as_slice()) {
         Ok(tree) => tree,
-        Err(fault) => return refused_fault(alloc, fault),
+        Err(fault) => {
+            let reason = fault_line(alloc, fault)?;
+            return refuse(wire, reason);
+        }
     };
-    let given = given_by(alloc, task, completed.as_slice(), &tree)?;
-    Ok(Reply {
-        status: DONE,
-        given,
-    })
+    give_made(alloc, task, completed.as_slice(), &tree, wire)?;
+    Ok(DONE)
 }
 
 /// Takes one message, and gives what the task makes of it or why it is refused.
@@ -104,7 +132,5 @@ pub fn run_task<W: Wire>(alloc: Global, task: Task, wire: &mut W) -> Result<u8, 
     ensures keeper { ¬ (result ≡ Err Fault.Keeper) }
 {
     let taken = take_up_to(alloc, wire, MESSAGE_MAX)?;
-    let reply = reply_of(alloc, task, taken)?;
-    give_all(wire, reply.given.as_slice())?;
-    Ok(reply.status)
+    give_outcome(alloc, task, taken, wire)
 }

@@ -192,7 +192,7 @@ fn a_session_over_loopback(rt: HostRuntime) -> Result<(), Fail> {
     let mut client = TcpStream::connect(&rt, listener.local_addr()?)?;
     client.write_all(LEGACY)?;
     let (stream, _) = listener.accept()?;
-    let mut wire = TcpWire::new(stream, Duration::from_secs(Role::Pop.patience()))?;
+    let mut wire = TcpWire::new(alloc, stream, Duration::from_secs(Role::Pop.patience()))?;
     let mut keeper = keeper_of(alloc, JOURNAL, &[])?;
     let mut clock = FixedClock::new(0);
     let Ok(desk) = open_desk(alloc, &mut keeper, LIMITS) else {
@@ -201,6 +201,7 @@ fn a_session_over_loopback(rt: HostRuntime) -> Result<(), Fail> {
     let mut outside = Outside::new(alloc, desk, &mut wire, &mut keeper, &mut clock);
     assert_eq!(rt; serve_one(Role::Pop, &mut outside), Served::Ended);
     drop(outside);
+    assert_eq!(rt; wire.finish(), Ok(()));
     drop(wire);
     let mut replies = Vec::new(alloc);
     client.read_to_end(&mut replies)?;

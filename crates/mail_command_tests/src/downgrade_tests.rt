@@ -7,6 +7,9 @@ const CAFE: &str = "Subject: café bar\r\n\r\nx\r\n";
 
 const CAFE_SURROGATE: &str = "Subject:\r\n =?UTF-8?B?Y2Fmw6k=?=\r\n bar\r\n\r\nx\r\n";
 
+// How many octets of it are its field.
+const FIELD: usize = 39;
+
 #[test]
 fn rows_of_downgrade(rt: HostRuntime) -> Result<(), Fail> {
     for (input, status, given) in [
@@ -100,16 +103,27 @@ fn the_answer_is_the_same_octet_by_octet(rt: HostRuntime) -> Result<(), Fail> {
     Ok(())
 }
 
+// The call that fails where so many octets are given. The input is taken by one call, and its end is seen by another one; the field that
+// is made anew is given by the next, and what is kept behind it by the last.
+fn failure_behind(kept: usize) -> Failure {
+    if kept < FIELD {
+        return Failure { call: 2, kept };
+    }
+    Failure {
+        call: 3,
+        kept: kept - FIELD,
+    }
+}
+
 #[test]
 fn a_failing_give_leaves_a_prefix(rt: HostRuntime) -> Result<(), Fail> {
-    // The input is taken by one call, and its end is seen by another one.
     for kept in 0..CAFE_SURROGATE.len() {
         let (status, given) = answer(
             rt.alloc(),
             &["downgrade"],
             CAFE.as_bytes(),
             &[],
-            &[Failure { call: 2, kept }],
+            &[failure_behind(kept)],
         )?;
         assert_eq!(rt; status, 1, "at {kept}");
         assert!(rt;

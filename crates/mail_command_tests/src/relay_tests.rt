@@ -1,7 +1,7 @@
 //! The command that sends the queue on, to a server in memory.
 use crate::in_memory::{JOURNAL, WITHOUT_MESSAGE, dial_of, given, keeper_of, wire_of};
 use mail_command::run;
-use mail_wire::{Dial, Entry, Failure, FixedClock, MemDial, MemKeeper, Memory, Octets, Words};
+use mail_wire::{Entry, Failure, FixedClock, MemDial, MemKeeper, Memory, Octets, Words};
 use std::alloc::Global;
 use std::test::Fail;
 
@@ -42,9 +42,14 @@ fn answer_of(
     Ok((status, given(alloc, &wire)?))
 }
 
-// Whether the dial, whose first call fails, wasn't called yet.
-fn is_untouched(dial: &mut MemDial) -> bool {
-    dial.dial("x").is_err()
+// Whether the dial was asked for no host.
+fn is_untouched(dial: &MemDial) -> bool {
+    dial.asked().get(0).is_none()
+}
+
+// Whether the dial was asked for this host, once, and for no other.
+fn was_asked_once(dial: &MemDial, host: &str) -> bool {
+    dial.asked().get(0).is_some_and(|asked| asked == host) && dial.asked().get(1).is_none()
 }
 
 #[test]
@@ -56,7 +61,7 @@ fn where_nobody_waits_nobody_is_dialled(rt: HostRuntime) -> Result<(), Fail> {
     assert_eq!(rt; status, 0);
     assert!(rt; line.as_slice() == b"sent 0, reported 0, left 0\r\n".as_slice());
     assert!(rt; keeper.octets() == JOURNAL);
-    assert!(rt; is_untouched(&mut dial));
+    assert!(rt; is_untouched(&dial));
     Ok(())
 }
 
@@ -66,8 +71,10 @@ fn a_server_that_is_not_reached_leaves_all(rt: HostRuntime) -> Result<(), Fail> 
     let journal = journal_of(alloc, WAITING)?;
     let mut keeper = keeper_of(alloc, journal.as_slice(), &[])?;
     let mut dial = dial_of(alloc, SERVER, &[0])?;
-    let (status, line) = answer_of(alloc, &["relay", "x"], &[], &mut keeper, &mut dial)?;
+    let words = ["relay", "mail.example.net:2525"];
+    let (status, line) = answer_of(alloc, &words, &[], &mut keeper, &mut dial)?;
     assert_eq!(rt; status, 8);
+    assert!(rt; was_asked_once(&dial, "mail.example.net:2525"));
     assert!(rt; line.as_slice() == b"sent 0, reported 0, left 1\r\n".as_slice());
     assert!(rt; keeper.octets() == journal.as_slice());
     assert!(rt; dial.entries().is_empty());
@@ -82,6 +89,7 @@ fn a_message_is_sent_once(rt: HostRuntime) -> Result<(), Fail> {
     let mut dial = dial_of(alloc, SERVER, &[])?;
     let (status, line) = answer_of(alloc, &["relay", "x"], &[], &mut keeper, &mut dial)?;
     assert_eq!(rt; status, 0);
+    assert!(rt; was_asked_once(&dial, "x"));
     assert!(rt; line.as_slice() == b"sent 1, reported 0, left 0\r\n".as_slice());
     let mut sent = Octets::new(alloc);
     for entry in dial.entries() {
@@ -97,7 +105,7 @@ fn a_message_is_sent_once(rt: HostRuntime) -> Result<(), Fail> {
     let (status, line) = answer_of(alloc, &["relay", "x"], &[], &mut keeper, &mut other)?;
     assert_eq!(rt; status, 0);
     assert!(rt; line.as_slice() == b"sent 0, reported 0, left 0\r\n".as_slice());
-    assert!(rt; is_untouched(&mut other));
+    assert!(rt; is_untouched(&other));
     Ok(())
 }
 
@@ -133,6 +141,6 @@ fn other_words_are_refused(rt: HostRuntime) -> Result<(), Fail> {
         );
     }
     assert!(rt; keeper.octets() == journal.as_slice());
-    assert!(rt; is_untouched(&mut dial));
+    assert!(rt; is_untouched(&dial));
     Ok(())
 }

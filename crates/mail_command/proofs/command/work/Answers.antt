@@ -11,10 +11,11 @@ use Rattle.setup_command.specs.AddingRuns.{RunsAdding, IsExactAdding}
 use Rattle.setup_command.specs.Statuses.{status_of}
 use Rattle.mail_command.specs.declared.roles.Role.{Role}
 use Rattle.mail_command.specs.Protocols.{protocol_for}
+use Rattle.mail_command.specs.RelayRuns.{RunsRelay}
 use Rattle.mail_command.specs.Running.{RunsSession}
 use Rattle.mail_command.specs.Words.{OfSession, OfAccount, OfDomain, OfRelay}
 use Rattle.mail_command.proofs.ApartLemmas.{apart_check, apart_downgrade, apart_few, apart_gen, apart_help, apart_names, apart_opens}
-use Rattle.mail_command.proofs.CommandLemmas.{account_at, domain_at, none_opens, not_begun, refusal_unbegun}
+use Rattle.mail_command.proofs.CommandLemmas.{account_at, domain_at, none_opens, not_begun, refusal_unbegun, relay_at}
 use Rattle.mail_command.proofs.RelayLemmas.{relay_unbegun}
 use Rattle.mail_command.proofs.WordsLemmas.{session_once}
 use Rattle.mail_command.proofs.command.work.Goals as goal
@@ -32,7 +33,7 @@ returns-in_err-command-clause-account g c =
 pub returns-in_err-command-clause-relay : goal.returns-in_err-command-clause-relay
 returns-in_err-command-clause-relay g c =
     let failed = err_from_is_err_and c.from_residual.result c.from_residual.ensures.1 in
-    rw (failed.1, failed.2) (λ host is. relay_unbegun LIMITS _)
+    rw (failed.1, failed.2) (λ host is. relay_unbegun LIMITS host _)
 
 pub run_apart-requires : goal.run_apart-requires
 run_apart-requires g c = apart_few c.args.words.now c.in-Some-Apart.command (rw (c.in-Some-Apart.is, c.in-Some-Apart.field-0-is) at c.in_ok-command.ensures.names)
@@ -142,6 +143,15 @@ returns-in-None-clause-generates g c number is = let none = rw c.in-None.is at c
 
 pub returns-in-None-clause-relay : goal.returns-in-None-clause-relay
 returns-in-None-clause-relay g c host is = let none = rw c.in-None.is at c.in_ok-command.ensures.names in absurd (none.relay host is)
+
+pub returns-in-Some-Relay-clause-relay : goal.returns-in-Some-Relay-clause-relay
+returns-in-Some-Relay-clause-relay g c host is =
+    relay_at
+    (λ x. RunsRelay LIMITS x
+    (record { wire = g.W.Wire.tells c.args.wire.now; keeper = g.J.Keeper.tells c.args.keeper.now; dial = g.L.Dial.tells c.args.dial.now; clock = g.C.Clock.tells c.args.clock.now })
+    (record { wire = g.W.Wire.tells c.run_relay.new.wire; keeper = g.J.Keeper.tells c.run_relay.new.keeper; dial = g.L.Dial.tells c.run_relay.new.dial; clock = g.C.Clock.tells c.run_relay.new.clock })
+    (status_of c.run_relay.result))
+    c.args.words.now (string_bytes c.in-Some-Relay.host) host (rw (c.in-Some-Relay.is, c.in-Some-Relay.field-0-is) at c.in_ok-command.ensures.names) is (rw c.deref-in-Some-Relay.ensures at c.run_relay.ensures.runs)
 
 pub returns-in-Some-Relay-clause-untouched : goal.returns-in-Some-Relay-clause-untouched
 returns-in-Some-Relay-clause-untouched g c never =

@@ -6,13 +6,13 @@ use Rattle.mail_command.proofs.SessionLemmas.{opened_exact}
 use Rattle.mail_command.proofs.relaying.run_relay.Goals as goal
 
 pub returns-in-Err-clause-runs : goal.returns-in-Err-clause-runs
-returns-in-Err-clause-runs g c = relay_unopened LIMITS _ _ c.in-Err.fault c.tell_unopened.result c.open_desk.ensures.leaves c.in-Err.ensures.fault c.tell_unopened.ensures.tells refl
+returns-in-Err-clause-runs g c = relay_unopened LIMITS c.args.host.now _ _ c.in-Err.fault c.tell_unopened.result c.open_desk.ensures.leaves c.in-Err.ensures.fault c.tell_unopened.ensures.tells refl
 
 pub returns-in_err-end-clause-runs : goal.returns-in_err-end-clause-runs
 returns-in_err-end-clause-runs g c =
     let failed = err_from_is_err_and c.from_residual.result c.from_residual.ensures.1 in
     rw (failed.1, failed.2)
-    (relay_failed LIMITS _ _ (g.J.Keeper.tells c.open_desk.new.keeper) c.in-Ok.desk c.relay_queue-desk.result.0 c.relay_queue-desk.result.1 _
+    (relay_failed LIMITS c.args.host.now _ _ (g.J.Keeper.tells c.open_desk.new.keeper) c.in-Ok.desk c.relay_queue-desk.result.0 c.relay_queue-desk.result.1 _
     (record {
       leaves = c.open_desk.ensures.leaves;
       opens = record { fold = c.in-Ok.ensures.fold; opens = c.in-Ok.ensures.opens };
@@ -26,7 +26,7 @@ returns-in_err-end-clause-runs g c =
 
 pub returns-clause-runs : goal.returns-clause-runs
 returns-clause-runs g c =
-    relay_told LIMITS _ _ (g.J.Keeper.tells c.open_desk.new.keeper) c.in-Ok.desk c.relay_queue-desk.result.0 c.relay_queue-desk.result.1 c.in_ok-end.end c.tell_end.result
+    relay_told LIMITS c.args.host.now _ _ (g.J.Keeper.tells c.open_desk.new.keeper) c.in-Ok.desk c.relay_queue-desk.result.0 c.relay_queue-desk.result.1 c.in_ok-end.end c.tell_end.result
     (record {
       leaves = c.open_desk.ensures.leaves;
       opens = record { fold = c.in-Ok.ensures.fold; opens = c.in-Ok.ensures.opens };
