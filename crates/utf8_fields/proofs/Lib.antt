@@ -9,6 +9,7 @@ pub mod NoFault
 pub mod OneField
 pub mod OneFault
 pub mod OneValue
+pub mod OneLine
 pub mod TrimLemmas
 pub mod LineShapes
 pub mod Bodies

@@ -5,7 +5,7 @@ ghost use Rattle.mail_wire.specs.Spans.{IsTrimmed};
 ghost use Rattle.utf8_fields.specs.Parts.{HasValue};
 ghost use Rattle.utf8_fields.specs.private.Steps.{TrimsEnd};
 
-use mail_wire::{Memory, Octets, is_white, split_white, unfold};
+use mail_wire::{Memory, Octets, is_white, line_len, split_white, unfold};
 use std::alloc::Global;
 
 // The octets without the white at their end.
@@ -34,6 +34,10 @@ pub fn trim(octets: &[u8]) -> &[u8]
 pub fn value_of(alloc: Global, body: &[u8]) -> Result<Octets, Memory>
     ensures { IfOk result (HasValue body.now) }
 {
+    // most bodies are one line, and no fold stands in it
+    if line_len(body) == body.len() {
+        return Octets::from_slice(alloc, trim(body));
+    }
     let unfolded = unfold(alloc, body)?;
     Octets::from_slice(alloc, trim(unfolded.as_slice()))
 }
