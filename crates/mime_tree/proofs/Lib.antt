@@ -46,3 +46,4 @@ pub mod DecidingHeads
 pub mod DecidingOpenings
 pub mod DecidingTrees
 pub mod HighLemmas
+pub mod PlainNames

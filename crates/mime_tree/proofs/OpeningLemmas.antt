@@ -1,7 +1,8 @@
 -- How an entity is opened by its parameters, and which field says it.
-use Rattle.std.proofs.Common.{◌≡◌, ℕ, ◌+◌, ◌<◌, ◌≤◌, true, false, inl, inr, List, ◌∷◌, length, drop, get_or, map, Option, Some, None, Result, Ok, Err, refl, sym, ap, ◌∙◌, subst}
+use Rattle.std.proofs.Common.{◌≡◌, ◌≢◌, ℕ, ◌+◌, ◌<◌, ◌≤◌, true, false, inl, inr, List, ◌∷◌, ◌++◌, length, take, drop, get_or, map, Option, Some, None, Result, Ok, Err, refl, sym, ap, ◌∙◌, subst}
 use Rattle.std.proofs.lemmas.List.{drop_more}
 use Rattle.std.proofs.Math.ListN.{drop_of_length-le}
+use Rattle.std.proofs.Math.Seq.{take-append_seam}
 use Rattle.std.specs.Prelude.{codes, IfOk}
 use Rattle.std.specs.Str.{bytes_eq}
 use Rattle.mail_wire.specs.Octets.{same_name}
@@ -16,7 +17,9 @@ use Rattle.param_grammar.specs.Joining.{ParamValue, param_value, HasParams}
 use Rattle.param_2231.proofs.SaidTrees.{HasParams-says, SaysParams-trees}
 use Rattle.mime_tree.specs.declared.openings.Opening.{Opening}
 use Rattle.mime_tree.specs.declared.openings.Opening.TheVariants.{Nothing, Message}
-use Rattle.mime_tree.specs.Openings.{is_message_type, is_multipart_type, is_digest_type, boundary_in, usable_of, divided, opening_said, OpensByText, IsFirstValue}
+use Rattle.mime_tree.specs.Openings.{is_message_type, is_multipart_type, is_digest_type, boundary_in, usable_of, divided, opening_said, OpensByText, IsFirstValue, AreFieldsWithin}
+use Rattle.mime_tree.specs.private.Types.{IsNotNamed}
+use Rattle.mime_tree.proofs.PlainNames.{other_length}
 
 -- what the parameters from a place on say of a boundary is what all say
 pub record GoesOnFor (params : List Param) (k : ℕ) : Type 0 where
@@ -89,6 +92,30 @@ pub value-later : (octets name : List ℕ) (fields : List Field) (k : ℕ) (part
     → HasParts (raw_of octets (get_or fields k no_field)) parts → same_name parts.name name ≡ false → LeavesFields octets name fields (k + 1)
 value-later octets name fields k parts leaves below has other =
     record { onward = λ value is. leaves.onward value (first_from octets name fields k value below (parts, has, rw (other) is)) }
+
+-- a field that begins with the name: its own name is this one, or a longer or shorter one
+named_by_front : (raw name : List ℕ) (parts : FieldParts) → HasParts raw parts → same_name (take (length name) raw) name ≡ true → length parts.name ≡ length name → same_name parts.name name ≡ true
+named_by_front raw name parts has front len =
+    let taken : take (length name) raw ≡ parts.name = ap (λ n. take n raw) (sym len) ∙ ap (take (length parts.name)) has.spelled ∙ take-append_seam parts.name (parts.white ++ 58 ∷ (parts.body ++ parts.ending)) in
+    ap (λ text. same_name text name) (sym taken) ∙ front
+
+pub value-named : (octets name : List ℕ) (fields : List Field) (k : ℕ) (parts : FieldParts) (value : List ℕ) → LeavesFields octets name fields k → k < length fields
+    → HasParts (raw_of octets (get_or fields k no_field)) parts → same_name (take (length name) (raw_of octets (get_or fields k no_field))) name ≡ true → length parts.name ≡ length name
+    → HasValue parts.body value → IsFirstValue name (map (raw_of octets) fields) (Some value)
+value-named octets name fields k parts value leaves below has front len is =
+    value-here octets name fields k parts value leaves below has (named_by_front (raw_of octets (get_or fields k no_field)) name parts has front len) is
+
+pub value-other : (octets name : List ℕ) (fields : List Field) (k : ℕ) (parts : FieldParts) → LeavesFields octets name fields k → k < length fields
+    → HasParts (raw_of octets (get_or fields k no_field)) parts → length parts.name ≢ length name → LeavesFields octets name fields (k + 1)
+value-other octets name fields k parts leaves below has differs = value-later octets name fields k parts leaves below has (other_length parts.name name differs)
+
+-- a field that doesn't begin with the name
+pub value-passed : (octets name : List ℕ) (fields : List Field) (k : ℕ) → LeavesFields octets name fields k → k < length fields → AreFieldsWithin octets fields
+    → IsNotNamed (raw_of octets (get_or fields k no_field)) name → LeavesFields octets name fields (k + 1)
+value-passed octets name fields k leaves below within other =
+    let field = (within k no_field below).1 in
+    let f = field.parts in
+    value-later octets name fields k f leaves below field.has_parts (other f.name (f.white ++ 58 ∷ (f.body ++ f.ending)) field.has_parts.spelled)
 
 pub value-none : (octets name : List ℕ) (fields : List Field) (k : ℕ) → LeavesFields octets name fields k → length fields ≤ k → IsFirstValue name (map (raw_of octets) fields) None
 value-none octets name fields k leaves past = leaves.onward None (subst (λ all. IsFirstValue name (map (raw_of octets) all) None) (sym (drop_of_length-le fields past)) refl)

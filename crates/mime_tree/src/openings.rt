@@ -1,13 +1,14 @@
 //! How an entity is opened, by the fields of its block (RFC 2045, 5 and 6; RFC 2046, 5).
-ghost use Rattle.std.specs.Prelude.{◌≡◌, ◌≢◌, ◌↔◌, ◌+◌, ◌≤◌, ◌∷◌, [], ◌||◌, ℕ, Bool, List, Some, length, map, filter, not, codes, IfOk, IfSome, IfNone, IsTrue};
+ghost use Rattle.std.specs.Prelude.{◌≡◌, ◌≢◌, ◌↔◌, ◌+◌, ◌≤◌, ◌∷◌, [], ◌||◌, ℕ, Bool, List, Some, true, false, length, take, map, filter, not, codes, IfOk, IfSome, IfNone, IsTrue};
 ghost use Rattle.std.specs.Str.{bytes_eq};
 ghost use Rattle.std.specs.List.{All, list_all};
+ghost use Rattle.mail_wire.specs.Octets.{same_name};
 ghost use Rattle.utf8_fields.specs.Block.{raw_of};
 ghost use Rattle.encoded_words.specs.private.Values.{value_of};
 ghost use Rattle.field_tokens.specs.declared.TokenKind.TheVariants.{Atom};
 ghost use Rattle.field_tokens.specs.Squeezed.{is_blank};
 ghost use Rattle.param_grammar.specs.Joining.{param_value};
-ghost use Rattle.mime_tree.specs.private.Types.{begins_other};
+ghost use Rattle.mime_tree.specs.private.Types.{begins_other, IsNotNamed};
 ghost use Rattle.mime_tree.specs.Openings.{is_letter, is_digit_or_sign, is_other_sign, is_boundary_octet, is_usable, is_message_type, is_multipart_type, is_digest_type, is_identity_name, boundary_in, opening_said, opening_by_default, Opens, OpensByType, OpensByText, IsFirstValue, IsIdentity, KeepsOctets, AreFieldsWithin, usable_of, divided};
 
 use encoded_words::Unit;
@@ -230,6 +231,10 @@ pub fn only_word(tokens: &[Token]) -> Option<Token>
 fn keeps_octets(alloc: Global, text: &[u8]) -> Result<bool, Memory>
     ensures { IfOk result (λ is. IsTrue is ↔ KeepsOctets text.now) }
 {
+    // most texts are such a name alone
+    if is_identity_name(text) {
+        return Ok(true);
+    }
     let found = match tokens(alloc, Style::Mime, text) {
         Ok(found) => found,
         Err(TokenFault::Malformed) => return Ok(false),
@@ -255,6 +260,19 @@ fn is_identity(alloc: Global, text: &Option<Octets>) -> Result<bool, Memory>
     }
 }
 
+// Whether a field begins with the octets of this name. Most fields of other names are passed by so, and aren't split.
+fn begins_with_name(raw: &[u8], name: &[u8]) -> bool
+    ensures named { IsTrue result → same_name (take (length name.now) raw.now) name.now ≡ true }
+    ensures other { result ≡ false → IsNotNamed raw.now name.now }
+{
+    if raw.len() < name.len() {
+        return false;
+    }
+    let (front, _) = raw.split_at(name.len());
+    // most names are written as here, and so compared much faster
+    front == name || is_same_name(front, name)
+}
+
 /// The value of the first field of this name.
 pub fn first_value(
     alloc: Global,
@@ -266,10 +284,13 @@ pub fn first_value(
     ensures { IfOk result (IsFirstValue name.now (map (raw_of octets.now) fields.now)) }
 {
     for field in fields {
-        let parts = split_field(&octets[field.raw.at..field.raw.at + field.raw.len]);
-        if is_same_name(parts.name, name) {
-            let value = value_of(alloc, parts.body)?;
-            return Ok(Some(value));
+        let raw = &octets[field.raw.at..field.raw.at + field.raw.len];
+        if begins_with_name(raw, name) {
+            let parts = split_field(raw);
+            if parts.name.len() == name.len() {
+                let value = value_of(alloc, parts.body)?;
+                return Ok(Some(value));
+            }
         }
     }
     Ok(None)

@@ -1,10 +1,14 @@
-use Rattle.std.proofs.Common.{◌≡◌, sym, ap, ◌∙◌, arith, filter, ◌∷◌, [], take}
+use Rattle.std.proofs.Common.{◌≡◌, refl, sym, ap, ◌∙◌, arith, filter, ◌∷◌, [], take}
 use Rattle.std.proofs.lemmas.Bool.{true≢false}
 use Rattle.mime_tree.specs.Openings.{is_identity_name}
 use Rattle.field_tokens.specs.Tokens.{octets_at}
 use Rattle.mime_tree.proofs.WordLemmas.{is_word, one_word, word_keeps, kept_kind, kept_name, no_word_keeps, no_tokens_keep}
+use Rattle.mime_tree.proofs.PlainNames.{plain_keeps}
 use Rattle.mime_tree.proofs.openings.keeps_octets.Goals.{then-is_atom, else-is_atom}
 use Rattle.mime_tree.proofs.openings.keeps_octets.Goals as goal
+
+pub returns-then-is_identity_name : goal.returns-then-is_identity_name
+returns-then-is_identity_name c = (λ _. plain_keeps c.args.text.now (sym c.is_identity_name.ensures ∙ c.if-is_identity_name.true), λ _. refl)
 
 pub returns-in-Err-Malformed : goal.returns-in-Err-Malformed
 returns-in-Err-Malformed c =
@@ -30,7 +34,7 @@ returns-in-Some c =
     let octets = c.split_at-in-Some.ensures.front ∙ ap (take c.in-Some.word.span.len) c.split_at.ensures.back in
     elim c.if-is_atom.branch [
       | then-is_atom w ↦
-          let names : w.is_identity_name.result ≡ is_identity_name (octets_at c.args.text.now c.in-Some.word.span) = w.is_identity_name.ensures ∙ ap is_identity_name octets in (
+          let names : w.is_identity_name-then-is_atom.result ≡ is_identity_name (octets_at c.args.text.now c.in-Some.word.span) = w.is_identity_name-then-is_atom.ensures ∙ ap is_identity_name octets in (
             λ t. word_keeps c.args.text.now c.in-Ok.found.items c.in-Some.word c.in-Ok.ensures.ok one (c.is_atom.ensures.0 w.if-is_atom.true) (sym names ∙ sym w.result-is ∙ t),
             λ keeps. w.result-is ∙ names ∙ kept_name c.args.text.now c.in-Ok.found.items c.in-Some.word c.in-Ok.ensures.ok one keeps,
           )
