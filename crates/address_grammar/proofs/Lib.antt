@@ -7,6 +7,7 @@ pub mod PathLemmas
 pub mod Utf8Lemmas
 pub mod SoundLemmas
 pub mod WritingLemmas
+pub mod PlainPathLemmas
 pub mod PhraseReading
 pub mod WalkLemmas
 pub mod MailboxLemmas

@@ -50,7 +50,7 @@ atom_token Special octets rest h shape stops = cc h
 atom_token Gap octets rest h shape stops = cc h
 atom_token Comment octets rest h shape stops = cc h
 
-atom_content : (kind : TokenKind) (octets : List ℕ) → is_atom_kind kind ≡ true → said_content kind octets ≡ octets
+pub atom_content : (kind : TokenKind) (octets : List ℕ) → is_atom_kind kind ≡ true → said_content kind octets ≡ octets
 atom_content Atom octets h = refl
 atom_content Quoted octets h = cc h
 atom_content Literal octets h = cc h
@@ -143,7 +143,7 @@ dotted_tokens [] = []
 dotted_tokens (a ∷ []) = atom a ∷ []
 dotted_tokens (a ∷ b ∷ more) = atom a ∷ dot ∷ dotted_tokens (b ∷ more)
 
-some_atom : (a : List ℕ) → is_some_atom a ≡ true → (0 < length a) × (list_all (is_atom_octet Mail) a ≡ true)
+pub some_atom : (a : List ℕ) → is_some_atom a ≡ true → (0 < length a) × (list_all (is_atom_octet Mail) a ≡ true)
 some_atom [] h = cc h
 some_atom (x ∷ a) h = (omega arith, h)
 
@@ -181,7 +181,7 @@ atoms_are_words Special h = cc h
 atoms_are_words Gap h = cc h
 atoms_are_words Comment h = cc h
 
-allow_quoted : (ws : List TokenValue) → are_dotted (is_part false) ws ≡ true → are_dotted (is_part true) ws ≡ true
+pub allow_quoted : (ws : List TokenValue) → are_dotted (is_part false) ws ≡ true → are_dotted (is_part true) ws ≡ true
 allow_quoted [] h = h
 allow_quoted (w ∷ []) h = atoms_are_words w.kind h
 allow_quoted (w ∷ d ∷ ws) h =
@@ -190,20 +190,37 @@ allow_quoted (w ∷ d ∷ ws) h =
     and_from (is_part true w) (is_special_of 46 d && are_dotted (is_part true) ws) (atoms_are_words w.kind parts.0)
     (and_from (is_special_of 46 d) (are_dotted (is_part true) ws) others.0 (allow_quoted ws others.1))
 
-atoms_written : (local : List ℕ) → is_dot_atom local ≡ true → WritesLocal local (dotted_tokens (slice_split (λ x. eqb x 46) local))
-atoms_written local h =
-    let parts : List (List ℕ) = slice_split (λ x. eqb x 46) local in
-    let some : 0 < length parts = omega (arith, length-slice_split (λ x. eqb x 46) local) in
+-- tokens of atoms divided by dots, and their text
+pub record WritesDotted (octets : List ℕ) (tokens : List TokenValue) : Type 0 where
+  pub writes : Writes octets tokens
+  pub dotted : are_dotted (is_part false) tokens ≡ true
+  pub says : octets ≡ contents tokens
+  pub words : words_of tokens ≡ tokens
+
+pub dots_written : (octets : List ℕ) → is_dot_atom octets ≡ true → WritesDotted octets (dotted_tokens (slice_split (λ x. eqb x 46) octets))
+dots_written octets h =
+    let parts : List (List ℕ) = slice_split (λ x. eqb x 46) octets in
+    let some : 0 < length parts = omega (arith, length-slice_split (λ x. eqb x 46) octets) in
     let dotted = dotted_again parts some in
-    let says : local ≡ contents (dotted_tokens parts) = sym (dotted_contents parts ∙ join_with_byte-slice_split 46 local) in
+    let says : octets ≡ contents (dotted_tokens parts) = sym (dotted_contents parts ∙ join_with_byte-slice_split 46 octets) in
     record {
       writes = record {
         are_tokens = λ more rest stops are.
-            rw (h) (rw (sym says) at (dotted_writes (dotted_tokens parts) dotted (dotted_shapes parts h) more rest stops are));
+            rw (sym says) at (dotted_writes (dotted_tokens parts) dotted (dotted_shapes parts h) more rest stops are);
       };
-      is_local = rw (dotted_words parts) (allow_quoted (dotted_tokens parts) dotted);
+      dotted = dotted;
       says = says;
       words = dotted_words parts;
+    }
+
+atoms_written : (local : List ℕ) → is_dot_atom local ≡ true → WritesLocal local (dotted_tokens (slice_split (λ x. eqb x 46) local))
+atoms_written local h =
+    let written = dots_written local h in
+    record {
+      writes = rw (h) written.writes;
+      is_local = rw (written.words) (allow_quoted (dotted_tokens (slice_split (λ x. eqb x 46) local)) written.dotted);
+      says = written.says;
+      words = written.words;
     }
 
 -- a quoted string
@@ -303,6 +320,47 @@ contents_is_line ts s = record { utf8 = contents_utf8 ts s; plain = contents_lin
 abbrev pub mark : ℕ → TokenValue
 mark m = record { kind = Special; octets = m ∷ [] }
 
+-- a path of tokens that say its local part and its domain
+pub path_of_parts : (l d : List ℕ) (local domain : List TokenValue) (a : Address) → IsLine (in_angles (l ++ 64 ∷ d)) → Writes l local → Writes d domain
+    → IsLocal local → is_domain domain ≡ true → a.local ≡ contents local → a.domain ≡ contents domain → HasPath (in_angles (l ++ 64 ∷ d)) (Some a)
+path_of_parts l d local domain a line local_writes domain_writes local_is domain_is p q =
+    let behind : AreTokens Mail (domain ++ mark 62 ∷ []) (d ++ 62 ∷ []) = domain_writes.are_tokens (mark 62 ∷ []) (62 ∷ []) refl ([], refl, (62, refl, refl), refl) in
+    let all : AreTokens Mail (local ++ mark 64 ∷ (domain ++ mark 62 ∷ [])) (l ++ 64 ∷ (d ++ 62 ∷ [])) =
+    local_writes.are_tokens (mark 64 ∷ (domain ++ mark 62 ∷ [])) (64 ∷ (d ++ 62 ∷ [])) refl (d ++ 62 ∷ [], refl, (64, refl, refl), behind) in
+    let text : (l ++ 64 ∷ d) ++ 62 ∷ [] ≡ l ++ 64 ∷ (d ++ 62 ∷ []) = append_assoc l (64 ∷ d) (62 ∷ []) in
+    record {
+      tokens = mark 60 ∷ (local ++ mark 64 ∷ (domain ++ mark 62 ∷ []));
+      has_tokens = record {
+        is_line = line;
+        are_tokens = ((l ++ 64 ∷ d) ++ 62 ∷ [], refl, (60, refl, refl), rw (text) all);
+      };
+      is_path = record {
+        before = [];
+        inner = local ++ mark 64 ∷ domain;
+        angled = record {
+          open_mark = mark 60;
+          close_mark = mark 62;
+          after = [];
+          whole = ap (λ r. mark 60 ∷ r) (sym (append_assoc local (mark 64 ∷ domain) (mark 62 ∷ [])));
+          opens = refl;
+          closes = refl;
+          behind = refl;
+        };
+        nothing_before = refl;
+        holds = record {
+          local = local;
+          at = mark 64;
+          domain = domain;
+          whole = refl;
+          is_at = refl;
+          is_local = local_is;
+          is_domain = domain_is;
+          local_says = p;
+          domain_says = q;
+        };
+      };
+    }
+
 -- an address of sound tokens is read back
 address_again : (ts : List TokenValue) (a : Address) → AllByRecursion IsSound ts → IsAddress ts a → HasPath (in_angles (address_text a)) (Some a)
 address_again ts a s is =
@@ -310,51 +368,15 @@ address_again ts a s is =
     let local_sound = sound_front is.local (is.at ∷ is.domain) parts in
     let domain_sound = (sound_rest is.local (is.at ∷ is.domain) parts).1 in
     let written = local_written a.local in
-    let tokens : List TokenValue = written.0 in
-    let domain : List TokenValue = words_of is.domain in
-    let behind : AreTokens Mail (domain ++ mark 62 ∷ []) (a.domain ++ 62 ∷ []) =
-    rw (is.domain_says) ((domain_writes is.domain is.is_domain domain_sound).are_tokens (mark 62 ∷ []) (62 ∷ []) refl ([], refl, (62, refl, refl), refl)) in
-    let all : AreTokens Mail (tokens ++ mark 64 ∷ (domain ++ mark 62 ∷ [])) (local_text a.local ++ 64 ∷ (a.domain ++ 62 ∷ [])) =
-    written.1.writes.are_tokens (mark 64 ∷ (domain ++ mark 62 ∷ [])) (64 ∷ (a.domain ++ 62 ∷ [])) refl (a.domain ++ 62 ∷ [], refl, (64, refl, refl), behind) in
-    let text : address_text a ++ 62 ∷ [] ≡ local_text a.local ++ 64 ∷ (a.domain ++ 62 ∷ []) = append_assoc (local_text a.local) (64 ∷ a.domain) (62 ∷ []) in
+    let domain : Writes a.domain (words_of is.domain) = rw (is.domain_says) (domain_writes is.domain is.is_domain domain_sound) in
     let line : IsLine (in_angles (address_text a)) =
     line_append (60 ∷ []) (address_text a ++ 62 ∷ []) (one_line 60 (omega arith) refl)
     (line_append (address_text a) (62 ∷ [])
     (line_append (local_text a.local) (64 ∷ a.domain) (local_line a.local (rw (is.local_says) (contents_is_line is.local local_sound)))
     (line_append (64 ∷ []) a.domain (one_line 64 (omega arith) refl) (rw (is.domain_says) (contents_is_line is.domain domain_sound))))
     (one_line 62 (omega arith) refl)) in
-    record {
-      tokens = mark 60 ∷ (tokens ++ mark 64 ∷ (domain ++ mark 62 ∷ []));
-      has_tokens = record {
-        is_line = line;
-        are_tokens = (address_text a ++ 62 ∷ [], refl, (60, refl, refl), rw (text) all);
-      };
-      is_path = record {
-        before = [];
-        inner = tokens ++ mark 64 ∷ domain;
-        angled = record {
-          open_mark = mark 60;
-          close_mark = mark 62;
-          after = [];
-          whole = ap (λ r. mark 60 ∷ r) (sym (append_assoc tokens (mark 64 ∷ domain) (mark 62 ∷ [])));
-          opens = refl;
-          closes = refl;
-          behind = refl;
-        };
-        nothing_before = refl;
-        holds = record {
-          local = tokens;
-          at = mark 64;
-          domain = domain;
-          whole = refl;
-          is_at = refl;
-          is_local = written.1.is_local;
-          is_domain = rw (words_again is.domain) is.is_domain;
-          local_says = written.1.says;
-          domain_says = is.domain_says ∙ contents-words is.domain;
-        };
-      };
-    }
+    path_of_parts (local_text a.local) a.domain written.0 (words_of is.domain) a line written.1.writes domain
+    written.1.is_local (rw (words_again is.domain) is.is_domain) written.1.says (is.domain_says ∙ contents-words is.domain)
 
 pub path_again : (a : Address) → ComesInPath a → HasPath (in_angles (address_text a)) (Some a)
 path_again a comes =

@@ -5,3 +5,4 @@ pub mod Walks
 pub mod ListViews
 pub mod PhraseSteps
 pub mod ListSteps
+pub mod PlainPaths

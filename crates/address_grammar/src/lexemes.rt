@@ -131,7 +131,7 @@ pub fn lexemes_of<'a>(
     requires { HasTokens Mail text.now tokens.now }
     ensures { IfOk result (λ lexemes. HasMailTokens text.now (values_of lexemes.items)) }
 {
-    let mut lexemes = Vec::new(alloc);
+    let mut lexemes = Vec::with_capacity(alloc, tokens.len())?;
     let mut left = tokens;
     let mut rest = text;
     while let Some((token, more)) = left.split_first() {
@@ -203,11 +203,22 @@ pub fn push_content(made: &mut Octets, lexeme: Lexeme<'_>) -> Result<(), Memory>
     }
 }
 
+/// No octets, and room for those of tokens and one more, as a comma behind them.
+pub fn room_for(alloc: Global, lexemes: &[Lexeme<'_>]) -> Result<Octets, Memory>
+    ensures { IfOk result (λ made. made ≡ []) }
+{
+    let mut room = 1usize;
+    for lexeme in lexemes {
+        room = room.saturating_add(lexeme.octets.len());
+    }
+    Ok(Octets::from_vec(Vec::with_capacity(alloc, room)?))
+}
+
 /// What a token says.
 pub fn content(alloc: Global, lexeme: Lexeme<'_>) -> Result<Octets, Memory>
     ensures { IfOk result (λ made. made ≡ content_of (value_of lexeme.entry)) }
 {
-    let mut made = Octets::new(alloc);
+    let mut made = Octets::from_vec(Vec::with_capacity(alloc, lexeme.octets.len())?);
     push_content(&mut made, lexeme)?;
     Ok(made)
 }
@@ -216,7 +227,7 @@ pub fn content(alloc: Global, lexeme: Lexeme<'_>) -> Result<Octets, Memory>
 pub fn contents(alloc: Global, lexemes: &[Lexeme<'_>]) -> Result<Octets, Memory>
     ensures { IfOk result (λ made. made ≡ contents_of (values_of lexemes.now)) }
 {
-    let mut made = Octets::new(alloc);
+    let mut made = room_for(alloc, lexemes)?;
     for lexeme in lexemes {
         push_content(&mut made, *lexeme)?;
     }

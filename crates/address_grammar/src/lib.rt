@@ -12,12 +12,12 @@ mod places;
 use encoded_words::Unit;
 use field_tokens::Comment;
 pub use lexemes::{
-    Lexeme, are_blank, is_blank, is_mark, push_content, read_lexemes, split_at_mark,
+    Lexeme, are_blank, is_blank, is_mark, push_content, read_lexemes, room_for, split_at_mark,
 };
 pub use lists::{read_element, read_list};
 use mail_wire::{Items, Octets};
 pub use mailboxes::read_mailbox;
-pub use paths::{push_address, push_quoted_string, read_path, write_address};
+pub use paths::{push_address, push_quoted_string, read_path, room_for_address, write_address};
 pub use phrases::{is_phrase, read_phrase};
 pub use places::find_comma;
 

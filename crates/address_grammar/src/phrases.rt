@@ -3,7 +3,7 @@ ghost use Rattle.std.specs.Prelude.{◌≡◌, ◌&&◌, not, [], ◌∷◌, tru
 ghost use Rattle.std.specs.List.{list_all};
 ghost use Rattle.encoded_words.specs.private.Merging.{all_units_then};
 ghost use Rattle.encoded_words.specs.PhraseUnits.{HasPhraseUnits, begins_free as begins_free_of};
-ghost use Rattle.address_grammar.specs.private.Lexemes.{is_atom as is_atom_of};
+ghost use Rattle.address_grammar.specs.private.Lexemes.{is_atom as is_atom_of, content as content_of};
 ghost use Rattle.address_grammar.specs.Phrases.{may_stand_in_phrase as may_stand_of, IsPhrase, phrase_items};
 ghost use Rattle.address_grammar.specs.private.PhraseSteps.{TakesPart, IsFreshReader, TakesToken};
 ghost use Rattle.address_grammar.specs.private.Views.{value_of, values_of};
@@ -59,6 +59,38 @@ fn push_part(
     Ok(false)
 }
 
+// Takes what a token says and the run before it, and answers whether it is an encoded word.
+fn push_said(
+    alloc: Global,
+    units: &mut Merging,
+    run: &[u8],
+    after_encoded: bool,
+    lexeme: Lexeme<'_>,
+    may_be_encoded: bool,
+) -> Result<bool, Memory>
+    ensures { IfOk result (TakesPart units.old units.new run.now after_encoded (content_of (value_of lexeme.entry)) may_be_encoded) }
+{
+    if is_atom(lexeme) {
+        return push_part(
+            alloc,
+            units,
+            run,
+            after_encoded,
+            lexeme.octets,
+            may_be_encoded,
+        );
+    }
+    let word = content(alloc, lexeme)?;
+    push_part(
+        alloc,
+        units,
+        run,
+        after_encoded,
+        word.as_slice(),
+        may_be_encoded,
+    )
+}
+
 // The reader of the units of a phrase: whether a separator stands behind the last word, or nothing was read, and whether
 // that word was an encoded word.
 #[derive(Drop)]
@@ -104,15 +136,14 @@ impl PhraseReader {
             self.is_free = true;
             return Ok(());
         }
-        let word = content(alloc, lexeme)?;
         let run = space(self.is_apart());
         let may_be_encoded = self.may_be_encoded(lexeme, is_next_free);
-        self.after_encoded = push_part(
+        self.after_encoded = push_said(
             alloc,
             &mut self.units,
             run,
             self.after_encoded,
-            word.as_slice(),
+            lexeme,
             may_be_encoded,
         )?;
         self.is_first = false;

@@ -6,6 +6,7 @@ use Rattle.std.proofs.lemmas.List.Folds.{list_all-append, list_all-map}
 use Rattle.std.proofs.lemmas.List.Sums.{AllPass-from_list_all}
 use Rattle.std.specs.List.{list_all}
 use Rattle.mail_wire.specs.Octets.{is_ascii}
+use Rattle.encoded_words.specs.PhraseUnits.{HasPhraseUnits}
 use Rattle.field_tokens.specs.declared.TokenKind.{TokenKind}
 use Rattle.field_tokens.specs.declared.TokenKind.TheVariants.{Atom, Quoted, Literal, Special, Gap, Comment}
 use Rattle.field_tokens.specs.Tokens.{TokenValue}
@@ -17,7 +18,7 @@ use Rattle.address_grammar.specs.private.Lexemes.{is_special_of, lacks_special, 
 use Rattle.address_grammar.specs.Addresses.{address_text}
 use Rattle.address_grammar.specs.Paths.{in_angles}
 use Rattle.address_lists.specs.PhrasePieces.{HasCore, PhrasePieces}
-use Rattle.address_grammar.specs.Phrases.{IsPhrase, SaysPhrase}
+use Rattle.address_grammar.specs.Phrases.{IsPhrase, SaysPhrase, phrase_items}
 use Rattle.address_grammar.specs.AddressLists.{MailboxValue, IsBare, IsNamed, IsMailbox}
 use Rattle.address_lists.specs.ListPieces.{served_address, mailbox_units, MailboxPieces}
 use Rattle.address_lists.specs.private.ListWriting.{EmptiedPieces, NamedPieces}
@@ -93,14 +94,14 @@ mark_kind Comment octets n h = sym h
 mark_no_comment : (n : ℕ) (t : TokenValue) (ts : List TokenValue) → is_special_of n t ≡ true → comments_of (t ∷ ts) ≡ comments_of ts
 mark_no_comment n t ts h = comments_of-append (t ∷ []) ts ∙ ap (λ r. r ++ comments_of ts) (no_comment t (mark_kind t.kind t.octets n h))
 
-pub named_phrase : (ts before behind : List TokenValue) (m : MailboxValue) → SplitsAt 60 ts before behind → IsNamed ts m → m.phrase ≡ true → IsPhrase before
+pub named_phrase : (ts before behind : List TokenValue) (m : MailboxValue) → SplitsAt 60 ts before behind → IsNamed ts m → m.phrase ≡ true → IsPhrase before × HasPhraseUnits (phrase_items before) m.display
 named_phrase ts before behind m s is phrase =
     let a = is.angled in
     let cut = cut_once 60 before is.before s.at a.open_mark behind (is.inner ++ a.close_mark ∷ a.after) s.first (named_angles ts m is).first_open s.is_at a.opens (sym s.whole ∙ a.whole) in
     rw (cut.front) (by m.phrase phrase is.named.says)
   where
-    by : (b : Bool) → b ≡ true → SaysPhrase is.before b m.display → IsPhrase is.before
-    by true h says = says.0
+    by : (b : Bool) → b ≡ true → SaysPhrase is.before b m.display → IsPhrase is.before × HasPhraseUnits (phrase_items is.before) m.display
+    by true h says = says
     by false h says = cc h
 
 pub named_pieces : (ts before behind : List TokenValue) (m : MailboxValue) (served : Address) (ps : List (List ℕ)) → SplitsAt 60 ts before behind → IsNamed ts m → m.phrase ≡ true → served_address m.address ≡ Some served

@@ -12,7 +12,7 @@ ghost use Rattle.address_grammar.specs.private.Views.{values_of};
 ghost use Rattle.address_grammar.specs.private.ListViews.{unit_values, mailbox_value, mailbox_values};
 
 use crate::writing::write_comments;
-use address_grammar::{Address, Lexeme, Mailbox, push_address};
+use address_grammar::{Address, Lexeme, Mailbox, push_address, room_for_address};
 use encoded_words::{Merging, Unit, write_units};
 use mail_wire::{Memory, Octets};
 use std::alloc::Global;
@@ -50,7 +50,7 @@ fn push_units(alloc: Global, units: &mut Merging, said: &[Unit]) -> Result<(), M
 fn push_address_text(alloc: Global, units: &mut Merging, address: &Address) -> Result<(), Memory>
     ensures { OnOk result (TakesUnits units.old units.new (Text (address_text address.now) ∷ [])) }
 {
-    let mut text = Octets::new(alloc);
+    let mut text = room_for_address(alloc, address)?;
     push_address(&mut text, address)?;
     push_text(units, text.as_slice())
 }

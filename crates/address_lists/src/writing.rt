@@ -1,8 +1,8 @@
 //! The writer of phrases.
-ghost use Rattle.std.specs.Prelude.{◌≡◌, ◌++◌, ◌∷◌, [], ℕ, not, false, position, IfOk, OnOk};
+ghost use Rattle.std.specs.Prelude.{◌≡◌, ◌++◌, ◌∷◌, [], ℕ, not, true, false, position, IfOk, OnOk};
 ghost use Rattle.std.specs.List.{AllByRecursion, list_all};
 ghost use Rattle.mail_wire.specs.Octets.{is_ascii as is_ascii_octet};
-ghost use Rattle.encoded_words.specs.PhraseUnits.{IsUtf8Item};
+ghost use Rattle.encoded_words.specs.PhraseUnits.{IsUtf8Item, HasPhraseUnits};
 ghost use Rattle.encoded_words.specs.Written.{AreWritable};
 ghost use Rattle.field_tokens.specs.Comments.{AreWritableComments, CommentsPieces, AddsPieces};
 ghost use Rattle.field_tokens.specs.Squeezed.{is_gap as is_gap_kind, octets_of, comments_of};
@@ -12,10 +12,11 @@ ghost use Rattle.address_grammar.specs.private.PhraseSteps.{SkipsGaps, SplitsTra
 ghost use Rattle.address_grammar.specs.private.Views.{value_of, values_of};
 ghost use Rattle.address_grammar.specs.private.ListViews.{unit_values};
 
-use address_grammar::{Lexeme, is_blank, read_phrase};
+use crate::ascii_texts::are_ascii;
+use address_grammar::{Lexeme, is_blank, read_phrase, room_for};
 use encoded_words::{Unit, write_units};
 use field_tokens::{TokenKind, is_comment, write_comment};
-use mail_wire::{Memory, Octets, is_ascii};
+use mail_wire::{Memory, Octets};
 use std::alloc::Global;
 
 pub(crate) fn is_gap(lexeme: Lexeme<'_>) -> bool
@@ -63,7 +64,7 @@ pub(crate) fn split_core<'a, 'b>(lexemes: &'b [Lexeme<'a>]) -> (&'b [Lexeme<'a>]
 pub(crate) fn joined(alloc: Global, lexemes: &[Lexeme<'_>]) -> Result<Octets, Memory>
     ensures { IfOk result (λ made. made ≡ octets_of (values_of lexemes.now)) }
 {
-    let mut made = Octets::new(alloc);
+    let mut made = room_for(alloc, lexemes)?;
     for lexeme in lexemes {
         made.push_slice(lexeme.octets)?;
     }
@@ -101,34 +102,46 @@ pub(crate) fn write_comments(
 }
 
 // Puts the pieces of what a phrase says last, and those of the comments in it.
-fn push_said(alloc: Global, lexemes: &[Lexeme<'_>], pieces: &mut Vec<Octets>) -> Result<(), Memory>
-    requires phrase { IsPhrase (values_of lexemes.now) }
+pub(crate) fn push_said(
+    alloc: Global,
+    lexemes: &[Lexeme<'_>],
+    units: &[Unit],
+    pieces: &mut Vec<Octets>,
+) -> Result<(), Memory>
+    requires units { HasPhraseUnits (phrase_items (values_of lexemes.now)) (unit_values units.now) }
     requires utf8 { AllByRecursion IsUtf8Item (phrase_items (values_of lexemes.now)) }
     requires comments { AreWritableComments (comments_of (values_of lexemes.now)) }
     ensures { OnOk result (AddsPieces (PhrasePieces false (values_of lexemes.now)) pieces.old.items pieces.new.items) }
 {
-    let units = read_phrase(alloc, lexemes)?;
-    push_units(alloc, &units, pieces)?;
+    push_units(alloc, units, pieces)?;
     write_comments(alloc, lexemes, pieces)
 }
 
-// Puts the pieces of a phrase last that ends with its last word.
-pub(crate) fn push_core(
+// Puts tokens last as one piece.
+pub(crate) fn push_joined(
     alloc: Global,
     lexemes: &[Lexeme<'_>],
     pieces: &mut Vec<Octets>,
 ) -> Result<(), Memory>
+    ensures { OnOk result (AddsPieces (PhrasePieces true (values_of lexemes.now)) pieces.old.items pieces.new.items) }
+{
+    let whole = joined(alloc, lexemes)?;
+    pieces.push(whole)?;
+    Ok(())
+}
+
+// Puts the pieces of a phrase last that ends with its last word.
+fn push_core(alloc: Global, lexemes: &[Lexeme<'_>], pieces: &mut Vec<Octets>) -> Result<(), Memory>
     requires phrase { IsPhrase (values_of lexemes.now) }
     requires utf8 { AllByRecursion IsUtf8Item (phrase_items (values_of lexemes.now)) }
     requires comments { AreWritableComments (comments_of (values_of lexemes.now)) }
     ensures { OnOk result (AddsPieces (PhrasePieces (list_all is_ascii_octet (octets_of (values_of lexemes.now))) (values_of lexemes.now)) pieces.old.items pieces.new.items) }
 {
-    let whole = joined(alloc, lexemes)?;
-    if is_ascii(whole.as_slice()) {
-        pieces.push(whole)?;
-        return Ok(());
+    if are_ascii(lexemes) {
+        return push_joined(alloc, lexemes, pieces);
     }
-    push_said(alloc, lexemes, pieces)
+    let units = read_phrase(alloc, lexemes)?;
+    push_said(alloc, lexemes, &units, pieces)
 }
 
 /// Puts the pieces of a phrase last, and those of the comments behind it.

@@ -5,4 +5,4 @@ use Rattle.address_grammar.specs.private.ListViews.{unit_values}
 use Rattle.address_lists.proofs.writing.push_said.Goals as goal
 
 pub push_units-requires : goal.push_units-requires
-push_units-requires c = rw (c.deref.ensures.value) (HasPhraseUnits-writable (phrase_items (values_of c.args.lexemes.now)) (unit_values c.in_ok-units.units.items) c.requires.utf8 c.in_ok-units.ensures)
+push_units-requires c = HasPhraseUnits-writable (phrase_items (values_of c.args.lexemes.now)) (unit_values c.args.units.now) c.requires.utf8 c.requires.units

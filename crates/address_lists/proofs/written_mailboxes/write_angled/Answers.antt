@@ -9,7 +9,10 @@ pub unreachable-requires : goal.unreachable-requires
 unreachable-requires c = not_open _ (mailbox_value c.args.mailbox.now) c.requires.mailbox c.in_default.ensures.none
 
 pub write_named-requires-clause-phrase : goal.write_named-requires-clause-phrase
-write_named-requires-clause-phrase c = named_phrase _ _ _ (mailbox_value c.args.mailbox.now) c.in-Some.ensures.found c.requires.mailbox c.if-mailbox.true
+write_named-requires-clause-phrase c = (named_phrase _ _ _ (mailbox_value c.args.mailbox.now) c.in-Some.ensures.found c.requires.mailbox c.if-mailbox.true).0
+
+pub write_named-requires-clause-units : goal.write_named-requires-clause-units
+write_named-requires-clause-units c = rw (c.as_slice.ensures) ((named_phrase _ _ _ (mailbox_value c.args.mailbox.now) c.in-Some.ensures.found c.requires.mailbox c.if-mailbox.true).1)
 
 pub write_named-requires-clause-before : goal.write_named-requires-clause-before
 write_named-requires-clause-before c = let s = c.in-Some.ensures.found in before_can _ _ _ s.at s.whole c.requires.writable
