@@ -91,14 +91,25 @@ pub fn domain_key(alloc: Global, domain: &str) -> Result<Octets, Memory>
     }
 }
 
-// What a local part is known by.
-fn local_key(alloc: Global, local: &str) -> Result<Octets, Memory>
+// What any local part is known by.
+fn folded_key(alloc: Global, local: &str) -> Result<Octets, Memory>
     ensures { IfOk result (λ key. key ≡ encode_utf8_all (canonical_key (chars local.now))) }
 {
     let decomposed = to_nfd(alloc, local)?;
     let folded = default_case_fold_str(alloc, decomposed.as_str())?;
     let key = to_nfd(alloc, folded.as_str())?;
     Ok(Octets::from_vec(key.into_bytes()))
+}
+
+// What a local part is known by. One of ASCII needs no tables.
+fn local_key(alloc: Global, local: &str) -> Result<Octets, Memory>
+    ensures { IfOk result (λ key. key ≡ encode_utf8_all (canonical_key (chars local.now))) }
+{
+    if local.is_ascii() {
+        let key = local.as_bytes().to_ascii_lowercase(alloc)?;
+        return Ok(Octets::from_vec(key));
+    }
+    folded_key(alloc, local)
 }
 
 /// What a mailbox is known by.

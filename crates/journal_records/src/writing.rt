@@ -267,6 +267,9 @@ pub fn push_record(journal: &mut Octets, one: &Record) -> Result<(), Memory>
     push_fields(journal, one)
 }
 
+// How many octets stand there, where the date has 26: room that is made at once.
+const FRONT: usize = 44;
+
 /// What stands before the octets in the text of a record of a message.
 pub fn message_front(
     alloc: Global,
@@ -278,7 +281,7 @@ pub fn message_front(
     requires { length date.now + length octets.now + 14 ≤ RECORD_MAX }
     ensures { IfOk result (λ front. front ++ octets.now ≡ record_text (records.Message folder flags date.now octets.now)) }
 {
-    let mut front = Octets::new(alloc);
+    let mut front = Octets::from_vec(Vec::with_capacity(alloc, FRONT)?);
     push_number(&mut front, message_len(date, octets))?;
     push_message_front(&mut front, folder, flags, date, octets.len())?;
     Ok(front)

@@ -1,7 +1,7 @@
 -- The keywords of parameters, and a set that has them.
-use Rattle.std.proofs.Common.{◌≡◌, ℕ, ◌||◌, List, [], ◌∷◌, ◌++◌, Bool, true, false, not, refl, sym, ap, ◌∙◌, ◌+◌, min, arith, Option, None, map}
+use Rattle.std.proofs.Common.{◌≡◌, ◌≤◌, ◌-◌, ℕ, ◌||◌, ◌==◌, inl, inr, length, take, drop, get_or, take_all, subst, List, [], ◌∷◌, ◌++◌, Bool, true, false, not, refl, sym, ap, ◌∙◌, ◌+◌, min, arith, Option, None, map}
 use Rattle.std.specs.Global.{Vec}
-use Rattle.std.specs.List.{list_any, sum_by}
+use Rattle.std.specs.List.{list_any, filter, slice_split, onto_first, sum_by}
 use Rattle.std.specs.Ordering.{is_eq, nat_cmp, match_ordering}
 use Rattle.std.specs.declared.cmp.Ordering.{Ordering}
 use Rattle.std.specs.declared.cmp.Ordering.TheVariants.{Less, Equal, Greater}
@@ -10,6 +10,8 @@ use Rattle.std.specs.Str.{bytes_eq}
 use Rattle.std.specs.BTreeMap.{is_at}
 use Rattle.std.specs.BTreeSet.{insert_key}
 use Rattle.std.proofs.Math.Bool.{or_assoc, or_comm}
+use Rattle.std.proofs.lemmas.Bool.{cases_Bool}
+use Rattle.std.proofs.lemmas.List.Splits.{slice_split-cons_no, slice_split-cons_yes}
 use Rattle.std.specs.Iterator.{Yields}
 use Rattle.std.proofs.lemmas.Iterator.{YieldsList}
 use Rattle.std.proofs.lemmas.Iterator.Consumers.{YieldsList-end}
@@ -17,7 +19,8 @@ use Rattle.std.proofs.lemmas.List.Folds.{list_any-append}
 use Rattle.std.proofs.lemmas.List.Sums.{sum_by-append}
 use Rattle.std.proofs.lemmas.Map.Text.{is_eq-slice_cmp}
 use Rattle.std.proofs.lemmas.Slice.Eq.{bytes_eq-Decides}
-use Rattle.smtp_grammar.specs.Commands.{parameter_keyword, has_twice, parameter_of, is_malformed, are_malformed}
+use Rattle.mail_wire.specs.Octets.{is_white}
+use Rattle.smtp_grammar.specs.Commands.{white_words, parameter_keyword, has_twice, parameter_of, is_malformed, are_malformed}
 
 or_false : (b : Bool) → (b || false) ≡ b
 or_false true = refl
@@ -113,3 +116,26 @@ pub keywords-turn : (words : List (List ℕ)) (word : List ℕ) (more : List (Li
     → (q : List ℕ) → list_any (is_at (λ k. slice_cmp nat_cmp q k.items)) new ≡ list_any (λ word. bytes_eq q (parameter_keyword word)) more
 keywords-turn words word more old new key m k n o q =
     ap (list_any (is_at (λ (k : Vec ℕ). slice_cmp nat_cmp q k.items))) n ∙ insert-any q old key ∙ rw (m, any-push (λ word. bytes_eq q (parameter_keyword word)) words word, o q, k) refl
+
+-- ---- one word alone
+
+whole_word : (word : List ℕ) → list_any is_white word ≡ false → slice_split is_white word ≡ word ∷ []
+whole_word [] none = refl
+whole_word (x ∷ word) none = elim (cases_Bool (is_white x)) [
+  | inl white ↦ absurd (cc (rw white at none))
+  | inr black ↦ slice_split-cons_no is_white x word black ∙ ap (onto_first x) (whole_word word (rw black at none))
+]
+
+lone_by : (x : ℕ) (word : List ℕ) → is_white x ≡ true → (length word == 0) ≡ false → list_any is_white word ≡ false → white_words (x ∷ word) ≡ word ∷ []
+lone_by x word white full none =
+    ap (filter (λ (word : List ℕ). not (length word == 0))) (slice_split-cons_yes is_white x word white ∙ ap (λ (words : List (List ℕ)). [] ∷ words) (whole_word word none))
+    ∙ rw full refl
+
+-- behind a white octet it is the only word
+pub lone_word_is : (rest word : List ℕ) → 1 ≤ length rest → word ≡ take (length rest - 1) (drop 1 rest) → is_white (get_or rest 0 0) ≡ true → (length word == 0) ≡ false → list_any is_white word ≡ false
+    → white_words rest ≡ word ∷ []
+lone_word_is [] word long is white full none = absurd (omega arith)
+lone_word_is (x ∷ rest) word long is white full none =
+    let same : word ≡ rest = is ∙ take_all (length (x ∷ rest) - 1) rest (omega arith) in
+    subst (λ (w : List ℕ). white_words (x ∷ rest) ≡ w ∷ []) (sym same)
+    (lone_by x rest white (subst (λ (w : List ℕ). (length w == 0) ≡ false) same full) (subst (λ (w : List ℕ). list_any is_white w ≡ false) same none))

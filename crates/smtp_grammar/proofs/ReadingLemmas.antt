@@ -494,3 +494,10 @@ is_last_by line part rest b begins is tells =
       λ yes_it_is. ap (λ back. line ++ back) (sym (same.0 (sym tells ∙ yes_it_is))) ∙ whole,
       λ last. tells ∙ same.1 (append_cancel_left line rest part (whole ∙ sym last)),
     )
+
+-- a part of more octets is not of the line that ends the data
+pub not_last_by : (line part : List ℕ) → 3 < length part → (IsTrue false → line ++ part ≡ last_line) × (line ++ part ≡ last_line → IsTrue false)
+not_last_by line part long = (
+  λ bad. absurd (cc bad),
+  λ last. absurd (omega (arith, length-append line part, ap length last)),
+)

@@ -1,5 +1,5 @@
 //! Commands, as a line writes them (RFC 5321, 4.1).
-ghost use Rattle.std.specs.Prelude.{◌≡◌, ◌≤◌, ◌+◌, ◌-◌, ◌^◌, ◌||◌, drop, None, Some, IfOk, IfSome, MatchOption, length, min, not, position};
+ghost use Rattle.std.specs.Prelude.{◌≡◌, ◌≤◌, ◌+◌, ◌-◌, ◌^◌, ◌||◌, ◌∷◌, [], drop, None, Some, IfOk, IfSome, MatchOption, length, min, not, position};
 ghost use Rattle.std.specs.List.{list_any, list_all, position_or_len, before_first, sum_by};
 ghost use Rattle.std.specs.Option.{option_copied};
 ghost use Rattle.mail_wire.specs.Octets.{is_white, is_black};
@@ -344,6 +344,13 @@ pub struct Parameters {
     pub size: u64,
 }
 
+const NO_PARAMETERS: Parameters = Parameters {
+    malformed: false,
+    unknown: false,
+    smtputf8: false,
+    size: 0,
+};
+
 fn announced(parameter: Parameter) -> u64
     ensures { result ≡ announced parameter }
 {
@@ -368,20 +375,45 @@ impl Parameters {
     }
 }
 
-/// The parameters that the words behind a path are.
-pub fn read_parameters(alloc: Global, rest: &[u8]) -> Result<Parameters, Memory>
+fn has_white(text: &[u8]) -> bool
+    ensures { result ≡ list_any is_white text.now }
+{
+    text.iter().any(|octet| is_white(*octet))
+}
+
+// The one word of a text that is a white octet and a word.
+fn lone_word(rest: &[u8]) -> Option<&[u8]>
+    ensures { IfSome result (λ word. white_words rest.now ≡ word.now ∷ []) }
+{
+    match rest {
+        [first, word @ ..] if is_white(*first) && !word.is_empty() && !has_white(word) => {
+            Some(word)
+        }
+        _ => None,
+    }
+}
+
+// The parameters that this word is.
+fn read_lone(word: &[u8]) -> Parameters
+    ensures malformed { result.malformed ≡ are_malformed (word.now ∷ []) }
+    ensures unknown { result.unknown ≡ list_any (λ word. is_unknown (parameter_of word)) (word.now ∷ []) }
+    ensures smtputf8 { result.smtputf8 ≡ list_any (λ word. is_smtputf8 (parameter_of word)) (word.now ∷ []) }
+    ensures size { result.size ≡ min (sum_by (λ word. announced (parameter_of word)) (word.now ∷ [])) (2 ^ 64 - 1) }
+{
+    let mut read = NO_PARAMETERS;
+    read.add(read_parameter(word), true);
+    read
+}
+
+// The parameters that the words of a text are.
+fn read_words(alloc: Global, rest: &[u8]) -> Result<Parameters, Memory>
     ensures malformed { IfOk result (λ read. read.malformed ≡ are_malformed (white_words rest.now)) }
     ensures unknown { IfOk result (λ read. read.unknown ≡ list_any (λ word. is_unknown (parameter_of word)) (white_words rest.now)) }
     ensures smtputf8 { IfOk result (λ read. read.smtputf8 ≡ list_any (λ word. is_smtputf8 (parameter_of word)) (white_words rest.now)) }
     ensures size { IfOk result (λ read. read.size ≡ min (sum_by (λ word. announced (parameter_of word)) (white_words rest.now)) (2 ^ 64 - 1)) }
 {
     let mut keywords = BTreeSet::new(alloc);
-    let mut read = Parameters {
-        malformed: false,
-        unknown: false,
-        smtputf8: false,
-        size: 0,
-    };
+    let mut read = NO_PARAMETERS;
     let words = rest
         .split(|octet| is_white(*octet))
         .filter(|word| !word.is_empty());
@@ -391,4 +423,17 @@ pub fn read_parameters(alloc: Global, rest: &[u8]) -> Result<Parameters, Memory>
         read.add(read_parameter(word), is_new);
     }
     Ok(read)
+}
+
+/// The parameters that the words behind a path are.
+pub fn read_parameters(alloc: Global, rest: &[u8]) -> Result<Parameters, Memory>
+    ensures malformed { IfOk result (λ read. read.malformed ≡ are_malformed (white_words rest.now)) }
+    ensures unknown { IfOk result (λ read. read.unknown ≡ list_any (λ word. is_unknown (parameter_of word)) (white_words rest.now)) }
+    ensures smtputf8 { IfOk result (λ read. read.smtputf8 ≡ list_any (λ word. is_smtputf8 (parameter_of word)) (white_words rest.now)) }
+    ensures size { IfOk result (λ read. read.size ≡ min (sum_by (λ word. announced (parameter_of word)) (white_words rest.now)) (2 ^ 64 - 1)) }
+{
+    match lone_word(rest) {
+        Some(word) => Ok(read_lone(word)),
+        None => read_words(alloc, rest),
+    }
 }

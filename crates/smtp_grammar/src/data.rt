@@ -18,14 +18,25 @@ fn without_dot(line: &[u8]) -> &[u8]
     }
 }
 
-// Whether a line that comes in two parts is the one that ends the data.
-fn is_last(line: &[u8], part: &[u8]) -> bool
+// Whether two parts are the line that ends the data.
+fn are_last(line: &[u8], part: &[u8]) -> bool
     ensures { IsTrue result ↔ (line.now ++ part.now ≡ codes ".\r\n") }
 {
     match b".\r\n".strip_prefix(line) {
         Some(rest) => rest == part,
         None => false,
     }
+}
+
+// Whether a line that comes in two parts is the one that ends the data.
+fn is_last(line: &[u8], part: &[u8]) -> bool
+    ensures { IsTrue result ↔ (line.now ++ part.now ≡ codes ".\r\n") }
+{
+    // Most lines have more.
+    if part.len() > 3 {
+        return false;
+    }
+    are_last(line, part)
 }
 
 // Puts a line that comes in two parts last, without the dot that it begins with, where it does.
@@ -54,6 +65,9 @@ fn tail_of(alloc: Global, line: &[u8], more: &[u8]) -> Result<Octets, Memory>
     tail.push_slice(last_four(more))?;
     Octets::from_slice(alloc, last_four(tail.as_slice()))
 }
+
+// A shorter piece brings too little to make room for it.
+const WORTH_ROOM: usize = 64;
 
 /// What was read of data: what their whole lines say, and the front of the next line. Data that say more than the limit are dropped
 /// as they come, and then the last octets of that front are kept alone.
@@ -139,9 +153,20 @@ impl DataReader {
         Ok(false)
     }
 
-    /// Takes data as far as they are in the piece: how many of its octets are theirs, with the line that ends them; none where they
-    /// go on.
-    pub fn take(&mut self, piece: &[u8]) -> Result<Option<usize>, Memory>
+    // Makes room at once for what a piece brings, where nothing is kept yet.
+    fn make_room(&mut self, piece: &[u8]) -> Result<(), Memory>
+        ensures same { OnOk result (self.new ≡ self.old) }
+        ensures limit { self.new.limit ≡ self.old.limit }
+    {
+        if !self.dropped && self.content.is_empty() && piece.len() >= WORTH_ROOM {
+            let count = piece.len().min(self.limit as usize);
+            self.content = Octets::from_vec(Vec::with_capacity(self.alloc, count)?);
+        }
+        Ok(())
+    }
+
+    // Takes the lines that are whole in the piece, and the front of a next one.
+    fn take_lines(&mut self, piece: &[u8]) -> Result<Option<usize>, Memory>
         ensures takes { IfOk result (λ found. (octets : List ℕ) → HasRead self.old octets → TakesOfPiece self.new octets piece.now found) }
         ensures limit { self.new.limit ≡ self.old.limit }
         ensures bounded { IfOk result (λ _. IsBounded self.old → IsBounded self.new) }
@@ -159,6 +184,17 @@ impl DataReader {
             }
         }
         Ok(None)
+    }
+
+    /// Takes data as far as they are in the piece: how many of its octets are theirs, with the line that ends them; none where they
+    /// go on.
+    pub fn take(&mut self, piece: &[u8]) -> Result<Option<usize>, Memory>
+        ensures takes { IfOk result (λ found. (octets : List ℕ) → HasRead self.old octets → TakesOfPiece self.new octets piece.now found) }
+        ensures limit { self.new.limit ≡ self.old.limit }
+        ensures bounded { IfOk result (λ _. IsBounded self.old → IsBounded self.new) }
+    {
+        self.make_room(piece)?;
+        self.take_lines(piece)
     }
 
     /// What the data say; none where that is more than the limit.

@@ -5,7 +5,7 @@ use Rattle.std.specs.Cmp.Lexicographic.{slice_cmp}
 use Rattle.std.specs.Ordering.{nat_cmp}
 use Rattle.std.specs.Str.{bytes_eq}
 use Rattle.smtp_grammar.specs.Commands.{parameter_keyword, parameter_of, are_malformed, is_unknown, is_smtputf8, announced}
-use Rattle.smtp_grammar.proofs.command.read_parameters.Given as goal
+use Rattle.smtp_grammar.proofs.command.read_words.Given as goal
 
 abbrev pub invariant-loop-word : goal.invariant-loop-word
 invariant-loop-word l = record {

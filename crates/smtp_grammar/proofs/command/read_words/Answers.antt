@@ -8,7 +8,7 @@ use Rattle.std.proofs.lemmas.Iterator.Splits.{YieldsList-from_slice_split}
 use Rattle.mail_wire.specs.Octets.{is_white}
 use Rattle.smtp_grammar.specs.Commands.{white_words, parameter_keyword, parameter_of, is_malformed, are_malformed, is_unknown, is_smtputf8, announced}
 use Rattle.smtp_grammar.proofs.ParameterLemmas.{flag-turn, size-turn, malformed-turn, keywords-turn, all-yielded}
-use Rattle.smtp_grammar.proofs.command.read_parameters.Goals as goal
+use Rattle.smtp_grammar.proofs.command.read_words.Goals as goal
 
 pub returns : goal.returns
 returns c =

@@ -1,7 +1,7 @@
 use Rattle.std.proofs.Common.{length, arith}
 use Rattle.std.proofs.lemmas.Slice.{between_to_end}
 use Rattle.smtp_grammar.proofs.ReadingLemmas.{taken_all, taken_end, taken_front, taken_line}
-use Rattle.smtp_grammar.proofs.data.DataReader.take.Goals as goal
+use Rattle.smtp_grammar.proofs.data.DataReader.take_lines.Goals as goal
 
 pub returns-in_default-clause-takes : goal.returns-in_default-clause-takes
 returns-in_default-clause-takes c =

@@ -1,6 +1,6 @@
 use Rattle.std.proofs.Common.{length, ◌-◌}
 use Rattle.smtp_grammar.proofs.ReadingLemmas.{HasTaken}
-use Rattle.smtp_grammar.proofs.data.DataReader.take.Given as goal
+use Rattle.smtp_grammar.proofs.data.DataReader.take_lines.Given as goal
 
 abbrev pub invariant-loop-used : goal.invariant-loop-used
 invariant-loop-used l = HasTaken l.initial.self l.self l.piece l.used
