@@ -4,6 +4,7 @@ pub mod WaitingLemmas
 pub mod FlagLemmas
 pub mod IndexLemmas
 pub mod MailboxLemmas
+pub mod NameLemmas
 pub mod Answering
 pub mod Next
 pub mod Readings

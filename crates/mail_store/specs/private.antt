@@ -1,6 +1,7 @@
 -- What private functions answer.
 pub mod Adding
 pub mod Store
+pub mod Names
 pub mod Replaying
 pub mod Accounts
 pub mod Writing

@@ -18,9 +18,10 @@ ghost use Rattle.mail_store.specs.Changing.{Changes, LeavesAll, IsRefusedAs, IsD
 ghost use Rattle.kept_mail.specs.Deliveries.{queued as queued_of, copy_for, inboxes_of, has_many_things, delivered, has_large_octets as has_large_octets_of};
 ghost use Rattle.mail_store.specs.declared.changing.StoreFault.TheVariants as faults;
 
+use crate::names::mailbox_number;
 use crate::queue::{close_next, open_next};
 use crate::storing::Store;
-use crate::writing::{Named, Progress, write, write_named, write_parts};
+use crate::writing::{Named, Progress, write, write_mailbox, write_named, write_parts};
 use address_grammar::{Address, write_address};
 use journal_records::{
     account_text, domain_key, domain_text, expunge_text, flags_text, mailbox_key, message_front,
@@ -222,7 +223,7 @@ impl Store {
             &mut self.contents,
             &mut self.inboxes,
         )?;
-        write_named(
+        write_mailbox(
             self.alloc,
             keeper,
             &mut self.mailboxes,
@@ -272,7 +273,7 @@ impl Store {
         ensures no_keeper { result ≢ Err faults.Keeper }
     {
         let key = mailbox_key(self.alloc, address)?;
-        if number_of(&self.mailboxes, key.as_slice()).is_some() {
+        if mailbox_number(&self.mailboxes, key.as_slice()).is_some() {
             return Err(StoreFault::Exists);
         }
         self.room_for_account(address.domain.as_slice())?;

@@ -7,9 +7,23 @@ ghost use Rattle.mail_store.specs.private.Replaying.{IsOutside};
 use crate::opening::OpenFault;
 use journal_records::{Beginning, Frame, beginning_of, frame_of};
 use mail_wire::Keeper;
+use std::alloc::{AllocError, Global};
+
+// The buffer has so many octets. Where it has fewer it is made anew, which takes less than to make it longer.
+fn set_len(alloc: Global, buffer: &mut Vec<u8>, len: usize) -> Result<(), AllocError>
+    ensures { OnOk result (length buffer.new.items ≡ len) }
+{
+    if len <= buffer.len() {
+        buffer.truncate(len);
+    } else {
+        *buffer = Vec::from_elem(alloc, 0, len)?;
+    }
+    Ok(())
+}
 
 /// Fills the buffer with the octets at a place.
 pub fn fill<J: Keeper>(
+    alloc: Global,
     keeper: &mut J,
     at: u64,
     len: usize,
@@ -22,19 +36,13 @@ pub fn fill<J: Keeper>(
     ensures cause { HasKeeperCause (J.tells keeper.old) (J.tells keeper.new) result OpenFault.Keeper }
     ensures outside { IfErr result IsOutside }
 {
-    buffer.clear();
-    buffer.resize(len, 0)?;
+    set_len(alloc, buffer, len)?;
     keeper.read_at(at, buffer)?;
     Ok(())
 }
 
 /// What stands at a place before the end.
-pub fn frame_at<J: Keeper>(
-    keeper: &mut J,
-    at: u64,
-    had: u64,
-    buffer: &mut Vec<u8>,
-) -> Result<Frame, OpenFault>
+pub fn frame_at<J: Keeper>(keeper: &mut J, at: u64, had: u64) -> Result<Frame, OpenFault>
     requires within { at ≤ had }
     requires had { IfSome (J.tells keeper.old).octets (λ octets. had ≡ length octets) }
     ensures frame { IfOk result (λ frame. IfSome (J.tells keeper.old).octets (λ octets. IsFrame frame (drop at octets))) }
@@ -47,12 +55,14 @@ pub fn frame_at<J: Keeper>(
     if left < 4 {
         return Ok(Frame::CutShort);
     }
-    fill(keeper, at, 4, buffer)?;
-    Ok(frame_of(buffer, left))
+    let mut front = [0; 4];
+    keeper.read_at(at, &mut front)?;
+    Ok(frame_of(&front, left))
 }
 
 /// What a keeper's first octets are.
 pub fn read_beginning<J: Keeper>(
+    alloc: Global,
     keeper: &mut J,
     had: u64,
     buffer: &mut Vec<u8>,
@@ -65,6 +75,6 @@ pub fn read_beginning<J: Keeper>(
     ensures outside { IfErr result IsOutside }
 {
     let len = had.min(8) as usize;
-    fill(keeper, 0, len, buffer)?;
+    fill(alloc, keeper, 0, len, buffer)?;
     Ok(beginning_of(buffer))
 }

@@ -7,6 +7,7 @@ mod changing;
 mod folders;
 mod frames;
 pub mod laws;
+mod names;
 mod opening;
 mod queue;
 mod storing;

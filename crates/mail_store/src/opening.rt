@@ -88,7 +88,7 @@ fn add_at<J: Keeper>(
     ensures same { (J.tells keeper.new).octets ≡ (J.tells keeper.old).octets }
     ensures cause { HasKeeperCause (J.tells keeper.old) (J.tells keeper.new) result OpenFault.Keeper }
 {
-    fill(keeper, at + 4, len, buffer)?;
+    fill(alloc, keeper, at + 4, len, buffer)?;
     match add_next(alloc, store, buffer) {
         Ok(()) => Ok(()),
         Err(fault) => match fault {
@@ -117,7 +117,7 @@ pub(crate) fn read_on<J: Keeper>(
 {
     loop {
         let at = store.end();
-        let len = match frame_at(keeper, at, had, buffer)? {
+        let len = match frame_at(keeper, at, had)? {
             Frame::CutShort => return Ok(()),
             Frame::Bad => return Err(OpenFault::BadJournal { at }),
             Frame::Whole(len) => len,
@@ -174,7 +174,7 @@ fn read_all<J: Keeper>(
     ensures cause { HasKeeperCause (J.tells keeper.old) (J.tells keeper.new) result OpenFault.Keeper }
 {
     let mut buffer = Vec::new(alloc);
-    match read_beginning(keeper, had, &mut buffer)? {
+    match read_beginning(alloc, keeper, had, &mut buffer)? {
         Beginning::Prefix => Ok(0),
         Beginning::Other => Err(OpenFault::BadJournal { at: 0 }),
         Beginning::Journal => replay(alloc, keeper, store, had, &mut buffer),

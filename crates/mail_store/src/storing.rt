@@ -10,6 +10,7 @@ ghost use Rattle.kept_mail.specs.Kept.{nothing, inbox_of, uid_next, listed, logg
 ghost use Rattle.kept_mail.specs.Records.{IsInOrder};
 ghost use Rattle.journal_records.specs.Stored.{IsStored};
 
+use crate::names::{Mailboxes, mailbox_number, put_mailbox};
 use crate::queue::{put_next, settle_open};
 use crate::writing::Progress;
 use address_grammar::Address;
@@ -48,7 +49,7 @@ pub struct Store {
     // the first folder of each other name of an account
     pub(crate) names: BTreeMap<Vec<u8>, u32>,
     // the first account of each mailbox
-    pub(crate) mailboxes: BTreeMap<Vec<u8>, u32>,
+    pub(crate) mailboxes: Mailboxes,
     // the first number of each domain
     pub(crate) locals: BTreeMap<Vec<u8>, u32>,
     // how many recipients the queue ever had
@@ -105,7 +106,7 @@ impl Store {
             previous: Vec::new(alloc),
             inboxes: Vec::new(alloc),
             names: BTreeMap::new(alloc),
-            mailboxes: BTreeMap::new(alloc),
+            mailboxes: Mailboxes::new(alloc),
             locals: BTreeMap::new(alloc),
             recipients: 0,
             open_entries: BTreeMap::new(alloc),
@@ -138,7 +139,7 @@ impl Store {
             &mut self.contents,
             &mut self.inboxes,
         )?;
-        put_first(
+        put_mailbox(
             self.alloc,
             &mut self.mailboxes,
             key.as_slice(),
@@ -365,7 +366,7 @@ impl Store {
         ensures known { IfOk result (λ found. IfSome found (λ account. account < length self.now.kept.accounts)) }
     {
         let key = mailbox_key(self.alloc, address)?;
-        Ok(number_of(&self.mailboxes, key.as_slice()))
+        Ok(mailbox_number(&self.mailboxes, key.as_slice()))
     }
 
     /// The account whose address the name is, and whose password this is. The first account of the mailbox counts alone.

@@ -3,9 +3,11 @@ ghost use Rattle.std.specs.Prelude.{◌≡◌, ◌+◌, List, ℕ, None, length,
 ghost use Rattle.std.specs.List.{flat_map};
 ghost use Rattle.mail_wire.specs.Keeping.{HasKeeperCause};
 ghost use Rattle.kept_mail.specs.private.Names.{PutsName, number_named};
+ghost use Rattle.mail_store.specs.private.Names.{number_hashed};
 ghost use Rattle.mail_store.specs.private.Writing.{Writes};
 
 use crate::changing::StoreFault;
+use crate::names::{Mailboxes, put_mailbox, take_mailbox};
 use kept_mail::{put_first, take_back};
 use mail_wire::{Failed, Keeper, Memory as OutOfMemory, Octets};
 use std::alloc::Global;
@@ -96,6 +98,30 @@ pub fn write_named<J: Keeper>(
         Ok(()) => Ok(()),
         Err(fault) => {
             take_back(numbers, named.name.as_slice());
+            Err(fault)
+        }
+    }
+}
+
+/// Puts the number at the name of a mailbox that has none, and the text last in the keeper. Where that fails the name has none again.
+pub fn write_mailbox<J: Keeper>(
+    alloc: Global,
+    keeper: &mut J,
+    numbers: &mut Mailboxes,
+    named: &Named,
+    progress: &mut Progress,
+) -> Result<(), StoreFault>
+    requires { number_hashed numbers.old named.now.name ≡ None }
+    ensures writes { Writes progress.old progress.new (J.tells keeper.old).octets (J.tells keeper.new).octets result named.now.text }
+    ensures ok { OnOk result (PutsName (number_hashed numbers.old) (number_hashed numbers.new) named.now.name named.now.number) }
+    ensures err { OnErr result ((q : List ℕ) → number_hashed numbers.new q ≡ number_hashed numbers.old q) }
+    ensures cause { HasKeeperCause (J.tells keeper.old) (J.tells keeper.new) result StoreFault.Keeper }
+{
+    put_mailbox(alloc, numbers, named.name.as_slice(), named.number)?;
+    match write(keeper, named.text.as_slice(), progress) {
+        Ok(()) => Ok(()),
+        Err(fault) => {
+            take_mailbox(numbers, named.name.as_slice());
             Err(fault)
         }
     }

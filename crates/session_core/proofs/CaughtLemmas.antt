@@ -1,22 +1,27 @@
 -- A desk that catches up, or is opened anew.
-use Rattle.std.proofs.Common.{◌≡◌, ℕ, List, [], ◌∷◌, ◌++◌, Option, Some, Result, Ok, Err, ap, sym, subst, ◌∙◌, inl}
+use Rattle.std.proofs.Common.{◌≡◌, ℕ, List, [], ◌∷◌, ◌++◌, false, Option, Some, Result, Ok, Err, refl, ap, sym, subst, ◌∙◌, inl, inr}
 use Rattle.std.specs.Prelude.{IfOk, IfSome, OnOk, codes, is_err, slice_index_or}
+use Rattle.std.proofs.lemmas.List.Elements.{All-nil}
 use Rattle.std.proofs.lemmas.Option.{IfSome_then}
 use Rattle.journal_records.specs.Addresses.{IsDomainText}
 use Rattle.journal_records.specs.declared.records.Record.{Record}
 use Rattle.journal_records.specs.declared.records.Record.TheVariants as records
-use Rattle.kept_mail.specs.Kept.{Kept, after_all, after_record, name_of}
+use Rattle.journal_records.specs.Grammar.{IsDate}
+use Rattle.journal_records.specs.Stored.{IsStored}
+use Rattle.kept_mail.specs.Kept.{Kept, after_all, after_record, name_of, nothing}
 use Rattle.kept_mail.specs.Records.{AreRecords, IsRecord}
-use Rattle.mail_store.specs.Answers.{OpensTo}
+use Rattle.kept_mail.specs.declared.kept.Message.{Message}
+use Rattle.mail_store.specs.Answers.{IsFold, OpensTo}
 use Rattle.mail_store.specs.Catching.{CatchesUp, ReadsOn}
 use Rattle.mail_store.specs.StoreState.{StoreState, AreStored}
 use Rattle.mail_store.specs.declared.opening.OpenFault.{OpenFault}
 use Rattle.session_core.specs.Desks.{AreLimits, HasFirst, IsOpen, IsStoreName, WorksWithin}
+use Rattle.surrogate_cache.specs.declared.cache.Cache.{Cache}
 use Rattle.session_core.specs.declared.desk.Desk.{Desk}
 use Rattle.session_core.specs.declared.desk.Limits.{Limits}
 use Rattle.session_core.proofs.DeskLemmas.{AreStored-after}
 
--- ---- the desk is open again
+-- ---- the desk is open, and open again
 
 first_domain : (domains : List (List ℕ)) (name : List ℕ) → IsDomainText name → IsStoreName (slice_index_or domains 0 (codes "localhost"))
     → IsStoreName (slice_index_or (domains ++ name ∷ []) 0 (codes "localhost"))
@@ -36,6 +41,19 @@ named_after kept (records.Settle entry index) is named = named
 named_all : (kept : Kept) (all : List Record) → AreRecords kept all → IsStoreName (name_of kept) → IsStoreName (name_of (after_all kept all))
 named_all kept [] are named = named
 named_all kept (one ∷ others) are named = named_all (after_record kept one) others are.1 (named_after kept one are.0 named)
+
+-- a store that was opened, with a cache, within the limits that it was opened with
+pub IsOpen-fold : (limits : Limits) (store : StoreState) (cache : Cache) → AreLimits limits → IsFold store.kept → store.message_max ≡ limits.message_max → store.failed ≡ false
+    → IsOpen (record { store = store; cache = cache; limits = limits })
+IsOpen-fold limits store cache are fold agrees works = record {
+  limits = are;
+  agrees = agrees;
+  works = works;
+  named = subst (λ (kept : Kept). IsStoreName (name_of kept)) (sym fold.kept_is) (named_all nothing fold.all fold.records (inr refl));
+  stored = subst (λ (kept : Kept). AreStored kept.messages) (sym fold.kept_is)
+      (AreStored-after nothing fold.all fold.records (record { each = All-nil (λ (message : Message). IsStored message.octets); dated = All-nil (λ (message : Message). IsDate message.date) }));
+  cached = tt;
+}
 
 pub open_again : {T E : Type 0} (result : Result T E) (desk : Desk) (store : StoreState) (told : Option (List ℕ)) → ReadsOn told desk.store store → store.failed ≡ is_err result
     → OnOk result (WorksWithin desk.limits desk → IsOpen (record { store = store; cache = desk.cache; limits = desk.limits }))

@@ -4,6 +4,7 @@ use Rattle.kept_mail.specs.declared.limits.TheConstants.{MESSAGE_MAX}
 use Rattle.mail_store.specs.declared.storing.Store.TheInside.{Inside}
 use Rattle.kept_mail.specs.Kept.{Kept}
 use Rattle.kept_mail.specs.private.Names.{number_named}
+use Rattle.mail_store.specs.private.Names.{number_hashed}
 use Rattle.mail_store.specs.StoreState.{StoreState, Indexes, AreIndexes}
 
 abbrev pub kept_of : Inside → Kept
@@ -21,7 +22,7 @@ indexes_of a = record {
   previous = a.previous.items;
   inboxes = a.inboxes.items;
   names = number_named a.names;
-  mailboxes = number_named a.mailboxes;
+  mailboxes = number_hashed a.mailboxes;
   locals = number_named a.locals;
   recipients = a.recipients;
   open_entries = a.open_entries.entries;

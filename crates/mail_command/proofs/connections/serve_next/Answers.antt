@@ -1,7 +1,9 @@
-use Rattle.std.proofs.Common.{rules}
+use Rattle.std.proofs.Common.{rules, refl}
 use Rattle.session_core.specs.declared.desk.TheConstants.{LIMITS}
 use Rattle.mail_command.specs.Protocols.{protocol_for}
 use Rattle.mail_command.proofs.ConnectionLemmas.{goes_on, not_broken, served_next, still_works}
+use Rattle.mail_command.proofs.SessionLemmas.{served_cause}
+use Rattle.mail_command.specs.Running.{status_of_served}
 use Rattle.mail_command.proofs.connections.serve_next.Goals as goal
 
 pub returns-in-KeeperFault-clause-serves : goal.returns-in-KeeperFault-clause-serves
@@ -45,3 +47,17 @@ pub returns-in_default-clause-kept : goal.returns-in_default-clause-kept
 returns-in_default-clause-kept g c =
     still_works c.new-outside.result c.serve_one-served.new.outside LIMITS c.serve_one-served.result c.into_parts-desk.result.0 (rw c.new-outside.ensures.desk c.in_ok-desk.ensures.«open»)
     (rw c.new-outside.ensures.desk c.in_ok-desk.ensures.limits) c.serve_one-served.ensures.keeps (not_broken c.serve_one-served.result c.in_default.not-KeeperFault) c.into_parts-desk.ensures.desk
+
+pub returns-in-KeeperFault-clause-session_cause : goal.returns-in-KeeperFault-clause-session_cause
+returns-in-KeeperFault-clause-session_cause g c =
+    served_cause c.new-outside.result c.serve_one-served.new.outside (g.C.Clock.tells c.args.clock.now) (g.J.Keeper.tells c.args.keeper.now) (g.J.Keeper.tells c.next_desk.new.keeper) _
+    (g.W.Wire.tells c.args.wire.now) _ c.in_ok-desk.desk c.serve_one-served.result (status_of_served c.serve_one-served.result)
+    (record { clock = c.new-outside.ensures.clock; keeper = c.new-outside.ensures.keeper; wire = c.new-outside.ensures.wire })
+    c.in_ok-desk.ensures.cause c.serve_one-served.ensures.keeps (search rules) (search rules) refl
+
+pub returns-in_default-clause-session_cause : goal.returns-in_default-clause-session_cause
+returns-in_default-clause-session_cause g c =
+    served_cause c.new-outside.result c.serve_one-served.new.outside (g.C.Clock.tells c.args.clock.now) (g.J.Keeper.tells c.args.keeper.now) (g.J.Keeper.tells c.next_desk.new.keeper) _
+    (g.W.Wire.tells c.args.wire.now) _ c.in_ok-desk.desk c.serve_one-served.result (status_of_served c.serve_one-served.result)
+    (record { clock = c.new-outside.ensures.clock; keeper = c.new-outside.ensures.keeper; wire = c.new-outside.ensures.wire })
+    c.in_ok-desk.ensures.cause c.serve_one-served.ensures.keeps (search rules) (search rules) refl

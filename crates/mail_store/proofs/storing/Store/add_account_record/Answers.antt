@@ -2,7 +2,8 @@ use Rattle.std.proofs.Common.{◌≡◌, ◌<◌, ℕ, List, length, subst, ◌�
 use Rattle.journal_records.specs.Addresses.{mailbox_key}
 use Rattle.kept_mail.specs.declared.limits.TheConstants.{THINGS_MAX}
 use Rattle.mail_store.specs.private.Adding.{HasKey}
-use Rattle.kept_mail.specs.private.Names.{number_named, PutsName}
+use Rattle.kept_mail.specs.private.Names.{PutsName}
+use Rattle.mail_store.specs.private.Names.{number_hashed}
 use Rattle.mail_store.specs.private.Store.{kept_of, indexes_of}
 use Rattle.mail_store.proofs.IndexLemmas.{AreIndexes-account}
 use Rattle.mail_store.proofs.storing.Store.add_account_record.Goals as goal
@@ -13,9 +14,9 @@ invariant_of-self-2 c =
     let more : length c.self.inside.accounts.items < THINGS_MAX = keyed.in_order.2 in
     let room : length c.self.inside.folders.items < THINGS_MAX = keyed.in_order.3 in
     let account : c.len-account.result ≡ length c.self.inside.accounts.items = omega (arith, c.len-account.ensures) in
-    let after = number_named c.put_first.new.numbers in
-    let puts : PutsName (number_named c.self.inside.mailboxes) after (mailbox_key keyed.own) (length c.self.inside.accounts.items) =
-    subst (λ (key : List ℕ). PutsName (number_named c.self.inside.mailboxes) after key (length c.self.inside.accounts.items)) (c.as_slice-3.ensures ∙ keyed.key_is) (subst (PutsName (number_named c.self.inside.mailboxes) after c.as_slice-3.result.now) account c.in_ok-put_first.ensures.ok) in
+    let after = number_hashed c.put_mailbox.new.numbers in
+    let puts : PutsName (number_hashed c.self.inside.mailboxes) after (mailbox_key keyed.own) (length c.self.inside.accounts.items) =
+    subst (λ (key : List ℕ). PutsName (number_hashed c.self.inside.mailboxes) after key (length c.self.inside.accounts.items)) (c.as_slice-3.ensures ∙ keyed.key_is) (subst (PutsName (number_hashed c.self.inside.mailboxes) after c.as_slice-3.result.now) account c.in_ok-put_mailbox.ensures.ok) in
     record {
       indexes = rw (
         c.put_account.ensures.accounts,

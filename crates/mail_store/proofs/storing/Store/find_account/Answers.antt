@@ -8,11 +8,11 @@ use Rattle.mail_store.proofs.storing.Store.find_account.Goals as goal
 
 pub returns-clause-found : goal.returns-clause-found
 returns-clause-found c =
-    subst (λ (s : StoreState). WithPaths (λ path_of. c.number_of.result ≡ find_account path_of s.kept c.args.address.now)) c.self.view_is
-    (found_is (kept_of c.self.inside) (indexes_of c.self.inside) c.self.invariant.indexes c.args.address.now c.requires c.as_slice.result.now c.number_of.result
-    (c.as_slice.ensures ∙ c.in_ok-key.ensures) c.number_of.ensures)
+    subst (λ (s : StoreState). WithPaths (λ path_of. c.mailbox_number.result ≡ find_account path_of s.kept c.args.address.now)) c.self.view_is
+    (found_is (kept_of c.self.inside) (indexes_of c.self.inside) c.self.invariant.indexes c.args.address.now c.requires c.as_slice.result.now c.mailbox_number.result
+    (c.as_slice.ensures ∙ c.in_ok-key.ensures) c.mailbox_number.ensures)
 
 pub returns-clause-known : goal.returns-clause-known
 returns-clause-known c =
-    subst (λ (s : StoreState). IfSome c.number_of.result (λ account. account < length s.kept.accounts)) c.self.view_is
-    (found_known (kept_of c.self.inside) (indexes_of c.self.inside) c.self.invariant.indexes c.as_slice.result.now c.number_of.result c.number_of.ensures)
+    subst (λ (s : StoreState). IfSome c.mailbox_number.result (λ account. account < length s.kept.accounts)) c.self.view_is
+    (found_known (kept_of c.self.inside) (indexes_of c.self.inside) c.self.invariant.indexes c.as_slice.result.now c.mailbox_number.result c.mailbox_number.ensures)
