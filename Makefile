@@ -1,4 +1,4 @@
-# Everything that one does with this repository. To build and prove it needs the command `rt` of rattle-kit-13f on the PATH.
+# Everything that one does with this repository. To build and prove it needs the command `rt` of rattle-kit-13b or 13f on the PATH.
 
 PROGRAM := bin/dervlask
 PAGE := man/dervlask.1
@@ -6,7 +6,7 @@ PREFIX := /usr/local
 SOURCES := crates.txt HANDLES $(shell find crates -name out -prune -o -type f \( -name '*.rt' -o -name '*.antt' \) -print)
 
 define needs_rt
-@command -v rt > /dev/null || { echo 'the command rt of rattle-kit-13f is not on the PATH'; exit 1; }
+@command -v rt > /dev/null || { echo 'the command rt of rattle-kit-13b or 13f is not on the PATH'; exit 1; }
 endef
 
 .PHONY: help run build test install uninstall bench figures
