@@ -65,7 +65,11 @@ where
         }
     };
     let mut clock = SystemClock::new(rt);
-    let (served, kept) = serve_next(rt.alloc(), role, kept, &mut wire, keeper, &mut clock)?;
+    let (served, kept) = match serve_next(rt.alloc(), role, kept, &mut wire, keeper, &mut clock) {
+        Ok(came) => came,
+        // Opened anew, a desk may do with less, and what was read of the journal is read once more.
+        Err(_) => serve_next(rt.alloc(), role, None, &mut wire, keeper, &mut clock)?,
+    };
     let served = finished(served, &mut wire);
     let _told = tell_served(rt, number, served, &wire, keeper);
     Ok(kept)

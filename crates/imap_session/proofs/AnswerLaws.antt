@@ -1,7 +1,8 @@
 -- Cases of all commands: those that are only answered, and those that may change the store.
-use Rattle.std.proofs.Common.{◌≡◌, ℕ, Bool, true, false, List, [], ◌∷◌, ◌++◌, Option, None, Some, refl, sym, ap, ◌∙◌, codes, if◌then◌else◌}
+use Rattle.std.proofs.Common.{◌≡◌, ℕ, Bool, true, false, List, [], ◌∷◌, ◌++◌, map, Option, None, Some, refl, sym, ap, ◌∙◌, append-nil, codes, if◌then◌else◌}
 use Rattle.std.specs.Prelude.{not, ◌&&◌}
-use Rattle.std.specs.List.{flat_map}
+use Rattle.std.specs.List.{flat_map, list_any}
+use Rattle.std.proofs.lemmas.Bool.{cond-false, cond-true, cond_both}
 use Rattle.std.proofs.lemmas.List.{map-append}
 use Rattle.journal_records.specs.Grammar.{kept_name}
 use Rattle.journal_records.specs.declared.records.Record.{Record}
@@ -12,18 +13,22 @@ use Rattle.mail_store.specs.Changing.{append_refusal, folder_refusal}
 use Rattle.mail_store.specs.StoreState.{StoreState}
 use Rattle.mail_store.specs.declared.changing.StoreFault.{StoreFault}
 use Rattle.mail_store.specs.declared.changing.StoreFault.TheVariants as refusal
+use Rattle.surrogate_cache.specs.Caching.{Asked}
 use Rattle.surrogate_cache.specs.Served.{Mode, legacy, enabled, is_enabled}
-use Rattle.session_core.specs.Acts.{Act, changes, changes_in, gives}
+use Rattle.session_core.specs.Acts.{Act, asked_in, asking, changes, changes_in, gives}
 use Rattle.session_core.specs.Meanings.{Meanings}
-use Rattle.session_core.proofs.DoneLemmas.{changes_in-acts, changes_in-append}
+use Rattle.session_core.proofs.DoneLemmas.{asked_in-acts, asked_in-append, asked_in-asking, changes_in-acts, changes_in-append, changes_in-asking}
 use Rattle.imap_grammar.specs.declared.command.Command.{Command}
 use Rattle.imap_grammar.specs.declared.command.Command.TheVariants as command
+use Rattle.imap_grammar.specs.declared.command.FetchItem.{FetchItem}
 use Rattle.imap_grammar.specs.declared.command.Set.{Set}
 use Rattle.imap_grammar.specs.declared.command.StatusItem.{StatusItem}
 use Rattle.imap_grammar.specs.declared.command.StoreOp.{StoreOp}
+use Rattle.imap_mailboxes.specs.Flags.{stored_flags}
 use Rattle.imap_mailboxes.specs.Sets.{is_refused}
-use Rattle.imap_session.specs.Answering.{adds_to_store, changes_store, EndsTagged}
-use Rattle.imap_session.specs.Machine.{State, Step, Numbered, answers, append_in, append_unless, appended, asks_utf8, authenticated, authenticated_step, chosen, closing_up, common_step, completed, create_by, create_unless, date_or, deleted_ids, done, ended, ends_with, enable_step, exists_lines, expunge_step, fetch_one, fetch_reply, folder_lines, folder_named, for_each, list_lines, login_by, mailbox_step, names_folder, no_such_message, not_authenticated, not_authenticated_step, opened_in, opened_words, refused_as_read_only, reply, says, select_by, selected, selected_step, status_by, status_line, step, store_one, store_step, tagged, taken_out, untagged, with_uid}
+use Rattle.imap_session.specs.Answering.{adds_to_store, asked_as, changes_store, is_fetch, EndsTagged}
+use Rattle.imap_session.specs.Items.{asked_of, is_of_message}
+use Rattle.imap_session.specs.Machine.{Numbered, State, Step, answers, append_in, append_unless, appended, asks_utf8, authenticated, authenticated_step, becomes_seen, chosen, closing_up, common_step, completed, create_by, create_unless, date_or, deleted_ids, done, enable_step, ended, ends_with, exists_lines, expunge_step, fetch_one, fetch_reply, fetch_step, fetch_told, flags_change, flags_reply, folder_lines, folder_named, for_each, list_lines, login_by, mailbox_step, mode_of, names_folder, no_such_message, not_authenticated, not_authenticated_step, opened_in, opened_words, refused_as_read_only, reply, says, seen, select_by, selected, selected_step, status_by, status_line, step, store_one, store_step, tagged, taken_out, untagged, with_flags, with_uid}
 use Rattle.imap_session.specs.Replies.{ReplyPart}
 
 -- ---- commands that are only answered
@@ -229,7 +234,8 @@ examined_all meanings now tag mode account folder store (command.Status written 
 examined_all meanings now tag mode account folder store (command.Append written flags date in_utf8 octets) other is = absurd cc
 examined_all meanings now tag mode account folder store (command.Fetch by_uid set items) other is =
     each_step_quiet tag (selected mode account folder true) by_uid set (listed store.kept folder) (fetch_one meanings mode store by_uid true items)
-    (λ one. reply_quiet (fetch_reply meanings mode store one.number one.listed (with_uid by_uid items)))
+    (λ one. changes_in-asking (asked_of mode store items one.listed.id) (reply (fetch_reply meanings mode store one.number one.listed (with_uid by_uid items)))
+    ∙ reply_quiet (fetch_reply meanings mode store one.number one.listed (with_uid by_uid items)))
 examined_all meanings now tag mode account folder store (command.Store by_uid set op silent flags) other is = refl
 examined_all meanings now tag mode account folder store command.Expunge other is = refl
 examined_all meanings now tag mode account folder store command.Close other is = refl
@@ -241,6 +247,139 @@ unfolding step
 examined_quiet meanings now tag mode account folder store said other =
     selected_all IsQuiet tag (answers_quiet tag) meanings now mode account folder true store said (examined_all meanings now tag mode account folder store said other)
 
+-- ---- commands that may change the store
+
+reply_unasked : (parts : List ReplyPart) → asked_in (reply parts) ≡ []
+reply_unasked parts = asked_in-acts [] parts
+
+taken_unasked : (ids : List ℕ) → asked_in (taken_out ids) ≡ []
+taken_unasked [] = refl
+taken_unasked (id ∷ ids) = refl
+
+closed_unasked : (read_only : Bool) (ids : List ℕ) → asked_in (if read_only then [] else taken_out ids) ≡ []
+closed_unasked true ids = refl
+closed_unasked false ids = taken_unasked ids
+
+-- what is asked for by acts for each of many
+asked_each : {T : Type 0} (act : T → List (Act ReplyPart)) (asked : T → List Asked) → ((one : T) → asked_in (act one) ≡ asked one) → (all : List T) → asked_in (flat_map act all) ≡ flat_map asked all
+asked_each act asked is [] = refl
+asked_each act asked is (one ∷ others) = asked_in-append (act one) (flat_map act others) ∙ rw (is one, asked_each act asked is others) refl
+
+each_unasked : {T : Type 0} (act : T → List (Act ReplyPart)) → ((one : T) → asked_in (act one) ≡ []) → (all : List T) → asked_in (flat_map act all) ≡ []
+each_unasked act unasked [] = refl
+each_unasked act unasked (one ∷ others) = asked_in-append (act one) (flat_map act others) ∙ rw (unasked one, each_unasked act unasked others) refl
+
+-- what holds of a step that asks the cache for nothing, and ends with the line of its tag, holds of these
+module _ (P : Step → Type 0) (tag : List ℕ) (ended_by : (words : List ℕ) (acts : List (Act ReplyPart)) (state : State) → asked_in acts ≡ [] → P (ends_with tag words acts state)) where
+  answers_by : (words : List ℕ) (parts : List ReplyPart) (state : State) → P (answers tag words parts state)
+  answers_by words parts state = ended_by words (reply parts) state (reply_unasked parts)
+
+  either_by : (b : Bool) (x y : Step) → P x → P y → P (if b then x else y)
+  either_by true x y one two = one
+  either_by false x y one two = two
+
+  each_by : (state : State) (by_uid : Bool) (set : Set) (kept : List Listed) (act : Numbered → List (Act ReplyPart)) → asked_in (flat_map act (chosen by_uid set kept)) ≡ []
+      → P (for_each tag state by_uid set kept act)
+  each_by state by_uid set kept act unasked =
+      either_by (is_refused by_uid set kept) (no_such_message tag state) (ends_with tag done (flat_map act (chosen by_uid set kept)) state)
+      (answers_by (codes "BAD no such message") [] state) (ended_by done (flat_map act (chosen by_uid set kept)) state unasked)
+
+  created_by : (state : State) (account : ℕ) (kept : List ℕ) (refused : Option StoreFault) → P (create_unless tag state account kept refused)
+  created_by state account kept None = ended_by done (changes (records.Folder account kept ∷ []) ∷ []) state refl
+  created_by state account kept (Some refusal.Exists) = answers_by (codes "NO exists") [] state
+  created_by state account kept (Some refusal.NoSuch) = answers_by (codes "NO too large") [] state
+  created_by state account kept (Some refusal.TooLarge) = answers_by (codes "NO too large") [] state
+  created_by state account kept (Some refusal.Keeper) = answers_by (codes "NO too large") [] state
+  created_by state account kept (Some refusal.Memory) = answers_by (codes "NO too large") [] state
+
+  create_all : (state : State) (account : ℕ) (store : StoreState) (found : Option (List ℕ)) → P (create_by tag state account store found)
+  create_all state account store None = answers_by (codes "NO bad name") [] state
+  create_all state account store (Some given) =
+      let kept = kept_name given in
+      let refused = folder_refusal store.kept account given in
+      either_by (names_folder kept) (create_unless tag state account kept refused) (says tag (codes "NO bad name") state) (created_by state account kept refused)
+      (answers_by (codes "NO bad name") [] state)
+
+  put_by : (state : State) (opened : Option ℕ) (kept : Kept) (folder : ℕ) (made : Record) (refused : Option StoreFault) → P (append_unless tag state opened kept folder made refused)
+  put_by state opened kept folder made None =
+      let told = exists_lines opened (after_record kept made) folder in ended_by done (changes (made ∷ []) ∷ reply told) state (reply_unasked told)
+  put_by state opened kept folder made (Some other) = answers_by (codes "NO too large") [] state
+
+  append_all : (meanings : Meanings) (state : State) (opened : Option ℕ) (mode : Mode) (store : StoreState) (flags : ℕ) (date : List ℕ) (in_utf8 : Bool) (octets : List ℕ) (found : Option ℕ)
+      → P (append_in meanings tag state opened mode store flags date in_utf8 octets found)
+  append_all meanings state opened mode store flags date in_utf8 octets None = answers_by (codes "NO no such folder") [] state
+  append_all meanings state opened mode store flags date in_utf8 octets (Some folder) =
+      let whole = completed octets in
+      let unless : Option StoreFault → Step = append_unless tag state opened store.kept folder (appended folder flags date whole) in
+      let without : Step = says tag (codes "NO not a message") state in
+      either_by (in_utf8 && not (is_enabled mode)) (says tag (codes "NO not enabled") state) (if meanings.has_tree whole then unless (append_refusal store whole) else without)
+      (answers_by (codes "NO not enabled") [] state)
+      (either_by (meanings.has_tree whole) (unless (append_refusal store whole)) without (put_by state opened store.kept folder (appended folder flags date whole) (append_refusal store whole)) (answers_by (codes "NO not a message") [] state))
+
+  added_all : (meanings : Meanings) (now : List ℕ) (state : State) (mode : Mode) (account : ℕ) (store : StoreState) (said : Command) → adds_to_store said ≡ true
+      → P (mailbox_step meanings now tag state mode account store said)
+  added_all meanings now state mode account store command.Capability is = absurd cc
+  added_all meanings now state mode account store command.Noop is = absurd cc
+  added_all meanings now state mode account store command.Check is = absurd cc
+  added_all meanings now state mode account store command.Logout is = absurd cc
+  added_all meanings now state mode account store (command.Login user password) is = absurd cc
+  added_all meanings now state mode account store (command.Enable words) is = absurd cc
+  added_all meanings now state mode account store (command.Select written) is = absurd cc
+  added_all meanings now state mode account store (command.Examine written) is = absurd cc
+  added_all meanings now state mode account store (command.Create written) is = create_all state account store (meanings.name_of (is_enabled mode) written)
+  added_all meanings now state mode account store (command.List reference pattern) is = absurd cc
+  added_all meanings now state mode account store (command.Status written items) is = absurd cc
+  added_all meanings now state mode account store (command.Append written flags date in_utf8 octets) is =
+      append_all meanings state (opened_in state) mode store flags (date_or now date) in_utf8 octets (folder_named meanings mode store account written)
+  added_all meanings now state mode account store (command.Fetch by_uid set items) is = absurd cc
+  added_all meanings now state mode account store (command.Store by_uid set op silent flags) is = absurd cc
+  added_all meanings now state mode account store command.Expunge is = absurd cc
+  added_all meanings now state mode account store command.Close is = absurd cc
+  added_all meanings now state mode account store command.NotHere is = absurd cc
+
+  stored_unasked : (by_uid silent : Bool) (op : StoreOp) (named : ℕ) (one : Numbered) → asked_in (store_one by_uid silent op named one) ≡ []
+  stored_unasked by_uid silent op named one = reply_unasked (flags_reply by_uid silent one (stored_flags op one.listed.flags named))
+
+  store_all : (state : State) (folder : ℕ) (read_only : Bool) (store : StoreState) (by_uid : Bool) (set : Set) (op : StoreOp) (silent : Bool) (named : ℕ)
+      → P (store_step tag state folder read_only store by_uid set op silent named)
+  store_all state folder read_only store by_uid set op silent named =
+      let act = store_one by_uid silent op named in
+      let messages = listed store.kept folder in
+      either_by read_only (refused_as_read_only tag state) (for_each tag state by_uid set messages act) (answers_by (codes "NO read only") [] state)
+      (each_by state by_uid set messages act (each_unasked act (stored_unasked by_uid silent op named) (chosen by_uid set messages)))
+
+  expunge_all : (state : State) (read_only : Bool) (messages : List Listed) → P (expunge_step tag state read_only messages)
+  expunge_all state read_only messages =
+      let gone = taken_out (deleted_ids messages) in
+      let told = closing_up 1 messages in
+      either_by read_only (refused_as_read_only tag state) (ends_with tag done (gone ++ reply told) state) (answers_by (codes "NO read only") [] state)
+      (ended_by done (gone ++ reply told) state (asked_in-append gone (reply told) ∙ rw (taken_unasked (deleted_ids messages), reply_unasked told) refl))
+
+  changed_all : (meanings : Meanings) (now : List ℕ) (mode : Mode) (account folder : ℕ) (read_only : Bool) (store : StoreState) (said : Command) → changes_store said ≡ true
+      → ((by_uid : Bool) (set : Set) (items : List FetchItem) → said ≡ command.Fetch by_uid set items → P (fetch_step meanings tag (selected mode account folder read_only) mode folder read_only store by_uid set items))
+      → P (selected_step meanings now tag mode account folder read_only store said)
+  changed_all meanings now mode account folder read_only store command.Capability is fetched = absurd cc
+  changed_all meanings now mode account folder read_only store command.Noop is fetched = absurd cc
+  changed_all meanings now mode account folder read_only store command.Check is fetched = absurd cc
+  changed_all meanings now mode account folder read_only store command.Logout is fetched = absurd cc
+  changed_all meanings now mode account folder read_only store (command.Login user password) is fetched = absurd cc
+  changed_all meanings now mode account folder read_only store (command.Enable words) is fetched = absurd cc
+  changed_all meanings now mode account folder read_only store (command.Select written) is fetched = absurd cc
+  changed_all meanings now mode account folder read_only store (command.Examine written) is fetched = absurd cc
+  changed_all meanings now mode account folder read_only store (command.Create written) is fetched =
+      added_all meanings now (selected mode account folder read_only) mode account store (command.Create written) refl
+  changed_all meanings now mode account folder read_only store (command.List reference pattern) is fetched = absurd cc
+  changed_all meanings now mode account folder read_only store (command.Status written items) is fetched = absurd cc
+  changed_all meanings now mode account folder read_only store (command.Append written flags date in_utf8 octets) is fetched =
+      added_all meanings now (selected mode account folder read_only) mode account store (command.Append written flags date in_utf8 octets) refl
+  changed_all meanings now mode account folder read_only store (command.Fetch by_uid set items) is fetched = fetched by_uid set items refl
+  changed_all meanings now mode account folder read_only store (command.Store by_uid set op silent flags) is fetched =
+      store_all (selected mode account folder read_only) folder read_only store by_uid set op silent flags
+  changed_all meanings now mode account folder read_only store command.Expunge is fetched = expunge_all (selected mode account folder read_only) read_only (listed store.kept folder)
+  changed_all meanings now mode account folder read_only store command.Close is fetched =
+      ended_by done (if read_only then [] else taken_out (deleted_ids (listed store.kept folder))) (authenticated mode account) (closed_unasked read_only (deleted_ids (listed store.kept folder)))
+  changed_all meanings now mode account folder read_only store command.NotHere is fetched = absurd cc
+
 -- ---- the line that ends the replies
 
 ends_tagged : (tag words : List ℕ) (acts : List (Act ReplyPart)) (state : State) → EndsTagged tag (ends_with tag words acts state)
@@ -249,109 +388,114 @@ ends_tagged tag words acts state = (acts, words, refl)
 answers_tagged : (tag words : List ℕ) (parts : List ReplyPart) (state : State) → EndsTagged tag (answers tag words parts state)
 answers_tagged tag words parts state = ends_tagged tag words (reply parts) state
 
-tagged_if : (tag : List ℕ) (b : Bool) (x y : Step) → EndsTagged tag x → EndsTagged tag y → EndsTagged tag (if b then x else y)
-tagged_if tag true x y one two = one
-tagged_if tag false x y one two = two
+-- whatever is asked for
+any_tagged : (tag words : List ℕ) (acts : List (Act ReplyPart)) (state : State) → asked_in acts ≡ [] → EndsTagged tag (ends_with tag words acts state)
+any_tagged tag words acts state unasked = ends_tagged tag words acts state
 
-each_tagged : (tag : List ℕ) (state : State) (by_uid : Bool) (set : Set) (kept : List Listed) (act : Numbered → List (Act ReplyPart)) → EndsTagged tag (for_each tag state by_uid set kept act)
-each_tagged tag state by_uid set kept act =
-    tagged_if tag (is_refused by_uid set kept) (no_such_message tag state) (ends_with tag done (flat_map act (chosen by_uid set kept)) state)
-    (answers_tagged tag (codes "BAD no such message") [] state) (ends_tagged tag done (flat_map act (chosen by_uid set kept)) state)
-
-created_tagged : (tag : List ℕ) (state : State) (account : ℕ) (kept : List ℕ) (refused : Option StoreFault) → EndsTagged tag (create_unless tag state account kept refused)
-created_tagged tag state account kept None = ends_tagged tag done (changes (records.Folder account kept ∷ []) ∷ []) state
-created_tagged tag state account kept (Some refusal.Exists) = answers_tagged tag (codes "NO exists") [] state
-created_tagged tag state account kept (Some refusal.NoSuch) = answers_tagged tag (codes "NO too large") [] state
-created_tagged tag state account kept (Some refusal.TooLarge) = answers_tagged tag (codes "NO too large") [] state
-created_tagged tag state account kept (Some refusal.Keeper) = answers_tagged tag (codes "NO too large") [] state
-created_tagged tag state account kept (Some refusal.Memory) = answers_tagged tag (codes "NO too large") [] state
-
-create_tagged : (tag : List ℕ) (state : State) (account : ℕ) (store : StoreState) (found : Option (List ℕ)) → EndsTagged tag (create_by tag state account store found)
-create_tagged tag state account store None = answers_tagged tag (codes "NO bad name") [] state
-create_tagged tag state account store (Some given) =
-    let kept = kept_name given in
-    let refused = folder_refusal store.kept account given in
-    tagged_if tag (names_folder kept) (create_unless tag state account kept refused) (says tag (codes "NO bad name") state) (created_tagged tag state account kept refused)
-    (answers_tagged tag (codes "NO bad name") [] state)
-
-put_tagged : (tag : List ℕ) (state : State) (opened : Option ℕ) (kept : Kept) (folder : ℕ) (made : Record) (refused : Option StoreFault) → EndsTagged tag (append_unless tag state opened kept folder made refused)
-put_tagged tag state opened kept folder made None = ends_tagged tag done (changes (made ∷ []) ∷ reply (exists_lines opened (after_record kept made) folder)) state
-put_tagged tag state opened kept folder made (Some other) = answers_tagged tag (codes "NO too large") [] state
-
-append_tagged : (meanings : Meanings) (tag : List ℕ) (state : State) (opened : Option ℕ) (mode : Mode) (store : StoreState) (flags : ℕ) (date : List ℕ) (in_utf8 : Bool) (octets : List ℕ) (found : Option ℕ)
-    → EndsTagged tag (append_in meanings tag state opened mode store flags date in_utf8 octets found)
-append_tagged meanings tag state opened mode store flags date in_utf8 octets None = answers_tagged tag (codes "NO no such folder") [] state
-append_tagged meanings tag state opened mode store flags date in_utf8 octets (Some folder) =
-    let whole = completed octets in
-    let unless : Option StoreFault → Step = append_unless tag state opened store.kept folder (appended folder flags date whole) in
-    let without : Step = says tag (codes "NO not a message") state in
-    tagged_if tag (in_utf8 && not (is_enabled mode)) (says tag (codes "NO not enabled") state) (if meanings.has_tree whole then unless (append_refusal store whole) else without)
-    (answers_tagged tag (codes "NO not enabled") [] state)
-    (tagged_if tag (meanings.has_tree whole) (unless (append_refusal store whole)) without (put_tagged tag state opened store.kept folder (appended folder flags date whole) (append_refusal store whole)) (answers_tagged tag (codes "NO not a message") [] state))
-
-added_tagged : (meanings : Meanings) (now tag : List ℕ) (state : State) (mode : Mode) (account : ℕ) (store : StoreState) (said : Command) → adds_to_store said ≡ true
-    → EndsTagged tag (mailbox_step meanings now tag state mode account store said)
-added_tagged meanings now tag state mode account store command.Capability is = absurd cc
-added_tagged meanings now tag state mode account store command.Noop is = absurd cc
-added_tagged meanings now tag state mode account store command.Check is = absurd cc
-added_tagged meanings now tag state mode account store command.Logout is = absurd cc
-added_tagged meanings now tag state mode account store (command.Login user password) is = absurd cc
-added_tagged meanings now tag state mode account store (command.Enable words) is = absurd cc
-added_tagged meanings now tag state mode account store (command.Select written) is = absurd cc
-added_tagged meanings now tag state mode account store (command.Examine written) is = absurd cc
-added_tagged meanings now tag state mode account store (command.Create written) is = create_tagged tag state account store (meanings.name_of (is_enabled mode) written)
-added_tagged meanings now tag state mode account store (command.List reference pattern) is = absurd cc
-added_tagged meanings now tag state mode account store (command.Status written items) is = absurd cc
-added_tagged meanings now tag state mode account store (command.Append written flags date in_utf8 octets) is =
-    append_tagged meanings tag state (opened_in state) mode store flags (date_or now date) in_utf8 octets (folder_named meanings mode store account written)
-added_tagged meanings now tag state mode account store (command.Fetch by_uid set items) is = absurd cc
-added_tagged meanings now tag state mode account store (command.Store by_uid set op silent flags) is = absurd cc
-added_tagged meanings now tag state mode account store command.Expunge is = absurd cc
-added_tagged meanings now tag state mode account store command.Close is = absurd cc
-added_tagged meanings now tag state mode account store command.NotHere is = absurd cc
-
-store_tagged : (tag : List ℕ) (state : State) (folder : ℕ) (read_only : Bool) (store : StoreState) (by_uid : Bool) (set : Set) (op : StoreOp) (silent : Bool) (named : ℕ)
-    → EndsTagged tag (store_step tag state folder read_only store by_uid set op silent named)
-store_tagged tag state folder read_only store by_uid set op silent named =
-    let act = store_one by_uid silent op named in
-    tagged_if tag read_only (refused_as_read_only tag state) (for_each tag state by_uid set (listed store.kept folder) act) (answers_tagged tag (codes "NO read only") [] state)
-    (each_tagged tag state by_uid set (listed store.kept folder) act)
-
-expunge_tagged : (tag : List ℕ) (state : State) (read_only : Bool) (messages : List Listed) → EndsTagged tag (expunge_step tag state read_only messages)
-expunge_tagged tag state read_only messages =
-    let acts = taken_out (deleted_ids messages) ++ reply (closing_up 1 messages) in
-    tagged_if tag read_only (refused_as_read_only tag state) (ends_with tag done acts state) (answers_tagged tag (codes "NO read only") [] state) (ends_tagged tag done acts state)
-
-changed_tagged : (meanings : Meanings) (now tag : List ℕ) (mode : Mode) (account folder : ℕ) (read_only : Bool) (store : StoreState) (said : Command) → changes_store said ≡ true
-    → EndsTagged tag (selected_step meanings now tag mode account folder read_only store said)
-changed_tagged meanings now tag mode account folder read_only store command.Capability is = absurd cc
-changed_tagged meanings now tag mode account folder read_only store command.Noop is = absurd cc
-changed_tagged meanings now tag mode account folder read_only store command.Check is = absurd cc
-changed_tagged meanings now tag mode account folder read_only store command.Logout is = absurd cc
-changed_tagged meanings now tag mode account folder read_only store (command.Login user password) is = absurd cc
-changed_tagged meanings now tag mode account folder read_only store (command.Enable words) is = absurd cc
-changed_tagged meanings now tag mode account folder read_only store (command.Select written) is = absurd cc
-changed_tagged meanings now tag mode account folder read_only store (command.Examine written) is = absurd cc
-changed_tagged meanings now tag mode account folder read_only store (command.Create written) is =
-    added_tagged meanings now tag (selected mode account folder read_only) mode account store (command.Create written) refl
-changed_tagged meanings now tag mode account folder read_only store (command.List reference pattern) is = absurd cc
-changed_tagged meanings now tag mode account folder read_only store (command.Status written items) is = absurd cc
-changed_tagged meanings now tag mode account folder read_only store (command.Append written flags date in_utf8 octets) is =
-    added_tagged meanings now tag (selected mode account folder read_only) mode account store (command.Append written flags date in_utf8 octets) refl
-changed_tagged meanings now tag mode account folder read_only store (command.Fetch by_uid set items) is =
-    each_tagged tag (selected mode account folder read_only) by_uid set (listed store.kept folder) (fetch_one meanings mode store by_uid read_only items)
-changed_tagged meanings now tag mode account folder read_only store (command.Store by_uid set op silent flags) is =
-    store_tagged tag (selected mode account folder read_only) folder read_only store by_uid set op silent flags
-changed_tagged meanings now tag mode account folder read_only store command.Expunge is = expunge_tagged tag (selected mode account folder read_only) read_only (listed store.kept folder)
-changed_tagged meanings now tag mode account folder read_only store command.Close is =
-    ends_tagged tag done (if read_only then [] else taken_out (deleted_ids (listed store.kept folder))) (authenticated mode account)
-changed_tagged meanings now tag mode account folder read_only store command.NotHere is = absurd cc
+fetch_tagged : (meanings : Meanings) (tag : List ℕ) (state : State) (mode : Mode) (folder : ℕ) (read_only : Bool) (store : StoreState) (by_uid : Bool) (set : Set) (items : List FetchItem)
+    → EndsTagged tag (fetch_step meanings tag state mode folder read_only store by_uid set items)
+fetch_tagged meanings tag state mode folder read_only store by_uid set items =
+    let acts = flat_map (fetch_one meanings mode store by_uid read_only items) (chosen by_uid set (listed store.kept folder)) in
+    either_by (EndsTagged tag) tag (any_tagged tag) (is_refused by_uid set (listed store.kept folder)) (no_such_message tag state) (ends_with tag done acts state)
+    (answers_tagged tag (codes "BAD no such message") [] state) (ends_tagged tag done acts state)
 
 pub step_tagged : (meanings : Meanings) (now tag : List ℕ) (state : State) (store : StoreState) (said : Command) → ¬ (state ≡ ended) → EndsTagged tag (step meanings now state store tag said)
 unfolding step
 step_tagged meanings now tag not_authenticated store said goes = unauthenticated_all (EndsTagged tag) tag (answers_tagged tag) meanings store said
 step_tagged meanings now tag (authenticated mode account) store said goes =
-    authenticated_all (EndsTagged tag) tag (answers_tagged tag) meanings now mode account store said (added_tagged meanings now tag (authenticated mode account) mode account store said)
+    authenticated_all (EndsTagged tag) tag (answers_tagged tag) meanings now mode account store said (added_all (EndsTagged tag) tag (any_tagged tag) meanings now (authenticated mode account) mode account store said)
 step_tagged meanings now tag (selected mode account folder read_only) store said goes =
-    selected_all (EndsTagged tag) tag (answers_tagged tag) meanings now mode account folder read_only store said (changed_tagged meanings now tag mode account folder read_only store said)
+    selected_all (EndsTagged tag) tag (answers_tagged tag) meanings now mode account folder read_only store said (λ changes_it.
+    changed_all (EndsTagged tag) tag (any_tagged tag) meanings now mode account folder read_only store said changes_it
+    (λ by_uid set items is. fetch_tagged meanings tag (selected mode account folder read_only) mode folder read_only store by_uid set items))
 step_tagged meanings now tag ended store said goes = absurd (goes refl)
+
+-- ---- what asks the cache
+
+abbrev IsUnasked : Step → Type 0
+IsUnasked taken = asked_in taken.acts ≡ []
+
+ends_unasked : (tag words : List ℕ) (acts : List (Act ReplyPart)) (state : State) → asked_in acts ≡ [] → IsUnasked (ends_with tag words acts state)
+ends_unasked tag words acts state unasked = asked_in-append acts (reply (tagged tag words ∷ [])) ∙ rw unasked refl
+
+answers_unasked : (tag words : List ℕ) (parts : List ReplyPart) (state : State) → IsUnasked (answers tag words parts state)
+answers_unasked tag words parts state = ends_unasked tag words (reply parts) state (reply_unasked parts)
+
+-- a step asks for nothing, if it is no FETCH that does
+unasked_unless : (meanings : Meanings) (now tag : List ℕ) (state : State) (store : StoreState) (said : Command)
+    → ((mode : Mode) (account folder : ℕ) (read_only by_uid : Bool) (set : Set) (items : List FetchItem) → state ≡ selected mode account folder read_only → said ≡ command.Fetch by_uid set items
+    → IsUnasked (fetch_step meanings tag state mode folder read_only store by_uid set items)) → asked_in (step meanings now state store tag said).acts ≡ []
+unfolding step
+unasked_unless meanings now tag not_authenticated store said fetched = unauthenticated_all IsUnasked tag (answers_unasked tag) meanings store said
+unasked_unless meanings now tag (authenticated mode account) store said fetched =
+    authenticated_all IsUnasked tag (answers_unasked tag) meanings now mode account store said (added_all IsUnasked tag (ends_unasked tag) meanings now (authenticated mode account) mode account store said)
+unasked_unless meanings now tag (selected mode account folder read_only) store said fetched =
+    selected_all IsUnasked tag (answers_unasked tag) meanings now mode account folder read_only store said (λ changes_it.
+    changed_all IsUnasked tag (ends_unasked tag) meanings now mode account folder read_only store said changes_it (λ by_uid set items is. fetched mode account folder read_only by_uid set items refl is))
+unasked_unless meanings now tag ended store said fetched = refl
+
+pub others_unasked : (meanings : Meanings) (now tag : List ℕ) (state : State) (store : StoreState) (said : Command) → is_fetch said ≡ false → asked_in (step meanings now state store tag said).acts ≡ []
+others_unasked meanings now tag state store said other =
+    unasked_unless meanings now tag state store said (λ mode account folder read_only by_uid set items at is. none_true (is_fetch said) other (ap is_fetch is))
+
+-- one message is asked for where it is told
+one_asked : (meanings : Meanings) (mode : Mode) (store : StoreState) (by_uid read_only : Bool) (items : List FetchItem) (one : Numbered)
+    → asked_in (fetch_one meanings mode store by_uid read_only items one) ≡ asked_of mode store items one.listed.id
+one_asked meanings mode store by_uid read_only items one =
+    let asked = asked_of mode store items one.listed.id in
+    let told : (is : Listed) (changed : Bool) → asked_in (asking asked (reply (fetch_reply meanings mode store one.number is (with_flags changed (with_uid by_uid items))))) ≡ asked = λ is changed.
+    (let parts = fetch_reply meanings mode store one.number is (with_flags changed (with_uid by_uid items)) in
+    asked_in-asking asked (reply parts) ∙ (ap (λ (l : List Asked). asked ++ l) (reply_unasked parts) ∙ append-nil asked)) in
+    cond_both (becomes_seen read_only items one.listed) (changes (flags_change one.listed (seen one.listed).flags) ∷ fetch_told meanings mode store by_uid items one.number (seen one.listed) true)
+    (fetch_told meanings mode store by_uid items one.number one.listed false) (λ z. asked_in z ≡ asked) (λ _. told (seen one.listed) true) (λ _. told one.listed false)
+
+-- a FETCH asks for nothing where it asks for none of the messages, or names one that isn't there
+fetch_unasked : (meanings : Meanings) (tag : List ℕ) (state : State) (mode : Mode) (folder : ℕ) (read_only : Bool) (store : StoreState) (by_uid : Bool) (set : Set) (items : List FetchItem)
+    → ((id : ℕ) → asked_of mode store items id ≡ []) → IsUnasked (fetch_step meanings tag state mode folder read_only store by_uid set items)
+fetch_unasked meanings tag state mode folder read_only store by_uid set items none =
+    let act = fetch_one meanings mode store by_uid read_only items in
+    each_by IsUnasked tag (ends_unasked tag) state by_uid set (listed store.kept folder) act
+    (each_unasked act (λ one. one_asked meanings mode store by_uid read_only items one ∙ none one.listed.id) (chosen by_uid set (listed store.kept folder)))
+
+none_enabled : (store : StoreState) (items : List FetchItem) (mode : Mode) → mode ≡ enabled → (id : ℕ) → asked_of mode store items id ≡ []
+none_enabled store items legacy is id = absurd cc
+none_enabled store items enabled is id = cond_both (list_any is_of_message items) [] [] (λ (l : List Asked). l ≡ []) (λ _. refl) (λ _. refl)
+
+pub enabled_unasked : (meanings : Meanings) (now tag : List ℕ) (state : State) (store : StoreState) (said : Command) → mode_of state ≡ enabled → asked_in (step meanings now state store tag said).acts ≡ []
+enabled_unasked meanings now tag state store said is =
+    unasked_unless meanings now tag state store said (λ mode account folder read_only by_uid set items at fetches.
+    fetch_unasked meanings tag state mode folder read_only store by_uid set items (none_enabled store items mode (sym (ap mode_of at) ∙ is)))
+
+pub kept_unasked : (meanings : Meanings) (now tag : List ℕ) (mode : Mode) (account folder : ℕ) (read_only : Bool) (store : StoreState) (by_uid : Bool) (set : Set) (items : List FetchItem)
+    → list_any is_of_message items ≡ false → asked_in (step meanings now (selected mode account folder read_only) store tag (command.Fetch by_uid set items)).acts ≡ []
+unfolding step
+kept_unasked meanings now tag mode account folder read_only store by_uid set items beside =
+    fetch_unasked meanings tag (selected mode account folder read_only) mode folder read_only store by_uid set items (λ id. cond-false (list_any is_of_message items) _ _ beside)
+
+pub refused_unasked : (meanings : Meanings) (now tag : List ℕ) (mode : Mode) (account folder : ℕ) (read_only : Bool) (store : StoreState) (by_uid : Bool) (set : Set) (items : List FetchItem)
+    → is_refused by_uid set (listed store.kept folder) ≡ true → asked_in (step meanings now (selected mode account folder read_only) store tag (command.Fetch by_uid set items)).acts ≡ []
+unfolding step
+refused_unasked meanings now tag mode account folder read_only store by_uid set items refused =
+    let state = selected mode account folder read_only in
+    let messages = listed store.kept folder in
+    let all = flat_map (fetch_one meanings mode store by_uid read_only items) (chosen by_uid set messages) in
+    ap (λ (taken : Step). asked_in taken.acts) (cond-true (is_refused by_uid set messages) (no_such_message tag state) (ends_with tag done all state) refused)
+
+-- each message that is told is asked for once
+once_each : (store : StoreState) (items : List FetchItem) → list_any is_of_message items ≡ true → (all : List Numbered) → flat_map (λ (one : Numbered). asked_of legacy store items one.listed.id) all ≡ map (asked_as store) all
+once_each store items is [] = refl
+once_each store items is (one ∷ others) =
+    let this : asked_of legacy store items one.listed.id ≡ asked_as store one ∷ [] = cond-true (list_any is_of_message items) _ _ is in
+    ap (λ (l : List Asked). l ++ flat_map (λ (other : Numbered). asked_of legacy store items other.listed.id) others) this ∙ ap (λ (l : List Asked). asked_as store one ∷ l) (once_each store items is others)
+
+pub fetch_asks : (meanings : Meanings) (now tag : List ℕ) (account folder : ℕ) (read_only : Bool) (store : StoreState) (by_uid : Bool) (set : Set) (items : List FetchItem)
+    → list_any is_of_message items ≡ true → is_refused by_uid set (listed store.kept folder) ≡ false
+    → asked_in (step meanings now (selected legacy account folder read_only) store tag (command.Fetch by_uid set items)).acts ≡ map (asked_as store) (chosen by_uid set (listed store.kept folder))
+unfolding step
+fetch_asks meanings now tag account folder read_only store by_uid set items is taken =
+    let act = fetch_one meanings legacy store by_uid read_only items in
+    let all = chosen by_uid set (listed store.kept folder) in
+    let state = selected legacy account folder read_only in
+    ap (λ (made : Step). asked_in made.acts) (cond-false (is_refused by_uid set (listed store.kept folder)) (no_such_message tag state) (ends_with tag done (flat_map act all) state) taken)
+    ∙ (asked_in-append (flat_map act all) (reply (tagged tag done ∷ [])) ∙ (append-nil (asked_in (flat_map act all))
+    ∙ (asked_each act (λ (one : Numbered). asked_of legacy store items one.listed.id) (one_asked meanings legacy store by_uid read_only items) all ∙ once_each store items is all)))

@@ -10,20 +10,24 @@ use Rattle.mail_wire.specs.declared.outside.Fault.{Fault}
 use Rattle.kept_mail.specs.declared.kept.Listed.{Listed}
 use Rattle.mail_store.specs.StoreState.{StoreState}
 use Rattle.surrogate_rope.specs.declared.shown.Shown.{Shown}
-use Rattle.surrogate_cache.specs.Served.{Mode, is_enabled}
+use Rattle.surrogate_cache.specs.Caching.{Asked, asked_by}
+use Rattle.surrogate_cache.specs.Served.{Mode, legacy, enabled, is_enabled}
 use Rattle.session_core.specs.Acts.{Act, changes, gives}
 use Rattle.session_core.specs.Around.{Around}
+use Rattle.session_core.specs.Desks.{stored_octets}
+use Rattle.session_core.specs.Doing.{Asks}
 use Rattle.session_core.specs.Meanings.{Meanings}
+use Rattle.session_core.proofs.AskingLemmas.{Asks-nil}
 use Rattle.imap_grammar.specs.declared.command.FetchItem.{FetchItem}
 use Rattle.imap_grammar.specs.declared.command.FetchItem.TheVariants as item
 use Rattle.imap_mailboxes.specs.Flags.{flags_text}
-use Rattle.imap_session.specs.Items.{is_flags, item_parts, sets_seen}
-use Rattle.imap_session.specs.Machine.{becomes_seen, fetch_one, fetch_reply, flags_change, is_seen, line, parts_behind, reply, seen, with_flags, with_uid}
+use Rattle.imap_session.specs.Items.{asked_of, is_flags, is_of_message, item_parts, sets_seen}
+use Rattle.imap_session.specs.Machine.{becomes_seen, fetch_one, fetch_reply, fetch_told, flags_change, is_seen, line, parts_behind, reply, seen, with_flags, with_uid}
 use Rattle.imap_session.specs.Replies.{ReplyPart, text, part_octets}
 use Rattle.imap_session.specs.private.Fetched.{end_octets, space_octets, tells_flags_last, tells_uid_first, uid_first_octets}
 use Rattle.imap_session.specs.private.Pending.{Carries}
 use Rattle.imap_session.specs.private.Shown.{HasShown, shows}
-use Rattle.imap_session.proofs.PendingLemmas.{Carries-before, Carries-parts, Carries-then}
+use Rattle.imap_session.proofs.PendingLemmas.{Carries-asking, Carries-before, Carries-parts, Carries-then}
 
 pub reply-append : (xs ys : List ReplyPart) → reply (xs ++ ys) ≡ reply xs ++ reply ys
 reply-append xs ys = map-append gives xs ys
@@ -236,6 +240,56 @@ Carries-fronted meanings mode store number one by_uid changed first items a b me
     (Carries-then (part_octets meanings) a a b met owed fronted owes (reply (text (front_of number) ∷ [])) (reply (first_parts first one) ++ behind) front
     (Carries-then (part_octets meanings) a a b met fronted had owes (reply (first_parts first one)) behind uid told))
 
+-- ---- what is asked for
+
+-- an item that a session needs what is shown for is of the message, and in a legacy session each such item needs it
+shows_legacy : (asked : FetchItem) → shows false asked ≡ is_of_message asked
+shows_legacy item.Flags = refl
+shows_legacy item.Uid = refl
+shows_legacy item.InternalDate = refl
+shows_legacy item.Size = refl
+shows_legacy item.Rfc822 = refl
+shows_legacy item.Rfc822Header = refl
+shows_legacy item.Rfc822Text = refl
+shows_legacy item.Envelope = refl
+shows_legacy item.Body = refl
+shows_legacy item.BodyStructure = refl
+shows_legacy (item.Section peek path what partial) = refl
+
+any_legacy : (items : List FetchItem) → list_any (shows false) items ≡ list_any is_of_message items
+any_legacy [] = refl
+any_legacy (asked ∷ items) = rw (shows_legacy asked, any_legacy items) refl
+
+either_way : (asked : List Asked) (b : Bool) → (if b then asked else asked) ≡ asked
+either_way asked true = refl
+either_way asked false = refl
+
+-- what is asked for is what is shown, where that is needed, and otherwise nothing
+asked_shown : (mode : Mode) (store : StoreState) (items : List FetchItem) (id : ℕ) (needed : Bool) → list_any (shows (is_enabled mode)) items ≡ needed
+    → asked_of mode store items id ≡ (if needed then asked_by mode id (stored_octets store id) else [])
+asked_shown legacy store items id needed is = ap (λ (b : Bool). (if b then asked_by legacy id (stored_octets store id) else [])) (sym (any_legacy items) ∙ is)
+asked_shown enabled store items id needed is = either_way [] (list_any is_of_message items) ∙ sym (either_way [] needed)
+
+pub Asks-none : (mode : Mode) (a : Around) (items : List FetchItem) (id : ℕ) → list_any (shows (is_enabled mode)) items ≡ false → Asks a a None (asked_of mode a.desk.store items id)
+Asks-none mode a items id is = subst (λ (l : List Asked). Asks a a None l) (sym (asked_shown mode a.desk.store items id false is)) (Asks-nil a)
+
+pub Asks-shown : (mode : Mode) (a b : Around) (met : Option Fault) (items : List FetchItem) (id : ℕ) → list_any (shows (is_enabled mode)) items ≡ true
+    → Asks a b met (asked_by mode id (stored_octets a.desk.store id)) → Asks a b met (asked_of mode a.desk.store items id)
+Asks-shown mode a b met items id is shown = subst (λ (l : List Asked). Asks a b met l) (sym (asked_shown mode a.desk.store items id true is)) shown
+
+-- the same is asked for of a store that shows the message alike
+asked_alike : (mode : Mode) (store other : StoreState) (items : List FetchItem) (id : ℕ) → stored_octets other id ≡ stored_octets store id → asked_of mode other items id ≡ asked_of mode store items id
+asked_alike mode store other items id same = ap (λ (octets : List ℕ). (if list_any is_of_message items then asked_by mode id octets else [])) same
+
+-- the message was asked for, and then it is told
+pub Carries-told : (meanings : Meanings) (mode : Mode) (store : StoreState) (number : ℕ) (one : Listed) (by_uid changed : Bool) (items : List FetchItem) (a b c : Around) (met : Option Fault) (owed owes : List ℕ)
+    → stored_octets a.desk.store one.id ≡ stored_octets store one.id → Asks a b None (asked_of mode a.desk.store items one.id)
+    → Carries (part_octets meanings) b c met owed owes (reply (fetch_reply meanings mode store number one (with_flags changed (with_uid by_uid items))))
+    → Carries (part_octets meanings) a c met owed owes (fetch_told meanings mode store by_uid items number one changed)
+Carries-told meanings mode store number one by_uid changed items a b c met owed owes same is_asked told =
+    Carries-asking (part_octets meanings) a b c met owed owes (asked_of mode store items one.id) (reply (fetch_reply meanings mode store number one (with_flags changed (with_uid by_uid items))))
+    (subst (λ (l : List Asked). Asks a b None l) (asked_alike mode store a.desk.store items one.id same) is_asked) told
+
 -- ---- one message
 
 pub seen_asked : (read_only : Bool) (items : List FetchItem) (one : Listed) → becomes_seen read_only items one ≡ true → list_any sets_seen items ≡ true
@@ -249,11 +303,11 @@ seen_asked read_only items one is = asked read_only (list_any sets_seen items) (
 -- the message is seen from here on
 pub fetched_seen : (meanings : Meanings) (mode : Mode) (store : StoreState) (by_uid read_only : Bool) (items : List FetchItem) (number : ℕ) (one : Listed) → becomes_seen read_only items one ≡ true
     → fetch_one meanings mode store by_uid read_only items (record { number = number; listed = one })
-    ≡ changes (flags_change one (seen one).flags) ∷ reply (fetch_reply meanings mode store number (seen one) (with_flags true (with_uid by_uid items)))
+    ≡ changes (flags_change one (seen one).flags) ∷ fetch_told meanings mode store by_uid items number (seen one) true
 fetched_seen meanings mode store by_uid read_only items number one is = cond-true (becomes_seen read_only items one) _ _ is
 
 pub fetched : (meanings : Meanings) (mode : Mode) (store : StoreState) (by_uid read_only : Bool) (items : List FetchItem) (number : ℕ) (one : Listed) → becomes_seen read_only items one ≡ false
-    → fetch_one meanings mode store by_uid read_only items (record { number = number; listed = one }) ≡ reply (fetch_reply meanings mode store number one (with_flags false (with_uid by_uid items)))
+    → fetch_one meanings mode store by_uid read_only items (record { number = number; listed = one }) ≡ fetch_told meanings mode store by_uid items number one false
 fetched meanings mode store by_uid read_only items number one is = cond-false (becomes_seen read_only items one) _ _ is
 
 -- ---- the items, one after the other

@@ -33,7 +33,7 @@ use Rattle.session_core.specs.Changes.{calls_of}
 use Rattle.session_core.specs.Doing.{Does, DoesFirst, Makes, Replies}
 use Rattle.session_core.specs.Keeps.{fault_of}
 use Rattle.session_core.specs.Meanings.{Meanings, WithMeanings}
-use Rattle.session_core.proofs.DoingLemmas.{Does-changes, Does-replies, Does-then, Does-unchanged, DoesFirst-before}
+use Rattle.session_core.proofs.DoingLemmas.{Does-changes, Does-unchanged, DoesFirst-before}
 use Rattle.imap_session.specs.Machine.{Numbered, State, Step, chosen, close_step, closing_up, deleted_ids, done, ends_with, expunge_step, fetch_one, fetch_step, for_each, is_deleted, mailbox_step, no_such_message, numbered_at, refused_as_read_only, reply, selected, selected_step, store_one, store_step, tagged, taken_out}
 use Rattle.imap_session.specs.Replies.{ReplyPart, part_octets, reply_octets}
 use Rattle.imap_session.specs.Session.{KnowsFolder, KnowsNext, TakesStep, state_or_ended}
@@ -43,7 +43,7 @@ use Rattle.imap_session.specs.private.Lines.{tagged_octets}
 use Rattle.imap_session.specs.private.Pending.{Carries}
 use Rattle.imap_session.specs.private.Selected.{AreListed}
 use Rattle.imap_session.proofs.LineLemmas.{tagged_reply}
-use Rattle.imap_session.proofs.PendingLemmas.{Owes-nil}
+use Rattle.imap_session.proofs.PendingLemmas.{Carries-parts, Owes-given, Owes-nil}
 use Rattle.imap_session.proofs.StepLemmas.{says_given}
 
 -- ---- the messages of a folder
@@ -93,14 +93,9 @@ pub pending_ends : (meanings : Meanings) (a b c : Around) (met : Option Fault) (
 pending_ends meanings a b c met tag words acts pending carries replies =
     let spelled = part_octets meanings in
     let last = tagged tag words ∷ [] in
-    let owes = carries a [] (Owes-nil spelled a) in
-    let whole : pending ++ tagged_octets tag words ≡ flat_map spelled (owes.parts ++ last) =
-    ap (λ z. z ++ tagged_octets tag words) owes.pending_is ∙ (ap (λ z. flat_map spelled owes.parts ++ z) (sym (tagged_reply meanings tag words)) ∙ sym (flat_map-append spelled owes.parts last)) in
-    let all : Does spelled a c met (owes.done ++ map gives (owes.parts ++ last)) =
-    Does-then spelled a b c met owes.done (map gives (owes.parts ++ last)) owes.does (Does-replies spelled b c met (owes.parts ++ last) (subst (λ octets. Replies b c met octets) whole replies)) in
-    let same : owes.done ++ map gives (owes.parts ++ last) ≡ acts ++ map gives last =
-    ap (λ z. owes.done ++ z) (map-append gives owes.parts last) ∙ (sym (append_assoc owes.done (map gives owes.parts) (map gives last)) ∙ ap (λ z. z ++ map gives last) (sym owes.acts_are)) in
-    subst (λ (z : List (Act ReplyPart)). Does spelled a c met z) same all
+    let whole = pending ++ tagged_octets tag words in
+    let owes = Carries-parts spelled b pending whole last (ap (λ (z : List ℕ). pending ++ z) (sym (tagged_reply meanings tag words))) a acts (carries a [] (Owes-nil spelled a)) in
+    Owes-given spelled a b c met (acts ++ reply last) whole replies owes
 
 -- a fault came before it
 pub pending_broken : (meanings : Meanings) (a b : Around) (met : Fault) (tag words : List ℕ) (acts : List (Act ReplyPart)) (owes : List ℕ) → Carries (part_octets meanings) a b (Some met) [] owes acts

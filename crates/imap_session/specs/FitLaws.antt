@@ -28,8 +28,9 @@ use Rattle.mail_store.specs.declared.changing.StoreFault.TheVariants as refusal
 use Rattle.mail_store.proofs.IndexLemmas.{AreStored-same}
 use Rattle.mime_tree.specs.declared.sections.Part.TheVariants as place
 use Rattle.surrogate_rope.specs.Layout.{HasAsciiBlocks}
+use Rattle.surrogate_cache.specs.Caching.{Asked}
 use Rattle.surrogate_cache.specs.Served.{Mode, legacy, enabled, is_enabled}
-use Rattle.session_core.specs.Acts.{Act, IsFitAct, changes, changes_in, gives}
+use Rattle.session_core.specs.Acts.{Act, IsFitAct, asking, asks, changes, changes_in, gives}
 use Rattle.session_core.specs.Desks.{stored_date, stored_octets}
 use Rattle.session_core.specs.Meanings.{Meanings, AreMeanings}
 use Rattle.session_core.specs.Moments.{Moment}
@@ -57,8 +58,8 @@ use Rattle.imap_mailboxes.specs.Patterns.{is_match}
 use Rattle.imap_mailboxes.specs.Sets.{is_refused}
 use Rattle.imap_views.specs.Views.{envelope, fields, structure}
 use Rattle.imap_session.specs.CommandLaws.{AsksAscii, FetchesAscii, IsAsciiName, NamesAscii, is_date_date, names_of, said_of}
-use Rattle.imap_session.specs.Items.{field_name, fields_parts, fields_word, header_octets, is_flags, is_uid, item_parts, literal_head, octets_at, part_words, partial_octets, partial_span, partial_text, section_at, section_name, section_parts, served_of, shown_parts, size_of, whole_header}
-use Rattle.imap_session.specs.Machine.{State, Step, Numbered, append_in, append_octets, append_unless, appended, authenticated, becomes_seen, chosen, close_step, closing_up, common_step, completed, create_by, create_unless, deleted_ids, done, enable_step, ends_with, exists_lines, expunge_step, fetch_one, fetch_reply, fetch_step, flags_reply, flags_change, folder_lines, folder_named, for_each, line, names_folder, no_such_message, opened_in, out_of_order, refused_as_read_only, says, untagged, is_deleted, list_line, list_lines, login_by, mailbox_step, not_authenticated, not_authenticated_step, opened_words, parts_behind, permanent_flags, reply, seen, select_by, selected, selected_step, authenticated_step, spaced, status_among, status_by, status_line, status_text, step, store_one, store_step, tagged, taken_out, uid_text, unseen_among, with_flags, with_uid, asks_utf8, ended}
+use Rattle.imap_session.specs.Items.{asked_of, field_name, fields_parts, fields_word, header_octets, is_flags, is_uid, item_parts, literal_head, octets_at, part_words, partial_octets, partial_span, partial_text, section_at, section_name, section_parts, served_of, shown_parts, size_of, whole_header}
+use Rattle.imap_session.specs.Machine.{State, Step, Numbered, append_in, append_octets, append_unless, appended, authenticated, becomes_seen, chosen, close_step, closing_up, common_step, completed, create_by, create_unless, deleted_ids, done, enable_step, ends_with, exists_lines, expunge_step, fetch_one, fetch_reply, fetch_step, fetch_told, flags_reply, flags_change, folder_lines, folder_named, for_each, line, names_folder, no_such_message, opened_in, out_of_order, refused_as_read_only, says, untagged, is_deleted, list_line, list_lines, login_by, mailbox_step, not_authenticated, not_authenticated_step, opened_words, parts_behind, permanent_flags, reply, seen, select_by, selected, selected_step, authenticated_step, spaced, status_among, status_by, status_line, status_text, step, store_one, store_step, tagged, taken_out, uid_text, unseen_among, with_flags, with_uid, asks_utf8, ended}
 use Rattle.imap_session.specs.Replies.{AreFit, IsFit, ReplyPart, text, name, shown, viewed}
 use Rattle.imap_session.specs.Session.{IsSaid, date_at, due_step, fits_shape, is_date, long_ago}
 use Rattle.imap_session.specs.ViewLaws.{ascii_envelope, ascii_fields, ascii_header, ascii_structure, first_header}
@@ -74,6 +75,7 @@ MayBeKept other = Unit {0}
 abbrev pub IsRightAct : Meanings → Act ReplyPart → Type 0
 IsRightAct meanings (gives part) = IsFit meanings part
 IsRightAct meanings (changes made) = AllByRecursion MayBeKept made
+IsRightAct meanings (asks asked) = Unit {0}
 
 abbrev pub AreRight : Meanings → List (Act ReplyPart) → Type 0
 AreRight meanings acts = AllByRecursion (IsRightAct meanings) acts
@@ -82,6 +84,7 @@ pub fit_of : (meanings : Meanings) (acts : List (Act ReplyPart)) → AreRight me
 fit_of meanings [] right = tt
 fit_of meanings (gives part ∷ acts) right = (right.0, fit_of meanings acts right.1)
 fit_of meanings (changes made ∷ acts) right = (tt, fit_of meanings acts right.1)
+fit_of meanings (asks asked ∷ acts) right = (tt, fit_of meanings acts right.1)
 
 stored_after : (kept : Kept) (one : Record) → MayBeKept one → AreStored kept.messages → AreStored (after_record kept one).messages
 stored_after kept (records.Folder account folder_name) may stored = stored
@@ -108,12 +111,17 @@ stored_of meanings kept [] right stored = stored
 stored_of meanings kept (gives part ∷ acts) right stored = stored_of meanings kept acts right.1 stored
 stored_of meanings kept (changes made ∷ acts) right stored =
     stored_behind kept made right.0 stored (records_of (changes_in acts)) (λ between are. stored_of meanings between acts right.1 are)
+stored_of meanings kept (asks asked ∷ acts) right stored = stored_of meanings kept acts right.1 stored
 
 -- ---- lists
 
 reply_right : (meanings : Meanings) (parts : List ReplyPart) → AreFit meanings parts → AreRight meanings (reply parts)
 reply_right meanings [] fit = tt
 reply_right meanings (part ∷ parts) fit = (fit.0, reply_right meanings parts fit.1)
+
+asking_right : (meanings : Meanings) (asked : List Asked) (acts : List (Act ReplyPart)) → AreRight meanings acts → AreRight meanings (asking asked acts)
+asking_right meanings [] acts right = right
+asking_right meanings (one ∷ asked) acts right = (tt, asking_right meanings asked acts right)
 
 each_right : {T : Type 0} (meanings : Meanings) (act : T → List (Act ReplyPart)) → ((one : T) → AreRight meanings (act one)) → (all : List T) → AreRight meanings (flat_map act all)
 each_right meanings act right [] = tt
@@ -448,14 +456,13 @@ module _ (meanings : Meanings) (are : AreMeanings meanings) (mode : Mode) (store
 
   fetch_one_right : (by_uid read_only : Bool) (items : List FetchItem) → AllByRecursion AsksAscii items → (one : Numbered) → AreRight meanings (fetch_one meanings mode store by_uid read_only items one)
   fetch_one_right by_uid read_only items ascii one =
-      let asked = with_uid by_uid items in
-      let all = with_flags true asked in
-      let told = fetch_reply meanings mode store one.number (seen one.listed) all in
-      let same = fetch_reply meanings mode store one.number one.listed asked in
-      let asked_ascii = uid_ascii by_uid items ascii in
-      cond_both (becomes_seen read_only items one.listed) (changes (flags_change one.listed (seen one.listed).flags) ∷ reply told) (reply same) (λ z. AreRight meanings z)
-      (λ _. ((tt, tt), reply_right meanings told (fetch_fit one.number (seen one.listed) all (flags_ascii true asked asked_ascii))))
-      (λ _. reply_right meanings same (fetch_fit one.number one.listed asked asked_ascii))
+      let now_seen = seen one.listed in
+      let told : (is : Listed) (changed : Bool) → AreRight meanings (fetch_told meanings mode store by_uid items one.number is changed) = λ is changed.
+      (let all = with_flags changed (with_uid by_uid items) in
+      asking_right meanings (asked_of mode store items is.id) (reply (fetch_reply meanings mode store one.number is all))
+      (reply_right meanings (fetch_reply meanings mode store one.number is all) (fetch_fit one.number is all (flags_ascii changed (with_uid by_uid items) (uid_ascii by_uid items ascii))))) in
+      cond_both (becomes_seen read_only items one.listed) (changes (flags_change one.listed now_seen.flags) ∷ fetch_told meanings mode store by_uid items one.number now_seen true)
+      (fetch_told meanings mode store by_uid items one.number one.listed false) (λ z. AreRight meanings z) (λ _. ((tt, tt), told now_seen true)) (λ _. told one.listed false)
 
 -- ---- STORE, EXPUNGE and CLOSE
 

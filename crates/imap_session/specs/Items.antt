@@ -1,7 +1,7 @@
 -- What FETCH tells of its items (RFC 3501, 6.4.5 and 7.4.2): sizes, sections and views are those of what the session is served of a message.
 use Rattle.std.specs.Prelude.{ℕ, Bool, true, false, not, ◌+◌, ◌-◌, ◌++◌, List, [], ◌∷◌, Option, None, Some, length, codes, map, min, take, drop, if◌then◌else◌}
 use Rattle.std.specs.Fmt.{decimal}
-use Rattle.std.specs.List.{join_with_byte, list_all}
+use Rattle.std.specs.List.{join_with_byte, list_all, list_any}
 use Rattle.std.specs.Str.{str_to_ascii_uppercase}
 use Rattle.mail_wire.specs.declared.values.Span.{Span}
 use Rattle.mime_tree.specs.Sections.{section}
@@ -9,6 +9,7 @@ use Rattle.mime_tree.specs.declared.sections.Part.{Part}
 use Rattle.mime_tree.specs.declared.sections.Part.TheVariants as place
 use Rattle.kept_mail.specs.declared.kept.Listed.{Listed}
 use Rattle.mail_store.specs.StoreState.{StoreState}
+use Rattle.surrogate_cache.specs.Caching.{Asked, asked_by}
 use Rattle.surrogate_cache.specs.Served.{Mode, served_by}
 use Rattle.session_core.specs.Desks.{stored_date, stored_octets}
 use Rattle.session_core.specs.Meanings.{Meanings}
@@ -154,3 +155,16 @@ sets_seen item.Rfc822 = true
 sets_seen item.Rfc822Text = true
 sets_seen (item.Section peek path what partial) = not peek
 sets_seen other = false
+
+-- ---- what is asked for
+
+-- what tells the item is in the message itself, and not kept beside it
+abbrev pub is_of_message : FetchItem → Bool
+is_of_message item.Flags = false
+is_of_message item.Uid = false
+is_of_message item.InternalDate = false
+is_of_message other = true
+
+-- a message is asked for where one of the items is of it, and once for all of them
+abbrev pub asked_of : Mode → StoreState → List FetchItem → (id : ℕ) → List Asked
+asked_of mode store items id = if list_any is_of_message items then asked_by mode id (stored_octets store id) else []

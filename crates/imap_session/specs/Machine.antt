@@ -19,7 +19,7 @@ use Rattle.mail_store.specs.Changing.{append_refusal, expunged, folder_refusal}
 use Rattle.kept_mail.specs.Kept.{Kept, after_record, find_folder, folder_names, kept_folder_name, listed, logged_in, uid_next}
 use Rattle.mail_store.specs.StoreState.{StoreState}
 use Rattle.surrogate_cache.specs.Served.{Mode, legacy, enabled, is_enabled}
-use Rattle.session_core.specs.Acts.{Act, gives, changes}
+use Rattle.session_core.specs.Acts.{Act, asking, gives, changes}
 use Rattle.session_core.specs.Meanings.{Meanings}
 use Rattle.imap_grammar.specs.declared.command.Set.{Set}
 use Rattle.imap_grammar.specs.declared.command.StatusItem.{StatusItem}
@@ -34,7 +34,7 @@ use Rattle.imap_mailboxes.specs.Flags.{flags_text, has_flag, stored_flags}
 use Rattle.imap_mailboxes.specs.Names.{shown_name}
 use Rattle.imap_mailboxes.specs.Patterns.{is_match}
 use Rattle.imap_mailboxes.specs.Sets.{chosen_places, is_refused}
-use Rattle.imap_session.specs.Items.{is_flags, is_uid, item_parts, sets_seen}
+use Rattle.imap_session.specs.Items.{asked_of, is_flags, is_uid, item_parts, sets_seen}
 use Rattle.imap_session.specs.Replies.{ReplyPart, text, name}
 
 -- ---- states and steps
@@ -295,13 +295,17 @@ abbrev pub fetch_reply : Meanings → Mode → StoreState → (number : ℕ) →
 fetch_reply meanings mode store number one items =
     text (codes "* " ++ (decimal number ++ codes " FETCH (")) ∷ parts_behind false (map (item_parts meanings mode store one) items) ++ line (codes ")") ∷ []
 
--- one message: Seen is set beforehand, and then it is told
+-- the message is asked for, and then it is told
+abbrev pub fetch_told : Meanings → Mode → StoreState → (by_uid : Bool) → List FetchItem → (number : ℕ) → Listed → (changed : Bool) → List (Act ReplyPart)
+fetch_told meanings mode store by_uid items number one changed =
+    asking (asked_of mode store items one.id) (reply (fetch_reply meanings mode store number one (with_flags changed (with_uid by_uid items))))
+
+-- one message: Seen is set beforehand
 abbrev pub fetch_one : Meanings → Mode → StoreState → (by_uid read_only : Bool) → List FetchItem → Numbered → List (Act ReplyPart)
 fetch_one meanings mode store by_uid read_only items one =
     if becomes_seen read_only items one.listed
-    then changes (flags_change one.listed (seen one.listed).flags)
-    ∷ reply (fetch_reply meanings mode store one.number (seen one.listed) (with_flags true (with_uid by_uid items)))
-    else reply (fetch_reply meanings mode store one.number one.listed (with_uid by_uid items))
+    then changes (flags_change one.listed (seen one.listed).flags) ∷ fetch_told meanings mode store by_uid items one.number (seen one.listed) true
+    else fetch_told meanings mode store by_uid items one.number one.listed false
 
 abbrev pub fetch_step : Meanings → (tag : List ℕ) → State → Mode → (folder : ℕ) → (read_only : Bool) → StoreState → (by_uid : Bool) → Set → List FetchItem → Step
 fetch_step meanings tag state mode folder read_only store by_uid set items =

@@ -5,11 +5,12 @@ ghost use Rattle.std.specs.Option.{option_copied};
 ghost use Rattle.mail_store.specs.StoreState.{StoreState};
 ghost use Rattle.surrogate_rope.specs.Served.{IsShownOf};
 ghost use Rattle.surrogate_cache.specs.Served.{is_enabled};
-ghost use Rattle.session_core.specs.Desks.{stored_octets};
+ghost use Rattle.session_core.specs.Desks.{IsOpen, stored_octets};
+ghost use Rattle.session_core.specs.Doing.{Asks, wanting};
 ghost use Rattle.session_core.specs.Keeps.{Keeps, fault_of};
 ghost use Rattle.session_core.specs.Meanings.{WithMeanings};
-ghost use Rattle.imap_session.specs.Items.{is_flags as is_flags_of, is_uid as is_uid_of, item_parts, sets_seen as sets_seen_of};
-ghost use Rattle.imap_session.specs.Machine.{becomes_seen, fetch_one, fetch_reply, parts_behind, reply, with_flags, with_uid};
+ghost use Rattle.imap_session.specs.Items.{asked_of, is_flags as is_flags_of, is_uid as is_uid_of, item_parts, sets_seen as sets_seen_of};
+ghost use Rattle.imap_session.specs.Machine.{becomes_seen, fetch_one, fetch_told, parts_behind, reply};
 ghost use Rattle.imap_session.specs.Replies.{part_octets, reply_octets};
 ghost use Rattle.imap_session.specs.private.Fetched.{end_octets, space_octets, tells_flags_last, tells_uid_first, uid_first_octets};
 ghost use Rattle.imap_session.specs.private.Pending.{Carries};
@@ -109,9 +110,11 @@ fn shown_for<V: Kind, W: Wire, J: Keeper, C: Clock>(
     id: u32,
     outside: &mut Outside<W, J, C>,
 ) -> Result<Option<Shown>, Memory>
-    requires { id < length outside.old.desk.store.kept.messages }
+    requires opens { IsOpen outside.old.desk }
+    requires id { id < length outside.old.desk.store.kept.messages }
     ensures shown { IfOk result (λ shown. HasShown V.mode (stored_octets outside.old.desk.store id) (list_any (shows (is_enabled V.mode)) items.now) shown) }
-    ensures same { outside.new ≡ outside.old }
+    ensures asks { Asks outside.old outside.new (wanting result) (asked_of V.mode outside.old.desk.store items.now id) }
+    ensures keeps { Keeps outside.old outside.new (wanting result) }
 {
     if !asks_shown(items, V::enabled()) {
         return Ok(None);
@@ -221,21 +224,22 @@ fn push_space(pending: &mut Octets, apart: bool) -> Result<(), Memory>
 fn put_items<V: Kind, W: Wire, J: Keeper, C: Clock>(
     items: &[FetchItem],
     one: &Listed,
+    shown: Option<&Shown>,
     behind_others: bool,
     pending: &mut Octets,
     outside: &mut Outside<W, J, C>,
 ) -> Result<(), Fault>
     requires id { one.now.id < length outside.old.desk.store.kept.messages }
+    requires shown { HasShown V.mode (stored_octets outside.old.desk.store one.now.id) (list_any (shows (is_enabled V.mode)) items.now) (option_copied shown) }
     ensures carries { WithMeanings (λ meanings. (store : StoreState) → ShowsAlike store outside.old.desk.store → Carries (part_octets meanings) outside.old outside.new (fault_of result)
         pending.old pending.new (reply (parts_behind behind_others (map (item_parts meanings V.mode store one.now) items.now)))) }
     ensures desk { OnOk result (outside.new.desk ≡ outside.old.desk) }
     ensures keeps { Keeps outside.old outside.new (fault_of result) }
 {
-    let shown = shown_for::<V, W, J, C>(items, one.id, outside)?;
     let mut apart = behind_others;
     for item in items {
         push_space(pending, apart)?;
-        put_item::<V, W, J, C>(item, one, shown.as_ref(), pending, outside)?;
+        put_item::<V, W, J, C>(item, one, shown, pending, outside)?;
         apart = true;
     }
     Ok(())
@@ -276,7 +280,7 @@ impl<'a, V: Kind> Fetching<'a, V> {
         pending.push_slice(b")\r\n")
     }
 
-    // Tells all that was asked of a message.
+    // Asks for a message where an item is of it, and tells all that was asked of it.
     fn tell<W: Wire, J: Keeper, C: Clock>(
         &self,
         number: u32,
@@ -285,16 +289,19 @@ impl<'a, V: Kind> Fetching<'a, V> {
         pending: &mut Octets,
         outside: &mut Outside<W, J, C>,
     ) -> Result<(), Fault>
+        requires opens { IsOpen outside.old.desk }
         requires id { one.now.id < length outside.old.desk.store.kept.messages }
         requires seen { flags_changed ≡ true → list_any sets_seen_of self.now.items.now ≡ true }
         ensures carries { WithMeanings (λ meanings. (store : StoreState) → ShowsAlike store outside.old.desk.store → Carries (part_octets meanings) outside.old outside.new (fault_of result)
-            pending.old pending.new (reply (fetch_reply meanings V.mode store number one.now (with_flags flags_changed (with_uid self.now.by_uid self.now.items.now))))) }
-        ensures desk { OnOk result (outside.new.desk ≡ outside.old.desk) }
+            pending.old pending.new (fetch_told meanings V.mode store self.now.by_uid self.now.items.now number one.now flags_changed)) }
+        ensures store { OnOk result (outside.new.desk.store ≡ outside.old.desk.store) }
         ensures keeps { Keeps outside.old outside.new (fault_of result) }
     {
+        let shown = shown_for::<V, W, J, C>(self.items, one.id, outside)?;
         push_front(pending, number)?;
         let uid_first = self.push_uid_first(one, pending)?;
-        put_items::<V, W, J, C>(self.items, one, uid_first, pending, outside)?;
+        let shown = shown.as_ref();
+        put_items::<V, W, J, C>(self.items, one, shown, uid_first, pending, outside)?;
         self.push_end(one, flags_changed, pending)?;
         Ok(())
     }

@@ -1,14 +1,21 @@
-//! Laws of what APPEND puts into folders, of which commands change the store and how each is answered, and of the store behind a stream.
-ghost use Rattle.std.specs.Prelude.{◌≡◌, ◌≢◌, ◌⊎◌, ◌∷◌, [], ℕ, List, false, true};
+//! Laws of what APPEND puts into folders, of which commands change the store, which ask the cache and how each is answered, and of the store behind a stream.
+ghost use Rattle.std.specs.Prelude.{◌≡◌, ◌≢◌, ◌⊎◌, ◌∷◌, [], ℕ, List, Bool, false, true, map};
+ghost use Rattle.std.specs.List.{list_any};
+ghost use Rattle.kept_mail.specs.Kept.{listed};
 ghost use Rattle.mail_store.specs.Following.{records_of};
 ghost use Rattle.mail_store.specs.StoreState.{StoreState, with_records};
-ghost use Rattle.surrogate_cache.specs.Served.{Mode};
-ghost use Rattle.session_core.specs.Acts.{changes_in};
+ghost use Rattle.surrogate_cache.specs.Served.{Mode, enabled, legacy};
+ghost use Rattle.session_core.specs.Acts.{asked_in, changes_in};
 ghost use Rattle.session_core.specs.Meanings.{Meanings, TellsTrees};
 ghost use Rattle.session_core.specs.Turns.{all_turns};
 ghost use Rattle.imap_grammar.specs.declared.command.Command.{Command};
-ghost use Rattle.imap_session.specs.Answering.{EndsTagged, adds_to_store, changes_store};
-ghost use Rattle.imap_session.specs.Machine.{State, appended, completed, date_or, ended, not_authenticated, out_of_order, says, selected, step};
+ghost use Rattle.imap_grammar.specs.declared.command.Command.TheVariants as command_is;
+ghost use Rattle.imap_grammar.specs.declared.command.FetchItem.{FetchItem};
+ghost use Rattle.imap_grammar.specs.declared.command.Set.{Set};
+ghost use Rattle.imap_mailboxes.specs.Sets.{is_refused};
+ghost use Rattle.imap_session.specs.Answering.{EndsTagged, adds_to_store, asked_as, changes_store, is_fetch};
+ghost use Rattle.imap_session.specs.Items.{is_of_message};
+ghost use Rattle.imap_session.specs.Machine.{State, appended, chosen, completed, date_or, ended, mode_of, not_authenticated, out_of_order, says, selected, step};
 ghost use Rattle.imap_session.specs.Putting.{Cause, IsAuthenticated, IsPut, IsRefused, MayBePut, Said, append_of, put_step, words_of_cause};
 ghost use Rattle.imap_session.specs.Session.{Machine, next_turn};
 
@@ -51,4 +58,20 @@ pub fn each_command_is_answered()
 pub fn the_store_has_the_changes()
     ensures { (meanings : Meanings) (machine : Machine) (octets : List ℕ) → let turn = all_turns (next_turn meanings) machine octets in
         turn.after.store ≡ with_records machine.store (records_of (changes_in turn.parts)) }
+{}
+
+/// Only FETCH and UID FETCH ask the cache for messages, and no command does once UTF-8 is enabled. In a legacy session each message that is told
+/// is asked for once, in their order, where an item is of the message itself: flags, UID and date are kept beside it.
+pub fn only_fetch_asks_for_messages()
+    ensures others { (meanings : Meanings) (now tag : List ℕ) (state : State) (store : StoreState) (said : Command) → is_fetch said ≡ false
+        → asked_in (step meanings now state store tag said).acts ≡ [] }
+    ensures enabled { (meanings : Meanings) (now tag : List ℕ) (state : State) (store : StoreState) (said : Command) → mode_of state ≡ enabled
+        → asked_in (step meanings now state store tag said).acts ≡ [] }
+    ensures once { (meanings : Meanings) (now tag : List ℕ) (account folder : ℕ) (read_only : Bool) (store : StoreState) (by_uid : Bool) (set : Set) (items : List FetchItem)
+        → list_any is_of_message items ≡ true → is_refused by_uid set (listed store.kept folder) ≡ false
+        → asked_in (step meanings now (selected legacy account folder read_only) store tag (command_is.Fetch by_uid set items)).acts ≡ map (asked_as store) (chosen by_uid set (listed store.kept folder)) }
+    ensures beside { (meanings : Meanings) (now tag : List ℕ) (mode : Mode) (account folder : ℕ) (read_only : Bool) (store : StoreState) (by_uid : Bool) (set : Set) (items : List FetchItem)
+        → list_any is_of_message items ≡ false → asked_in (step meanings now (selected mode account folder read_only) store tag (command_is.Fetch by_uid set items)).acts ≡ [] }
+    ensures refused { (meanings : Meanings) (now tag : List ℕ) (mode : Mode) (account folder : ℕ) (read_only : Bool) (store : StoreState) (by_uid : Bool) (set : Set) (items : List FetchItem)
+        → is_refused by_uid set (listed store.kept folder) ≡ true → asked_in (step meanings now (selected mode account folder read_only) store tag (command_is.Fetch by_uid set items)).acts ≡ [] }
 {}

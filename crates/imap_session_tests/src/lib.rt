@@ -4,6 +4,8 @@
 #[cfg(test)]
 mod appending;
 #[cfg(test)]
+mod caching;
+#[cfg(test)]
 mod changing;
 #[cfg(test)]
 mod faults;

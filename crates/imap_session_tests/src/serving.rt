@@ -4,7 +4,7 @@ ghost use Rattle.session_core.specs.Desks.{IsOpen};
 use imap_session::ImapSession;
 use journal_records::{Record, push_record};
 use mail_wire::{Entry, Failure, Fault, FixedClock, MemKeeper, MemWire, Memory, Octets};
-use session_core::{Desk, LIMITS, Outside, feed, open_desk};
+use session_core::{Desk, Limits, Outside, feed, open_desk};
 use std::alloc::Global;
 use std::test::Fail;
 
@@ -30,6 +30,14 @@ pub const CAFE: &[u8] = b"Subject: caf\xc3\xa9 bar\r\n\r\nx\r\n";
 
 /// The record by which the first message is seen.
 pub const FIRST_SEEN: &[u8] = b"\0\0\0\x06\x05\0\0\0\0\x01";
+
+/// The limits of the program, but for a cache with room for two ropes: a desk is opened for each cut of a stream.
+pub const SMALL: Limits = Limits {
+    message_max: 33_554_432,
+    session_max: 1_073_741_824,
+    pool_blocks: 2,
+    cache_entries: 2,
+};
 
 const GREETING: &[u8] = b"* OK IMAP4rev1 ready\r\n";
 
@@ -152,7 +160,7 @@ pub fn outcome_of(
     failing: Failing,
 ) -> Result<Outcome, Fail> {
     let mut keeper = keeper_of(alloc, journal, Vec::new(alloc))?;
-    let desk = open_desk(alloc, &mut keeper, LIMITS)?;
+    let desk = open_desk(alloc, &mut keeper, SMALL)?;
     let mut keeper = keeper_of(alloc, journal, failures_of(alloc, failing.keep)?)?;
     let failures = failures_of(alloc, failing.give)?;
     let mut wire = MemWire::new(alloc, Octets::new(alloc), Vec::new(alloc), failures);

@@ -1,12 +1,12 @@
 -- What a command's words say, and what that leaves to the others.
-use Rattle.std.proofs.Common.{◌≡◌, ℕ, List, [], ◌∷◌, Option, Some, None, refl, sym, subst, ◌∙◌, inl, inr, codes}
+use Rattle.std.proofs.Common.{◌≡◌, ℕ, List, [], ◌∷◌, Option, refl, sym, subst, ◌∙◌, inl, inr, codes}
 use Rattle.mail_wire.specs.Telling.{Telling}
 use Rattle.mail_wire.proofs.Moving.{Gives-nil, GivesPrefix-nil}
 use Rattle.address_grammar.specs.declared.Address.{Address}
-use Rattle.mail_store.specs.Answers.{LeavesRecords}
 use Rattle.kept_mail.specs.Kept.{Kept}
 use Rattle.mail_store.specs.declared.changing.StoreFault.{StoreFault}
 use Rattle.journal_records.specs.declared.records.Record.{Record}
+use Rattle.session_core.proofs.CaughtLemmas.{left_alone}
 use Rattle.setup_command.specs.AddingRuns.{RunsAdding, Broken, InJournal}
 use Rattle.setup_command.specs.WordForms.{IsAccountCommand, IsDomainCommand}
 use Rattle.setup_command.proofs.FormLemmas.{account_once}
@@ -39,10 +39,6 @@ none_opens words none (OfSession role is) = none.session role is
 none_opens words none (OfAccount address password is) = none.account address password is
 none_opens words none (OfDomain name is) = none.domain name is
 none_opens words none (OfRelay host is) = none.relay host is
-
-pub left_alone : (octets : Option (List ℕ)) → LeavesRecords octets octets
-left_alone None = refl
-left_alone (Some octets) = inl refl
 
 -- memory was wanting for the words
 pub not_begun : (refusal : Kept → Option StoreFault) (one : Record) (octets : Option (List ℕ)) (a : Telling) → RunsAdding refusal one octets octets a a 3

@@ -1,8 +1,10 @@
 -- A connection that was served from the desk that was kept.
-use Rattle.std.proofs.Common.{◌≡◌, ℕ, List, [], ◌++◌, length, Option, None, Some, refl, sym, ap, subst, ◌∙◌}
+use Rattle.std.proofs.Common.{◌≡◌, ℕ, List, [], ◌++◌, length, Option, None, Some, Result, Ok, Err, refl, sym, ap, subst, ◌∙◌}
 use Rattle.std.specs.Prelude.{IfSome}
 use Rattle.std.proofs.lemmas.Option.{IfSome_then}
+use Rattle.mail_wire.proofs.KeeperLemmas.{HasKeeperCause-fine, KeepsOn-more, KeepsOn-of}
 use Rattle.mail_wire.specs.KeeperTelling.{KeeperTelling}
+use Rattle.mail_wire.specs.Keeping.{HasKeeperCause}
 use Rattle.mail_wire.specs.Telling.{Telling}
 use Rattle.mail_wire.specs.declared.outside.Fault.{Fault}
 use Rattle.mail_wire.specs.declared.outside.Fault.TheVariants as fault
@@ -13,16 +15,18 @@ use Rattle.mail_store.specs.Catching.{HasReadFirst}
 use Rattle.mail_store.specs.Changing.{IsStoreOf}
 use Rattle.mail_store.specs.Following.{records_of, Follows}
 use Rattle.mail_store.specs.StoreState.{StoreState}
+use Rattle.mail_store.specs.declared.opening.OpenFault.{OpenFault}
+use Rattle.mail_store.specs.declared.opening.OpenFault.TheVariants as faults
 use Rattle.mail_store.proofs.CatchLemmas.{behind_journal, end_changed}
 use Rattle.mail_store.proofs.FollowLemmas.{followed}
 use Rattle.session_core.specs.Acts.{Act, changes_in}
 use Rattle.session_core.specs.Around.{Around}
-use Rattle.session_core.specs.Desks.{HasFirst, IsOpen, WorksWithin}
+use Rattle.session_core.specs.Desks.{HasFirst, IsNextCache, IsOpen, WorksWithin}
 use Rattle.session_core.specs.Done.{IsDone}
-use Rattle.session_core.specs.Keeps.{Keeps}
+use Rattle.session_core.specs.Keeps.{Keeps, answer_of}
 use Rattle.session_core.specs.Protocol.{Protocol}
 use Rattle.session_core.specs.Served.{met_of}
-use Rattle.session_core.specs.Serving.{OfCourse, Serves, ServesBy, course_of}
+use Rattle.session_core.specs.Serving.{OfCourse, ServesBy, ServesFrom, course_of}
 use Rattle.session_core.specs.declared.desk.Desk.{Desk}
 use Rattle.session_core.specs.declared.desk.Limits.{Limits}
 use Rattle.session_core.specs.declared.serving.Served.{Served}
@@ -37,28 +41,34 @@ use Rattle.mail_command.proofs.SessionLemmas.{IsLent}
 -- ---- the session
 
 -- a desk that was readied, with what is lent to its session
-pub record IsReadied (before : Around) (kept : Option Desk) (limits : Limits) (old : Option (List ℕ)) : Type 0 where
-  pub opens : IfSome old (λ octets. HasFirst kept octets → OpensTo octets before.keeper.octets before.desk.store.kept)
-  pub place : IfSome before.keeper.octets (λ octets. before.desk.store.end ≡ length octets)
-  pub works : IsOpen before.desk
-  pub limits_are : before.desk.limits ≡ limits
+pub record IsReadied (begun : Around) (kept : Option Desk) (limits : Limits) (old : Option (List ℕ)) : Type 0 where
+  pub opens : IfSome old (λ octets. HasFirst kept octets → OpensTo octets begun.keeper.octets begun.desk.store.kept)
+  pub cache : IfSome old (λ octets. IsNextCache limits kept octets begun.desk.cache)
+  pub place : IfSome begun.keeper.octets (λ octets. begun.desk.store.end ≡ length octets)
+  pub works : IsOpen begun.desk
+  pub limits_are : begun.desk.limits ≡ limits
 
-pub served_next : (protocol : Protocol) (before now : Around) (reading : Option ℕ) (opened : KeeperTelling) (new : Option (List ℕ)) (a b : Telling) (kept : Option Desk) (limits : Limits) (old : Option (List ℕ))
-    (came : Served) → IsLent before reading opened a → IsReadied before kept limits old → ServesBy protocol before now came → now.keeper.octets ≡ new → now.wire ≡ b
-    → OfCourse protocol reading (λ course. ServesNext course kept limits old new a b came)
-served_next protocol before now reading opened new a b kept limits old came lent is serves has given =
-    rw (← lent.clock, ← has, ← lent.wire, ← given)
-    (with_course protocol before.clock (λ course. Serves course before.desk.store now.desk.store before.keeper.octets now.keeper.octets came limits.session_max before.wire now.wire)
-    (λ course. ServesNext course kept limits old now.keeper.octets before.wire now.wire came)
+pub served_next : (protocol : Protocol) (begun done : Around) (reading : Option ℕ) (opened : KeeperTelling) (new : Option (List ℕ)) (a b : Telling) (kept left : Option Desk) (limits : Limits)
+    (old : Option (List ℕ)) (came : Served) → IsLent begun reading opened a → IsReadied begun kept limits old → ServesBy protocol begun done came → done.keeper.octets ≡ new → done.wire ≡ b
+    → IfSome left (λ desk. desk ≡ done.desk) → OfCourse protocol reading (λ course. ServesNext course kept left limits old new a b came)
+served_next protocol begun done reading opened new a b kept left limits old came lent is serves has given left_is =
+    rw (← lent.clock)
+    (with_course protocol begun.clock (λ course. ServesFrom course begun done came)
+    (λ course. ServesNext course kept left limits old new a b came)
     (λ course does. record {
-      store = before.desk.store;
-      after = now.desk.store;
-      opened = before.keeper.octets;
+      begun = begun;
+      done = done;
       opens = is.opens;
+      cache = is.cache;
+      limits_are = is.limits_are;
       message_limit = is.works.agrees ∙ ap (λ (all : Limits). all.message_max) is.limits_are;
+      wire = lent.wire;
+      given = given;
+      keeper = has;
+      left_is = left_is;
       serves = does;
     })
-    (rw is.limits_are at serves))
+    serves)
 
 -- ---- the desk for the next one
 
@@ -79,7 +89,7 @@ put_by : (protocol : Protocol) (before now : Around) (came : Served) → ServesB
     → PutLast before.desk.store now.desk.store before.keeper.octets now.keeper.octets
 put_by protocol before now came serves fine =
     let course = course_of protocol meanings_given.0 (serves.told ++ []) in
-    let lawful = (serves.holds meanings_given.0 meanings_given.1 []).lawful in
+    let lawful = (serves.holds meanings_given.0 meanings_given.1 []).serves.lawful in
     put_last course.spelled before.desk.store now.desk.store before.keeper.octets now.keeper.octets (met_of came) _ _ fine lawful.done
 
 -- the store has what the keeper begins with, whatever comes behind that
@@ -105,6 +115,12 @@ pub goes_on : (protocol : Protocol) (before now : Around) (new : Option (List �
 goes_on protocol before now new kept limits old came left is serves fine has same =
     rw (same, ← has) (goes_by old before.keeper.octets now.keeper.octets kept before.desk.store now.desk is.opens is.place (put_by protocol before now came serves fine))
 
+-- no desk is kept
+pub goes_nowhere : (kept : Option Desk) (old new : Option (List ℕ)) → GoesOnFrom kept None old new
+goes_nowhere kept None new = tt
+goes_nowhere kept (Some had) None = λ first. tt
+goes_nowhere kept (Some had) (Some has) = λ first more. tt
+
 -- the keeper didn't break it off
 pub not_broken : (came : Served) → ¬ (came ≡ came_to.KeeperFault) → ¬ (met_of came ≡ Some fault.Keeper)
 not_broken came_to.Ended fine bad = cc
@@ -117,3 +133,10 @@ pub still_works : (before now : Around) (limits : Limits) (came : Served) (left 
     → ¬ (met_of came ≡ Some fault.Keeper) → left ≡ now.desk → WorksWithin limits left
 still_works before now limits came left works limits_are keeps fine same =
     rw same (WorksWithin-open limits now.desk (keeps.works fine works) (keeps.limits ∙ limits_are))
+
+-- a session's answer is no fault of the opening
+pub served_keeper : {T : Type 0} (begun done : Around) (reading : Option ℕ) (old opened new : KeeperTelling) (a : Telling) (desk : Desk) (came : Served) (result : Result T OpenFault) → IsLent begun reading opened a
+    → HasKeeperCause {E = OpenFault} old opened (Ok desk) faults.Keeper → Keeps begun done (met_of came) → done.keeper ≡ new → (result ≡ Err faults.Keeper → ⊥) → HasKeeperCause old new result faults.Keeper
+served_keeper begun done reading old opened new a desk came result lent opens keeps kept fine =
+    rw (← kept) (HasKeeperCause-fine old done.keeper result faults.Keeper (KeepsOn-more old begun.keeper done.keeper (answer_of (met_of came)) fault.Keeper
+    (KeepsOn-of {E = OpenFault} old begun.keeper (Ok desk) faults.Keeper (rw lent.keeper opens)) keeps.keeper) fine)

@@ -97,7 +97,7 @@ consumed input taken (Some xs) (Some ys) same is =
 pub limit_not_reached : (protocol : Protocol) (before now : Around) (input : List ℕ) → before.wire.left ≡ Some input → before.desk.limits ≡ LIMITS → length input < LIMITS.session_max
     → ServesBy protocol before now Limit → ⊥
 limit_not_reached protocol before now input left limits short serves =
-    let up_to = (serves.holds meanings_given.0 meanings_given.1 []).limit refl in
+    let up_to = (serves.holds meanings_given.0 meanings_given.1 []).serves.limit refl in
     let taken = consumed input (taken_of up_to.entries) before.wire.left now.wire.left left up_to.moves.left in
     let full = up_to.full in
     let most : before.desk.limits.session_max ≡ LIMITS.session_max = ap (λ (limits : Limits). limits.session_max) limits in

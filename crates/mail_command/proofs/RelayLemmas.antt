@@ -1,5 +1,5 @@
 -- What the command does that sends the queue on, exit by exit.
-use Rattle.std.proofs.Common.{◌≡◌, ◌≢◌, ℕ, List, [], Option, None, Some, Result, Ok, Err, refl, ap, inl, inr}
+use Rattle.std.proofs.Common.{◌≡◌, ◌≢◌, ◌⊎◌, ◌==◌, if◌then◌else◌, ℕ, Bool, true, false, List, [], Option, None, Some, Result, Ok, Err, refl, ap, inl, inr, arith}
 use Rattle.std.specs.Prelude.{IfOk, IfSome, codes}
 use Rattle.address_grammar.specs.declared.Address.{Address}
 use Rattle.journal_records.specs.declared.records.Record.{Record}
@@ -9,8 +9,12 @@ use Rattle.mail_store.specs.Following.{Follows}
 use Rattle.mail_store.specs.StoreState.{StoreState}
 use Rattle.mail_store.specs.declared.opening.OpenFault.{OpenFault}
 use Rattle.mail_store.specs.declared.opening.OpenFault.TheVariants as faults
+use Rattle.mail_wire.proofs.KeeperLemmas.{KeepsOn-more, KeepsOn-of}
 use Rattle.mail_wire.proofs.Moving.{Gives-nil}
 use Rattle.mail_wire.specs.KeeperTelling.{KeeperTelling}
+use Rattle.mail_wire.specs.Keeping.{HasKeeperCause}
+use Rattle.mail_wire.specs.Moves.{HasWireCause}
+use Rattle.mail_wire.specs.Telling.{Telling}
 use Rattle.mail_wire.specs.declared.outside.Entry.{Entry}
 use Rattle.mail_wire.specs.declared.outside.Fault.{Fault}
 use Rattle.mail_wire.specs.declared.outside.Fault.TheVariants as fault
@@ -21,6 +25,7 @@ use Rattle.relay_session.specs.Relaying.{AnswersRelay, EndsRun, HasLeftCause, Re
 use Rattle.relay_session.specs.declared.ends.LeftCause.{LeftCause}
 use Rattle.relay_session.specs.declared.ends.LeftCause.TheVariants as left_by
 use Rattle.relay_session.specs.declared.ends.RelayEnd.{RelayEnd}
+use Rattle.session_core.proofs.CaughtLemmas.{left_alone}
 use Rattle.session_core.proofs.MeaningLemmas.{meanings_given}
 use Rattle.session_core.specs.Around.{Around}
 use Rattle.session_core.specs.Desks.{IsOpen}
@@ -28,10 +33,9 @@ use Rattle.session_core.specs.declared.desk.Desk.{Desk}
 use Rattle.session_core.specs.declared.desk.Limits.{Limits}
 use Rattle.setup_command.proofs.AddingLemmas.{holds_by}
 use Rattle.setup_command.specs.AddingRuns.{TellsLine, TellsUnopened}
-use Rattle.setup_command.specs.Running.{BreaksSessionOff, OpensStore, place_line}
+use Rattle.setup_command.specs.Running.{BreaksSessionOff, HasStatusCause, OpensStore, place_line}
 use Rattle.setup_command.specs.Statuses.{status_of}
 use Rattle.mail_command.specs.RelayRuns.{Broken, InEnd, InJournal, InLine, InRelay, OutsideTelling, Relayed, RunsRelay, SendsQueue, Unopened, relay_line, relay_status}
-use Rattle.mail_command.proofs.CommandLemmas.{left_alone}
 use Rattle.mail_command.proofs.SessionLemmas.{quiet}
 
 -- ---- what the relay leaves in the journal
@@ -154,3 +158,49 @@ pub relay_told : (limits : Limits) (host : List ℕ) (before now : OutsideTellin
     → IsRelayed limits host before now opened desk after result → result ≡ Ok end → TellsLine before.wire now.wire told (relay_status end) (relay_line end) → RunsRelay limits host before now (status_of told)
 relay_told limits host before now opened desk after result end told is ended tells =
     told_by limits host before now end told (rw ended at (sends_queue limits host before now opened desk after result is)) tells
+
+-- ---- causes
+
+abbrev status_if : Bool → ℕ
+status_if is = if is then 0 else 8
+
+zero_or_eight : (is : Bool) → (status_if is ≡ 0) ⊎ (status_if is ≡ 8)
+zero_or_eight true = inl refl
+zero_or_eight false = inr refl
+
+no_fault : (status n : ℕ) → (status ≡ 0) ⊎ (status ≡ 8) → (n ≡ 1) ⊎ (n ≡ 2) → ¬ (status ≡ n)
+no_fault status n (inl is) (inl one) same = absurd (omega (arith, is, one, same))
+no_fault status n (inl is) (inr two) same = absurd (omega (arith, is, two, same))
+no_fault status n (inr is) (inl one) same = absurd (omega (arith, is, one, same))
+no_fault status n (inr is) (inr two) same = absurd (omega (arith, is, two, same))
+
+-- the line's status is no fault
+no_fault_told : (end : RelayEnd) (answer n : ℕ) → answer ≡ relay_status end → (n ≡ 1) ⊎ (n ≡ 2) → ¬ (answer ≡ n)
+no_fault_told end answer n told fault = rw told (no_fault (relay_status end) n (zero_or_eight (end.left == 0)) fault)
+
+wire_broke : (a b : Telling) (end : RelayEnd) (result : Result ℕ Fault) → TellsLine a b result (relay_status end) (relay_line end) → status_of result ≡ 1 → result ≡ Err fault.Wire
+wire_broke a b end (Ok answer) tells is = absurd (no_fault_told end answer 1 tells.1 (inl refl) is)
+wire_broke a b end (Err fault.Wire) tells is = refl
+wire_broke a b end (Err fault.Memory) tells is = absurd (omega (arith, is))
+wire_broke a b end (Err fault.Keeper) tells is = absurd tells
+
+keeper_held : (a b : Telling) (end : RelayEnd) (result : Result ℕ Fault) → TellsLine a b result (relay_status end) (relay_line end) → ¬ (status_of result ≡ 2)
+keeper_held a b end (Ok answer) tells is = no_fault_told end answer 2 tells.1 (inr refl) is
+keeper_held a b end (Err fault.Wire) tells is = absurd (omega (arith, is))
+keeper_held a b end (Err fault.Memory) tells is = absurd (omega (arith, is))
+keeper_held a b end (Err fault.Keeper) tells is = tells
+
+-- the causes of what was answered behind the line
+pub relay_cause : (a b : Telling) (old opened new : KeeperTelling) (first : Result Desk OpenFault) (relayed : Result RelayEnd Fault) (end : RelayEnd) (result : Result ℕ Fault)
+    → HasKeeperCause old opened first faults.Keeper → HasKeeperCause opened new relayed fault.Keeper → TellsLine a b result (relay_status end) (relay_line end) → HasWireCause a b result fault.Wire
+    → HasStatusCause a b old new (status_of result)
+relay_cause a b old opened new first relayed end result opens relays tells wire =
+    let keeps = KeepsOn-more old opened new relayed fault.Keeper (KeepsOn-of old opened first faults.Keeper opens) relays in
+    record {
+      later = wire.later;
+      wire_rose = λ is. wire.rose (wire_broke a b end result tells is);
+      wire_sure = λ sure. ((wire.sure sure).0, λ is. (wire.sure sure).1 (wire_broke a b end result tells is));
+      keeper_later = keeps.later;
+      keeper_rose = λ is. absurd (keeper_held a b end result tells is);
+      keeper_sure = λ sure. (keeps.sure sure, keeper_held a b end result tells);
+    }

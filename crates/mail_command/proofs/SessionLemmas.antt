@@ -19,7 +19,7 @@ use Rattle.session_core.specs.Desks.{IsOpen}
 use Rattle.session_core.specs.Keeps.{Keeps, answer_of}
 use Rattle.session_core.specs.Protocol.{Protocol}
 use Rattle.session_core.specs.Served.{met_of}
-use Rattle.session_core.specs.Serving.{Course, OfCourse, Serves, ServesBy, acts_for}
+use Rattle.session_core.specs.Serving.{Course, OfCourse, Serves, ServesBy, ServesFrom, acts_for}
 use Rattle.session_core.specs.declared.desk.Desk.{Desk}
 use Rattle.session_core.specs.declared.desk.Limits.{Limits}
 use Rattle.session_core.specs.declared.serving.Served.{Served}
@@ -105,11 +105,11 @@ pub served : (protocol : Protocol) (before now : Around) (reading : Option ℕ) 
     → OfCourse protocol reading (λ course. RunsSession course limits old new a b status)
 served protocol before now reading opened new a b limits old came status lent is serves kept given told =
     rw (told, ← lent.clock, ← kept, ← lent.wire, ← given)
-    (with_course protocol before.clock (λ course. Serves course before.desk.store now.desk.store before.keeper.octets now.keeper.octets came limits.session_max before.wire now.wire)
+    (with_course protocol before.clock (λ course. ServesFrom course before now came)
     (λ course. RunsSession course limits old now.keeper.octets before.wire now.wire (status_of_served came))
     (λ course does. served_by course limits old before.keeper.octets now.keeper.octets before.wire now.wire before.desk.store now.desk.store came is.leaves is.opens
-    (is.works.agrees ∙ ap (λ (all : Limits). all.message_max) is.limits_are) does)
-    (rw is.limits_are at serves))
+    (is.works.agrees ∙ ap (λ (all : Limits). all.message_max) is.limits_are) (rw is.limits_are at does.serves))
+    serves)
 
 -- ---- the answer is exact for the journal
 

@@ -29,7 +29,7 @@ pub fn serve_next<W: Wire, J: Keeper, C: Clock>(
 ) -> Result<(Served, Option<Desk>), OpenFault>
     requires { IfSome kept (WorksWithin LIMITS) }
     // The session works on the whole records that the journal has when it begins, whoever wrote them, from connection to connection.
-    ensures serves { IfOk result (λ came. OfCourse (protocol_for role) (C.tells clock.old) (λ course. ServesNext course kept LIMITS
+    ensures serves { IfOk result (λ came. OfCourse (protocol_for role) (C.tells clock.old) (λ course. ServesNext course kept came.1 LIMITS
         (J.tells keeper.old).octets (J.tells keeper.new).octets (W.tells wire.old) (W.tells wire.new) came.0)) }
     ensures goes_on { IfOk result (λ came. GoesOnFrom kept came.1 (J.tells keeper.old).octets (J.tells keeper.new).octets) }
     ensures kept { IfOk result (λ came. IfSome came.1 (WorksWithin LIMITS)) }

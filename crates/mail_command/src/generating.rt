@@ -95,21 +95,8 @@ fn append_message(
     }
 }
 
-// The sizes of a message that is stored, and of what a legacy client is shown.
-fn sizes_of(outside: &mut Outside<MemWire, MemKeeper, FixedClock>, id: u32) -> Result<Sizes, Memory>
-    requires { id < length outside.old.desk.store.kept.messages }
-    ensures sizes { IfOk result (AreSizes (stored_octets outside.old.desk.store id)) }
-    ensures same { outside.new ≡ outside.old }
-{
-    let shown = outside.show::<Legacy>(id)?;
-    let stored = outside.octets(id);
-    Ok(Sizes {
-        stored: stored.len(),
-        served: shown.size(stored),
-    })
-}
-
-// Puts a message last in a folder, and answers its sizes.
+// Puts a message last in a folder, and answers its size and that of what a legacy client is served.
+#[tactic(auto, using(crate::proofs::GeneratingLemmas::opens_still))]
 fn put_message(
     outside: &mut Outside<MemWire, MemKeeper, FixedClock>,
     folder: u32,
@@ -128,7 +115,11 @@ fn put_message(
     ensures folders { OnOk result (outside.new.desk.store.kept.folders ≡ outside.old.desk.store.kept.folders) }
 {
     let id = append_message(outside, folder, octets)?;
-    sizes_of(outside, id)
+    let served = outside.size::<Legacy>(id)?;
+    Ok(Sizes {
+        stored: octets.len(),
+        served,
+    })
 }
 
 // Puts so many messages last in the account's INBOX, and adds their sizes up.

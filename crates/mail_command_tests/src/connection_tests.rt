@@ -16,6 +16,7 @@ use std::io::{Read, Write};
 use std::net::{TcpListener, TcpStream};
 use std::test::Fail;
 use std::time::Duration;
+use surrogate_cache::Counts;
 use tcp_wire::TcpWire;
 
 // The words of a line.
@@ -158,6 +159,35 @@ fn a_connection_of_imap_sees_mail_and_pop_sees_it_go(rt: HostRuntime) -> Result<
                 .is_some_and(|front| front.ends_with(status))
         );
     }
+    Ok(())
+}
+
+// What the cache of a desk has counted.
+fn counts_of(kept: &Option<Desk>) -> Option<Counts> {
+    match kept {
+        Some(desk) => Some(desk.cache.counts()),
+        None => None,
+    }
+}
+
+const TELLS_SIZES: &[u8] =
+    b"a LOGIN ann@example.org pw\r\nb EXAMINE INBOX\r\nc FETCH 1:* RFC822.SIZE\r\nd LOGOUT\r\n";
+
+#[test]
+fn the_next_connection_has_the_cache_of_the_last_one(rt: HostRuntime) -> Result<(), Fail> {
+    let alloc = rt.alloc();
+    let mut keeper = keeper_of(alloc, JOURNAL, &[])?;
+    let (_, first, kept) = connect(alloc, Role::Pop, None, LEGACY, &mut keeper)?;
+    assert!(rt; counts_of(&kept) == Some(Counts { built: 1, hits: 1 }));
+    let (_, second, kept) = connect(alloc, Role::Pop, kept, LEGACY, &mut keeper)?;
+    assert!(rt; counts_of(&kept) == Some(Counts { built: 1, hits: 3 }));
+    assert!(rt; second.as_slice() == first.as_slice());
+    // Another program delivers a message, for which the desk catches up.
+    let (_, _, _smtp) = connect(alloc, Role::Smtp, None, SENDS, &mut keeper)?;
+    let (_, _, kept) = connect(alloc, Role::Imap, kept, TELLS_SIZES, &mut keeper)?;
+    assert!(rt; counts_of(&kept) == Some(Counts { built: 2, hits: 4 }));
+    let (_, _, kept) = connect(alloc, Role::Imap, kept, TELLS_SIZES, &mut keeper)?;
+    assert!(rt; counts_of(&kept) == Some(Counts { built: 2, hits: 6 }));
     Ok(())
 }
 

@@ -13,3 +13,5 @@ pub mod MarkLemmas
 pub mod StoreLemmas
 pub mod RunLemmas
 pub mod StoredReplies
+pub mod AskLemmas
+pub mod AskedLemmas

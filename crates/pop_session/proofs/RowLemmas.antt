@@ -6,28 +6,32 @@ use Rattle.std.proofs.Math.Nat.{min-eq_left}
 use Rattle.std.proofs.lemmas.Bool.Decides.{nat_tests}
 use Rattle.std.proofs.lemmas.List.Elements.{All-nil}
 use Rattle.std.proofs.lemmas.Option.{slice_get_past, slice_get_within}
+use Rattle.mail_wire.specs.Numbers.{number_of}
 use Rattle.mail_wire.specs.declared.outside.Fault.{Fault}
 use Rattle.mail_wire.specs.declared.outside.Fault.TheVariants as fault
 use Rattle.mail_store.specs.Following.{records_of}
 use Rattle.kept_mail.specs.Kept.{change_at}
 use Rattle.mail_store.specs.StoreState.{StoreState, with_records}
 use Rattle.kept_mail.specs.declared.kept.Listed.{Listed}
-use Rattle.session_core.proofs.DoneLemmas.{changes_in-acts}
+use Rattle.session_core.proofs.DoneLemmas.{changes_in-acts, changes_in-asking}
+use Rattle.surrogate_cache.specs.Caching.{Asked}
 use Rattle.surrogate_cache.specs.Served.{Mode}
 use Rattle.session_core.specs.Around.{Around}
-use Rattle.session_core.specs.Doing.{Does, Replies}
+use Rattle.session_core.specs.Acts.{asking}
+use Rattle.session_core.specs.Doing.{AsksAndReplies, Does, Replies}
 use Rattle.session_core.specs.Grammar.{Answers, AnswersBy, StandsNext}
 use Rattle.session_core.specs.Keeps.{fault_of}
 use Rattle.session_core.specs.Meanings.{Meanings, WithMeanings}
 use Rattle.session_core.specs.Moments.{Moment, IsTold}
-use Rattle.session_core.proofs.DoingLemmas.{Does-replies, DoesFirst-none}
+use Rattle.session_core.proofs.AskingLemmas.{AsksAndReplies-replies, Does-asked_reply}
+use Rattle.session_core.proofs.DoingLemmas.{DoesFirst-none}
 use Rattle.pop_session.specs.declared.command.Keyword.{Keyword}
 use Rattle.pop_session.specs.declared.command.Keyword.TheVariants as keyword
 use Rattle.pop_session.specs.declared.command.TopNumbers.{TopNumbers}
 use Rattle.pop_session.specs.declared.states.MaildropMessage.{MaildropMessage}
 use Rattle.pop_session.specs.declared.states.PopState.{PopState}
 use Rattle.pop_session.specs.Commands.{command_of}
-use Rattle.pop_session.specs.Machine.{ReplyPart, Step, acts_in, answers, dele_step, done, marked, unless_deleted, with_deleted, listed_at, no_such_message, of_top, transaction, transaction_step, transaction_reply, step}
+use Rattle.pop_session.specs.Machine.{ReplyPart, Step, acts_in, answers, asked_of, dele_step, done, marked, unless_deleted, with_deleted, listed_at, no_such_message, out_of_order, syntax_error, transaction_asks, transaction, transaction_step, transaction_reply, step}
 use Rattle.pop_session.specs.Replies.{part_octets, reply_octets}
 use Rattle.pop_session.specs.Session.{PopStands, TakesStep, after_step, pop_grammar}
 use Rattle.pop_session.specs.States.{KnowsState, state_of, state_or_ended}
@@ -62,32 +66,45 @@ transaction_step-other meanings mode maildrop store keyword.Other argument is = 
 
 -- ---- steps that were carried out
 
--- a reply, and nothing is changed
-pub takes_reply : (a b : Around) (result : Result (Option PopState) Fault) (taken : Meanings → Step) → ((meanings : Meanings) → (taken meanings).changes ≡ [])
-    → WithMeanings (λ meanings. Replies a b (fault_of result) (reply_octets meanings (taken meanings).reply)) → WithMeanings (λ meanings. IfOk result (λ next. state_or_ended next ≡ (taken meanings).state))
-    → IfOk result (λ next. KnowsState b.desk.store (state_or_ended next)) → TakesStep a b result taken
-takes_reply a b result taken none replies next known = record {
-  does = λ meanings are. rw (none meanings) (Does-replies (part_octets meanings) a b (fault_of result) (taken meanings).reply (replies meanings are));
+-- messages that are asked for, and a reply, and nothing is changed
+pub takes_asking : (a b : Around) (result : Result (Option PopState) Fault) (asked : List Asked) (taken : Meanings → Step) → ((meanings : Meanings) → (taken meanings).changes ≡ [])
+    → WithMeanings (λ meanings. AsksAndReplies a b (fault_of result) asked (reply_octets meanings (taken meanings).reply)) → WithMeanings (λ meanings. IfOk result (λ next. state_or_ended next ≡ (taken meanings).state))
+    → IfOk result (λ next. KnowsState b.desk.store (state_or_ended next)) → TakesStep a b result asked taken
+takes_asking a b result asked taken none replies next known = record {
+  does = λ meanings are. rw (none meanings) (Does-asked_reply (part_octets meanings) a b (fault_of result) asked (taken meanings).reply (replies meanings are));
   next = next;
   known = known;
 }
 
+-- or a fault in them
+pub takes_failed_asking : (a b : Around) (met : Fault) (asked : List Asked) (taken : Meanings → Step) → ((meanings : Meanings) → (taken meanings).changes ≡ [])
+    → WithMeanings (λ meanings. AsksAndReplies a b (Some met) asked (reply_octets meanings (taken meanings).reply)) → TakesStep a b (Err met) asked taken
+takes_failed_asking a b met asked taken none replies = takes_asking a b (Err met) asked taken none replies (λ meanings are. tt) tt
+
+-- a reply alone
+pub takes_reply : (a b : Around) (result : Result (Option PopState) Fault) (taken : Meanings → Step) → ((meanings : Meanings) → (taken meanings).changes ≡ [])
+    → WithMeanings (λ meanings. Replies a b (fault_of result) (reply_octets meanings (taken meanings).reply)) → WithMeanings (λ meanings. IfOk result (λ next. state_or_ended next ≡ (taken meanings).state))
+    → IfOk result (λ next. KnowsState b.desk.store (state_or_ended next)) → TakesStep a b result [] taken
+takes_reply a b result taken none replies next known =
+    takes_asking a b result [] taken none (λ meanings are. AsksAndReplies-replies a b (fault_of result) (reply_octets meanings (taken meanings).reply) (replies meanings are)) next known
+
 -- or a fault in it
 pub takes_failed : (a b : Around) (met : Fault) (taken : Meanings → Step) → ((meanings : Meanings) → (taken meanings).changes ≡ [])
-    → WithMeanings (λ meanings. Replies a b (Some met) (reply_octets meanings (taken meanings).reply)) → TakesStep a b (Err met) taken
+    → WithMeanings (λ meanings. Replies a b (Some met) (reply_octets meanings (taken meanings).reply)) → TakesStep a b (Err met) [] taken
 takes_failed a b met taken none replies = takes_reply a b (Err met) taken none replies (λ meanings are. tt) tt
 
 -- a fault before it
-pub takes_stop : (a : Around) (met : Fault) (taken : Meanings → Step) → (met ≡ fault.Keeper → ⊥) → TakesStep a a (Err met) taken
-takes_stop a met taken fine = record {
-  does = λ meanings are. DoesFirst-none (part_octets meanings) a met (acts_in (taken meanings)) fine;
+pub takes_stop : (a : Around) (met : Fault) (asked : List Asked) (taken : Meanings → Step) → (met ≡ fault.Keeper → ⊥) → TakesStep a a (Err met) asked taken
+takes_stop a met asked taken fine = record {
+  does = λ meanings are. DoesFirst-none (part_octets meanings) a met (asking asked (acts_in (taken meanings))) fine;
   next = λ meanings are. tt;
   known = tt;
 }
 
 -- the same of a step that is told otherwise
-pub takes_as : (a b : Around) (result : Result (Option PopState) Fault) (taken other : Meanings → Step) → ((meanings : Meanings) → other meanings ≡ taken meanings) → TakesStep a b result taken → TakesStep a b result other
-takes_as a b result taken other same takes = record {
+pub takes_as : (a b : Around) (result : Result (Option PopState) Fault) (asked : List Asked) (taken other : Meanings → Step) → ((meanings : Meanings) → other meanings ≡ taken meanings) → TakesStep a b result asked taken
+    → TakesStep a b result asked other
+takes_as a b result asked taken other same takes = record {
   does = λ meanings are. rw (same meanings) (takes.does meanings are);
   next = λ meanings are. rw (same meanings) (takes.next meanings are);
   known = takes.known;
@@ -99,24 +116,101 @@ stands_behind : (a b : Around) (found : Option PopState) (taken : Step) (more : 
 stands_behind a b None taken more next store = rw (← next) refl
 stands_behind a b (Some session) taken more next store = rw (← next, ← store) refl
 
-row_done : (meanings : Meanings) (a b : Around) (result : Result (Option PopState) Fault) (more : List Moment) (taken : Step) → Does (part_octets meanings) a b (fault_of result) (acts_in taken)
-    → IfOk result (λ next. state_or_ended next ≡ taken.state)
-    → AnswersBy pop_grammar PopStands meanings a b result more (record { acts = acts_in taken; after = after_step a.desk.store taken })
-row_done meanings a b (Ok found) more taken does next =
-    record { does = does; next = stands_behind a b found taken more next (rw (changes_in-acts {P = ReplyPart} taken.changes taken.reply) at does.follows.store) }
-row_done meanings a b (Err met) more taken does next = record { does = does; next = tt }
+row_done : (meanings : Meanings) (a b : Around) (result : Result (Option PopState) Fault) (more : List Moment) (asked : List Asked) (taken : Step)
+    → Does (part_octets meanings) a b (fault_of result) (asking asked (acts_in taken)) → IfOk result (λ next. state_or_ended next ≡ taken.state)
+    → AnswersBy pop_grammar PopStands meanings a b result more (record { acts = asking asked (acts_in taken); after = after_step a.desk.store taken })
+row_done meanings a b (Ok found) more asked taken does next = record {
+  does = does;
+  next = stands_behind a b found taken more next (rw (changes_in-asking {P = ReplyPart} asked (acts_in taken), changes_in-acts {P = ReplyPart} taken.changes taken.reply) at does.follows.store);
+}
+row_done meanings a b (Err met) more asked taken does next = record { does = does; next = tt }
 
 -- the step of a line is its row
 pub answers_step : (a b : Around) (session : PopState) (text : List ℕ) (result : Result (Option PopState) Fault)
-    → TakesStep a b result (λ meanings. step meanings (state_of session) a.desk.store (command_of text)) → Answers pop_grammar PopStands a b session text result
+    → TakesStep a b result (asked_of (state_of session) a.desk.store (command_of text)) (λ meanings. step meanings (state_of session) a.desk.store (command_of text))
+    → Answers pop_grammar PopStands a b session text result
 answers_step a b session text result takes = record {
   told = [];
   are_told = All-nil (IsTold a.clock);
   answers = λ meanings are more machine stood.
-      rw stood (row_done meanings a b result more (step meanings (state_of session) a.desk.store (command_of text)) (takes.does meanings are) (takes.next meanings are));
+      rw stood (row_done meanings a b result more (asked_of (state_of session) a.desk.store (command_of text)) (step meanings (state_of session) a.desk.store (command_of text))
+      (takes.does meanings are) (takes.next meanings are));
 }
 
--- ---- TRANSACTION
+-- ---- rows that leave the state
+
+-- what was done of one
+abbrev pub DoesRow : Meanings → Mode → List MaildropMessage → Around → Around → Option Fault → Keyword → Option (List ℕ) → Type 0
+DoesRow meanings mode maildrop a b met word argument =
+    AsksAndReplies a b met (transaction_asks mode maildrop a.desk.store word argument) (reply_octets meanings (transaction_reply meanings mode maildrop a.desk.store word argument))
+
+-- the commands of AUTHORIZATION alone
+abbrev pub IsOfAuthorization : Keyword → Type 0
+IsOfAuthorization word = (word ≡ keyword.User) ⊎ (word ≡ keyword.Pass) ⊎ (word ≡ keyword.Utf8)
+
+pub row_out_of_order : (meanings : Meanings) (mode : Mode) (maildrop : List MaildropMessage) (a b : Around) (met : Option Fault) (word : Keyword) (argument : Option (List ℕ)) → IsOfAuthorization word
+    → Replies a b met (reply_octets meanings out_of_order) → DoesRow meanings mode maildrop a b met word argument
+row_out_of_order meanings mode maildrop a b met word argument (inl is) replies = rw is (AsksAndReplies-replies a b met (reply_octets meanings out_of_order) replies)
+row_out_of_order meanings mode maildrop a b met word argument (inr (inl is)) replies = rw is (AsksAndReplies-replies a b met (reply_octets meanings out_of_order) replies)
+row_out_of_order meanings mode maildrop a b met word argument (inr (inr is)) replies = rw is (AsksAndReplies-replies a b met (reply_octets meanings out_of_order) replies)
+
+-- ---- LIST, UIDL and RETR of one message
+
+abbrev pub NamesOne : Keyword → Type 0
+NamesOne word = (word ≡ keyword.List) ⊎ (word ≡ keyword.Uidl) ⊎ (word ≡ keyword.Retr)
+
+-- the text is no number
+pub one_unread : (meanings : Meanings) (mode : Mode) (maildrop : List MaildropMessage) (a b : Around) (met : Option Fault) (word : Keyword) (text : List ℕ) → NamesOne word → number_of text ≡ None
+    → Replies a b met (reply_octets meanings syntax_error) → DoesRow meanings mode maildrop a b met word (Some text)
+one_unread meanings mode maildrop a b met word text (inl is) none replies = rw (is, none) (AsksAndReplies-replies a b met (reply_octets meanings syntax_error) replies)
+one_unread meanings mode maildrop a b met word text (inr (inl is)) none replies = rw is (rw none (AsksAndReplies-replies a b met (reply_octets meanings syntax_error) replies))
+one_unread meanings mode maildrop a b met word text (inr (inr is)) none replies = rw (is, none) (AsksAndReplies-replies a b met (reply_octets meanings syntax_error) replies)
+
+-- there is no such message
+pub one_missing : (meanings : Meanings) (mode : Mode) (maildrop : List MaildropMessage) (a b : Around) (met : Option Fault) (word : Keyword) (text : List ℕ) (n : ℕ) → NamesOne word → number_of text ≡ Some n
+    → listed_at maildrop n ≡ None → Replies a b met (reply_octets meanings no_such_message) → DoesRow meanings mode maildrop a b met word (Some text)
+one_missing meanings mode maildrop a b met word text n (inl is) number none replies = rw (is, number, none) (AsksAndReplies-replies a b met (reply_octets meanings no_such_message) replies)
+one_missing meanings mode maildrop a b met word text n (inr (inl is)) number none replies = rw is (rw (number, none) (AsksAndReplies-replies a b met (reply_octets meanings no_such_message) replies))
+one_missing meanings mode maildrop a b met word text n (inr (inr is)) number none replies = rw (is, number, none) (AsksAndReplies-replies a b met (reply_octets meanings no_such_message) replies)
+
+-- ---- rows without a reply of their own
+
+-- the row has one
+abbrev pub has_reply : Keyword → Option (List ℕ) → Bool
+has_reply keyword.User argument = true
+has_reply keyword.Pass argument = true
+has_reply keyword.Utf8 argument = true
+has_reply keyword.Capa None = true
+has_reply keyword.Noop None = true
+has_reply keyword.Stat None = true
+has_reply keyword.List argument = true
+has_reply keyword.Uidl argument = true
+has_reply keyword.Retr (Some text) = true
+has_reply keyword.Top (Some text) = true
+has_reply word argument = false
+
+-- else it is a syntax error
+pub no_reply : (meanings : Meanings) (mode : Mode) (maildrop : List MaildropMessage) (a b : Around) (met : Option Fault) (word : Keyword) (argument : Option (List ℕ)) → has_reply word argument ≡ false
+    → Replies a b met (reply_octets meanings syntax_error) → DoesRow meanings mode maildrop a b met word argument
+no_reply meanings mode maildrop a b met keyword.Capa None none replies = cc
+no_reply meanings mode maildrop a b met keyword.Capa (Some text) none replies = AsksAndReplies-replies a b met (reply_octets meanings syntax_error) replies
+no_reply meanings mode maildrop a b met keyword.Utf8 argument none replies = cc
+no_reply meanings mode maildrop a b met keyword.User argument none replies = cc
+no_reply meanings mode maildrop a b met keyword.Pass argument none replies = cc
+no_reply meanings mode maildrop a b met keyword.Quit argument none replies = AsksAndReplies-replies a b met (reply_octets meanings syntax_error) replies
+no_reply meanings mode maildrop a b met keyword.Stat None none replies = cc
+no_reply meanings mode maildrop a b met keyword.Stat (Some text) none replies = AsksAndReplies-replies a b met (reply_octets meanings syntax_error) replies
+no_reply meanings mode maildrop a b met keyword.List argument none replies = cc
+no_reply meanings mode maildrop a b met keyword.Uidl argument none replies = cc
+no_reply meanings mode maildrop a b met keyword.Retr None none replies = AsksAndReplies-replies a b met (reply_octets meanings syntax_error) replies
+no_reply meanings mode maildrop a b met keyword.Retr (Some text) none replies = cc
+no_reply meanings mode maildrop a b met keyword.Top None none replies = AsksAndReplies-replies a b met (reply_octets meanings syntax_error) replies
+no_reply meanings mode maildrop a b met keyword.Top (Some text) none replies = cc
+no_reply meanings mode maildrop a b met keyword.Dele argument none replies = AsksAndReplies-replies a b met (reply_octets meanings syntax_error) replies
+no_reply meanings mode maildrop a b met keyword.Rset argument none replies = AsksAndReplies-replies a b met (reply_octets meanings syntax_error) replies
+no_reply meanings mode maildrop a b met keyword.Noop None none replies = cc
+no_reply meanings mode maildrop a b met keyword.Noop (Some text) none replies = AsksAndReplies-replies a b met (reply_octets meanings syntax_error) replies
+no_reply meanings mode maildrop a b met keyword.Other argument none replies = AsksAndReplies-replies a b met (reply_octets meanings syntax_error) replies
 
 -- ---- TOP
 
@@ -143,14 +237,23 @@ capped_at maildrop n small = capped_by maildrop n small (at_most n (2 ^ 64 - 1))
 same_numbers : (numbers n : TopNumbers) → Some numbers ≡ Some (saturated n) → numbers ≡ saturated n
 same_numbers numbers n h = cc
 
+-- TOP whose numbers aren't read
+pub top-unread : (found : Option TopNumbers) → None ≡ option_map saturated found → found ≡ None
+top-unread None is = refl
+top-unread (Some n) is = cc
+
 -- TOP of a message that isn't there
-pub top-missing : (row : ℕ → ℕ → Listed → List ReplyPart) (maildrop : List MaildropMessage) (found : Option TopNumbers) (numbers : TopNumbers) → length maildrop * 16 < 9223372036854775808
-    → Some numbers ≡ option_map saturated found → None ≡ listed_at maildrop numbers.number → of_top row maildrop found ≡ no_such_message
-top-missing row maildrop None numbers small is missing = cc
-top-missing row maildrop (Some n) numbers small is missing =
+pub record TopMissing (maildrop : List MaildropMessage) (found : Option TopNumbers) : Type 0 where
+  pub written : TopNumbers
+  pub found_is : found ≡ Some written
+  pub message : listed_at maildrop written.number ≡ None
+
+pub top-missing : (maildrop : List MaildropMessage) (found : Option TopNumbers) (numbers : TopNumbers) → length maildrop * 16 < 9223372036854775808
+    → Some numbers ≡ option_map saturated found → None ≡ listed_at maildrop numbers.number → TopMissing maildrop found
+top-missing maildrop None numbers small is missing = cc
+top-missing maildrop (Some n) numbers small is missing =
     let number = ap (λ (t : TopNumbers). t.number) (same_numbers numbers n is) in
-    let none : listed_at maildrop n.number ≡ None = sym (capped_at maildrop n.number small) ∙ ap (listed_at maildrop) (sym number) ∙ sym missing in
-    rw none refl
+    record { written = n; found_is = refl; message = sym (capped_at maildrop n.number small) ∙ ap (listed_at maildrop) (sym number) ∙ sym missing }
 
 -- the message that TOP was asked for, and its two numbers as they were written
 pub record TopFound (maildrop : List MaildropMessage) (found : Option TopNumbers) (numbers : TopNumbers) (one : Listed) : Type 0 where

@@ -1,15 +1,21 @@
--- What the commands of a session come to, one after another: which mode it is in, and which messages are marked.
-use Rattle.std.specs.Prelude.{◌≡◌, ℕ, zero, suc, ◌==◌, ◌||◌, List, [], ◌∷◌, Bool, true, false, Option, None, Some, length}
+-- What the commands of a session come to, one after another: which mode it is in, which messages are marked, and which are asked for.
+use Rattle.std.specs.Prelude.{◌≡◌, ℕ, zero, suc, ◌==◌, ◌||◌, ◌⊎◌, List, [], ◌∷◌, ◌++◌, Bool, true, false, Option, None, Some, length, codes}
+use Rattle.std.specs.List.{AllByRecursion}
+use Rattle.std.specs.Option.{option_map}
 use Rattle.mail_wire.specs.Framing.{Framed, waiting, whole, too_long, next_line}
 use Rattle.kept_mail.specs.declared.kept.Listed.{Listed}
+use Rattle.mail_store.specs.StoreState.{StoreState}
+use Rattle.surrogate_cache.specs.Caching.{Asked}
 use Rattle.surrogate_cache.specs.Served.{Mode, enabled}
+use Rattle.session_core.specs.Desks.{stored_octets}
 use Rattle.session_core.specs.Meanings.{Meanings}
 use Rattle.pop_session.specs.declared.command.Keyword.{Keyword}
 use Rattle.pop_session.specs.declared.command.Keyword.TheVariants as keyword
 use Rattle.pop_session.specs.declared.states.MaildropMessage.{MaildropMessage}
-use Rattle.pop_session.specs.Commands.{Command, command_of}
+use Rattle.pop_session.specs.declared.command.TopNumbers.{TopNumbers}
+use Rattle.pop_session.specs.Commands.{Command, command_of, top_numbers_of}
 use Rattle.mail_wire.specs.Numbers.{number_of}
-use Rattle.pop_session.specs.Machine.{State, authorization, transaction, ended, listed_at, step}
+use Rattle.pop_session.specs.Machine.{ReplyPart, says, State, authorization, transaction, ended, listed_at, asked_of, step}
 use Rattle.pop_session.specs.Session.{Machine, after_step}
 
 -- ---- the commands that are done
@@ -110,3 +116,29 @@ abbrev pub IsMarked : Mode → List Listed → List ℕ → State → Type 0
 IsMarked mode listing marks (authorization is user) = ⊥
 IsMarked mode listing marks (transaction is maildrop) = (is ≡ mode) × (maildrop ≡ with_marks 1 marks listing)
 IsMarked mode listing marks ended = Unit {0}
+
+-- ---- the messages that are asked for
+
+-- the messages that these commands ask for, in their order
+abbrev pub asked_by_commands : Meanings → Machine → List Command → List Asked
+asked_by_commands meanings machine [] = []
+asked_by_commands meanings machine (command ∷ commands) =
+    asked_of machine.state machine.store command ++ asked_by_commands meanings (after_command meanings machine command) commands
+
+-- STAT, or LIST of all messages
+abbrev pub TellsSizes : Command → Type 0
+TellsSizes command = ((command.keyword ≡ keyword.Stat) ⊎ (command.keyword ≡ keyword.List)) × (command.argument ≡ None)
+
+-- the number in LIST, RETR or TOP of one message
+abbrev pub number_in : Keyword → Option (List ℕ) → Option ℕ
+number_in keyword.List (Some text) = number_of text
+number_in keyword.Retr (Some text) = number_of text
+number_in keyword.Top (Some text) = option_map (λ (numbers : TopNumbers). numbers.number) (top_numbers_of text)
+number_in word argument = None
+
+abbrev pub IsRefused : List ReplyPart → Type 0
+IsRefused reply = (text : List ℕ) × (reply ≡ says (codes "-ERR " ++ text))
+
+-- each message is asked for with the octets that the store has under its number
+abbrev pub AreInStore : StoreState → List Asked → Type 0
+AreInStore store asked = AllByRecursion (λ (one : Asked). one.octets ≡ stored_octets store one.id) asked

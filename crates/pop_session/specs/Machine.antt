@@ -1,5 +1,6 @@
 -- The POP3 machine (RFC 1939, 4 to 6; RFC 6856, 2).
 use Rattle.std.specs.Prelude.{ℕ, Bool, true, false, zero, suc, ◌+◌, ◌++◌, List, [], ◌∷◌, Option, None, Some, length, codes, map, take, slice_get, sum_by, option_and_then, if◌then◌else◌}
+use Rattle.std.specs.List.{flat_map}
 use Rattle.std.specs.Str.{bytes_eq}
 use Rattle.std.specs.Fmt.{decimal}
 use Rattle.std.specs.Option.{option_map_or}
@@ -10,6 +11,7 @@ use Rattle.mail_store.specs.Changing.{expunged}
 use Rattle.kept_mail.specs.Kept.{Kept, change_at, logged_in, inbox_of, listed}
 use Rattle.mail_store.specs.StoreState.{StoreState}
 use Rattle.journal_records.specs.declared.records.Record.{Record}
+use Rattle.surrogate_cache.specs.Caching.{Asked, asked_by}
 use Rattle.surrogate_cache.specs.Served.{Mode, enabled, served_by}
 use Rattle.session_core.specs.Meanings.{Meanings}
 use Rattle.pop_session.specs.declared.command.Keyword.{Keyword}
@@ -270,3 +272,43 @@ unfoldable pub step : Meanings → State → StoreState → Command → Step
 step meanings (authorization mode user) store command = authorization_step meanings mode user store command.keyword command.argument
 step meanings (transaction mode maildrop) store command = transaction_step meanings mode maildrop store command.keyword command.argument
 step meanings ended store command = answers [] ended
+
+-- ---- what a command asks its cache for
+
+-- what a legacy session is shown of a message, or told of its size, comes through the cache
+abbrev pub asked_for : Mode → StoreState → Listed → List Asked
+asked_for mode store one = asked_by mode one.id (listed_octets store one)
+
+-- the messages that aren't marked, in their order
+abbrev pub asked_for_left : Mode → StoreState → List MaildropMessage → List Asked
+asked_for_left mode store maildrop = flat_map (asked_for mode store) (left_of maildrop)
+
+-- a message, if it was found
+abbrev pub asked_for_found : Mode → StoreState → Option Listed → List Asked
+asked_for_found mode store None = []
+asked_for_found mode store (Some one) = asked_for mode store one
+
+-- the message of a number, where the argument is one
+abbrev pub asked_for_number : Mode → StoreState → List MaildropMessage → Option ℕ → List Asked
+asked_for_number mode store maildrop None = []
+asked_for_number mode store maildrop (Some number) = asked_for_found mode store (listed_at maildrop number)
+
+-- the message of TOP
+abbrev pub asked_for_top : Mode → StoreState → List MaildropMessage → Option TopNumbers → List Asked
+asked_for_top mode store maildrop None = []
+asked_for_top mode store maildrop (Some numbers) = asked_for_found mode store (listed_at maildrop numbers.number)
+
+-- the rows of TRANSACTION: the messages whose sizes are added up or listed, and the one that is shown
+abbrev pub transaction_asks : Mode → List MaildropMessage → StoreState → Keyword → Option (List ℕ) → List Asked
+transaction_asks mode maildrop store keyword.Stat None = asked_for_left mode store maildrop
+transaction_asks mode maildrop store keyword.List None = asked_for_left mode store maildrop
+transaction_asks mode maildrop store keyword.List (Some number) = asked_for_number mode store maildrop (number_of number)
+transaction_asks mode maildrop store keyword.Retr (Some number) = asked_for_number mode store maildrop (number_of number)
+transaction_asks mode maildrop store keyword.Top (Some numbers) = asked_for_top mode store maildrop (top_numbers_of numbers)
+transaction_asks mode maildrop store keyword argument = []
+
+-- one command
+unfoldable pub asked_of : State → StoreState → Command → List Asked
+asked_of (authorization mode user) store command = []
+asked_of (transaction mode maildrop) store command = transaction_asks mode maildrop store command.keyword command.argument
+asked_of ended store command = []

@@ -12,7 +12,7 @@ use Rattle.mail_store.specs.Following.{records_of}
 use Rattle.kept_mail.specs.Kept.{logged_in}
 use Rattle.mail_store.specs.StoreState.{StoreState, AreStored, with_records}
 use Rattle.kept_mail.specs.declared.kept.Listed.{Listed}
-use Rattle.session_core.proofs.FitLemmas.{fit_acts}
+use Rattle.session_core.proofs.FitLemmas.{fit_acts, fit_asking}
 use Rattle.surrogate_cache.specs.Served.{Mode, legacy, enabled}
 use Rattle.session_core.specs.Desks.{IsOpen}
 use Rattle.session_core.specs.FramedLaws.{LongRowsFit, RowsFit}
@@ -30,7 +30,7 @@ use Rattle.pop_session.specs.declared.command.Keyword.TheVariants as keyword
 use Rattle.pop_session.specs.declared.command.TopNumbers.{TopNumbers}
 use Rattle.pop_session.specs.Commands.{Command, command_of, top_numbers_of}
 use Rattle.pop_session.specs.History.{IsQuit}
-use Rattle.pop_session.specs.Machine.{ReplyPart, State, authorization, transaction, ended, line, shown, authorization_step, transaction_step, transaction_reply, pass_step, dele_message, dele_step, deleted_ids, taken_out, two_numbers, left_of, listed_at, size_of, listed_octets, listing_from, listing_one_reply, listing_reply, stat_reply, retr_reply, top_reply, of_message, of_number, of_top, uid_row, step}
+use Rattle.pop_session.specs.Machine.{ReplyPart, State, authorization, transaction, ended, line, shown, authorization_step, transaction_step, transaction_reply, pass_step, dele_message, dele_step, deleted_ids, taken_out, two_numbers, left_of, listed_at, size_of, listed_octets, listing_from, listing_one_reply, listing_reply, stat_reply, retr_reply, top_reply, of_message, of_number, of_top, uid_row, acts_in, asked_of, step}
 use Rattle.pop_session.specs.Replies.{IsFit, AreFit}
 use Rattle.pop_session.specs.Session.{Machine, PopStands, greeting, line_too_long, pop_grammar, wants_in}
 use Rattle.pop_session.specs.States.{state_of}
@@ -278,7 +278,8 @@ pub rows_fit_by : RowsFit pop_grammar
 rows_fit_by meanings are machine text sound =
     let taken = step meanings machine.state machine.store (command_of text) in
     record {
-      fit = fit_acts (IsFit meanings) taken.changes taken.reply (step_fit meanings are machine.state machine.store sound (command_of text));
+      fit = fit_asking (IsFit meanings) (asked_of machine.state machine.store (command_of text)) (acts_in taken)
+          (fit_acts (IsFit meanings) taken.changes taken.reply (step_fit meanings are machine.state machine.store sound (command_of text)));
       sound = step_sound meanings machine.state machine.store (command_of text) sound;
     }
 

@@ -2,9 +2,10 @@
 use Rattle.std.specs.Prelude.{◌≡◌, ℕ, List, [], codes, Option, None, Some, Result, IfOk}
 use Rattle.session_core.specs.Turns.{Turn, all_turns}
 use Rattle.mail_wire.specs.declared.outside.Fault.{Fault}
-use Rattle.session_core.specs.Acts.{Act, acts_of}
+use Rattle.session_core.specs.Acts.{Act, acts_of, asking}
 use Rattle.mail_store.specs.Following.{records_of}
 use Rattle.mail_store.specs.StoreState.{StoreState, AreStored, with_records}
+use Rattle.surrogate_cache.specs.Caching.{Asked}
 use Rattle.surrogate_cache.specs.Served.{legacy}
 use Rattle.session_core.specs.Around.{Around}
 use Rattle.session_core.specs.Doing.{Does}
@@ -17,7 +18,7 @@ use Rattle.session_core.specs.declared.desk.Desk.{Desk}
 use Rattle.session_core.specs.declared.rows.Wants.{Wants}
 use Rattle.session_core.specs.declared.rows.Wants.TheVariants as wants
 use Rattle.pop_session.specs.Commands.{command_of}
-use Rattle.pop_session.specs.Machine.{ReplyPart, State, authorization, transaction, ended, says, Step, acts_in, step}
+use Rattle.pop_session.specs.Machine.{ReplyPart, State, authorization, transaction, ended, says, Step, acts_in, asked_of, step}
 use Rattle.pop_session.specs.Replies.{IsFit, part_octets}
 use Rattle.pop_session.specs.States.{state_of, state_or_ended, KnowsState}
 use Rattle.pop_session.specs.declared.states.PopState.{PopState}
@@ -50,7 +51,9 @@ wants_in ended = None
 -- what a line brings
 abbrev pub line_row : Meanings → Machine → List ℕ → Row Machine ReplyPart
 line_row meanings machine text =
-    let taken = step meanings machine.state machine.store (command_of text) in record { acts = acts_in taken; after = after_step machine.store taken }
+    let asked = asked_of machine.state machine.store (command_of text) in
+    let taken = step meanings machine.state machine.store (command_of text) in
+    record { acts = asking asked (acts_in taken); after = after_step machine.store taken }
 
 abbrev pub long_row : Machine → Row Machine ReplyPart
 long_row machine = record { acts = acts_of [] line_too_long; after = record machine { state = ended } }
@@ -88,8 +91,9 @@ PopStands more session desk machine = machine ≡ machine_of session desk
 abbrev pub KnowsPop : PopState → Desk → Type 0
 KnowsPop session desk = KnowsState desk.store (state_of session)
 
--- The step was carried out, or after a fault the first of it; the session is in its state, and the store has the messages that it names.
-pub record TakesStep (before now : Around) (result : Result (Option PopState) Fault) (taken : Meanings → Step) : Type 0 where
-  pub does : WithMeanings (λ meanings. Does (part_octets meanings) before now (fault_of result) (acts_in (taken meanings)))
+-- These messages were asked for and the step was carried out, or after a fault the first of it; the session is in its state, and the store
+-- has the messages that it names.
+pub record TakesStep (before now : Around) (result : Result (Option PopState) Fault) (asked : List Asked) (taken : Meanings → Step) : Type 0 where
+  pub does : WithMeanings (λ meanings. Does (part_octets meanings) before now (fault_of result) (asking asked (acts_in (taken meanings))))
   pub next : WithMeanings (λ meanings. IfOk result (λ next. state_or_ended next ≡ (taken meanings).state))
   pub known : IfOk result (λ next. KnowsState now.desk.store (state_or_ended next))

@@ -1,17 +1,19 @@
-//! Laws of what is sent of a message, of the mode of a session, of what QUIT takes out, and of the store behind a stream.
-ghost use Rattle.std.specs.Prelude.{◌≡◌, ◌≢◌, ◌++◌, ◌∷◌, ◌↔◌, [], ℕ, List, Option, None, Some, codes, IsTrue};
+//! Laws of what is sent of a message, of the mode of a session, of what QUIT takes out, of the store behind a stream, and of what is asked for.
+ghost use Rattle.std.specs.Prelude.{◌≡◌, ◌≢◌, ◌++◌, ◌∷◌, ◌↔◌, [], ℕ, List, Option, None, Some, codes, map, IsTrue};
 ghost use Rattle.std.specs.List.{All, flat_map};
 ghost use Rattle.mail_wire.specs.Lines.{lines_of};
 ghost use Rattle.kept_mail.specs.declared.kept.Listed.{Listed};
 ghost use Rattle.mail_store.specs.Following.{records_of};
 ghost use Rattle.mail_store.specs.StoreState.{StoreState, with_records};
-ghost use Rattle.surrogate_cache.specs.Served.{Mode, legacy};
-ghost use Rattle.session_core.specs.Acts.{changes_in};
+ghost use Rattle.surrogate_cache.specs.Caching.{Asked, asked_by};
+ghost use Rattle.surrogate_cache.specs.Served.{Mode, legacy, enabled};
+ghost use Rattle.session_core.specs.Acts.{asked_in, changes_in};
+ghost use Rattle.session_core.specs.Desks.{stored_octets};
 ghost use Rattle.session_core.specs.Meanings.{Meanings};
 ghost use Rattle.pop_session.specs.Commands.{Command};
 ghost use Rattle.mail_wire.specs.Numbers.{number_of};
-ghost use Rattle.pop_session.specs.History.{after_commands, commands_in, IsOfMode, enables, some_enables, mode_behind, IsQuit, with_marks, marks_by, marks_after, IsMarked};
-ghost use Rattle.pop_session.specs.Machine.{State, authorization, transaction, ended, done, inbox_messages, quit_step, step, transaction_step};
+ghost use Rattle.pop_session.specs.History.{after_commands, commands_in, IsOfMode, enables, some_enables, mode_behind, IsQuit, with_marks, marks_by, marks_after, IsMarked, AreInStore, IsRefused, TellsSizes, asked_by_commands, number_in};
+ghost use Rattle.pop_session.specs.Machine.{State, authorization, transaction, ended, asked_of, done, inbox_messages, left_of, listed_at, quit_step, step, transaction_step};
 ghost use Rattle.pop_session.specs.Replies.{multi_line};
 ghost use Rattle.mail_wire.specs.Dots.{unstuffed_line, missing_end};
 ghost use Rattle.pop_session.specs.Session.{Machine, start_of, turns_of};
@@ -64,4 +66,30 @@ pub fn quit_takes_out_what_is_marked()
 pub fn the_store_has_the_changes()
     ensures { (meanings : Meanings) (machine : Machine) (octets : List ℕ) → let turn = turns_of meanings machine octets in
         turn.after.store ≡ with_records machine.store (records_of (changes_in turn.parts)) }
+{}
+
+/// A legacy session asks its cache for each message whose size it adds up or lists, in their order, and for the one that it names or shows, each
+/// with the octets that the store has of it.
+pub fn legacy_sizes_and_messages_are_asked_for()
+    ensures sizes { (maildrop : List MaildropMessage) (store : StoreState) (command : Command) → TellsSizes command
+        → map (λ (one : Asked). one.id) (asked_of (transaction legacy maildrop) store command) ≡ map (λ (one : Listed). one.id) (left_of maildrop) }
+    ensures named { (maildrop : List MaildropMessage) (store : StoreState) (command : Command) (number : ℕ) (one : Listed)
+        → number_in command.keyword command.argument ≡ Some number → listed_at maildrop number ≡ Some one
+        → asked_of (transaction legacy maildrop) store command ≡ asked_by legacy one.id (stored_octets store one.id) }
+    ensures octets { (state : State) (store : StoreState) (command : Command) → AreInStore store (asked_of state store command) }
+{}
+
+/// No other command asks its cache for a message, nor does one that is refused, and a session that has enabled UTF-8 asks for none.
+pub fn nothing_else_is_asked_for()
+    ensures others { (state : State) (store : StoreState) (command : Command) → ¬ TellsSizes command → number_in command.keyword command.argument ≡ None
+        → asked_of state store command ≡ [] }
+    ensures refused { (meanings : Meanings) (state : State) (store : StoreState) (command : Command) → IsRefused (step meanings state store command).reply
+        → asked_of state store command ≡ [] }
+    ensures enabled { (state : State) (store : StoreState) (command : Command) → IsOfMode enabled state → asked_of state store command ≡ [] }
+{}
+
+/// The messages that a stream asks for are those of its commands, in their order.
+pub fn a_stream_asks_for_what_its_commands_do()
+    ensures { (meanings : Meanings) (machine : Machine) (octets : List ℕ)
+        → asked_in (turns_of meanings machine octets).parts ≡ asked_by_commands meanings machine (commands_in octets) }
 {}

@@ -1,13 +1,13 @@
 //! Replies on messages.
 ghost use Rattle.std.specs.Prelude.{◌≡◌, ◌<◌, ◌-◌, ◌^◌, min, ℕ, ◌++◌, length, IfOk, IfSome, string_bytes, codes, []};
 ghost use Rattle.mail_wire.specs.Lines.{crlf};
-ghost use Rattle.session_core.specs.Desks.{stored_octets};
-ghost use Rattle.session_core.specs.Doing.{Replies};
+ghost use Rattle.session_core.specs.Desks.{IsOpen, stored_octets};
+ghost use Rattle.session_core.specs.Doing.{Asks, AsksAndReplies, Replies, wanting};
 ghost use Rattle.session_core.specs.Keeps.{Keeps, fault_of};
 ghost use Rattle.session_core.specs.Meanings.{Meanings, WithMeanings};
 ghost use Rattle.pop_session.specs.private.Asked.{IsAsked, IsKnown};
 ghost use Rattle.mail_wire.specs.Numbers.{number_of};
-ghost use Rattle.pop_session.specs.Machine.{size_of, uid_row, stat_reply, listing_reply, listing_one_reply, retr_reply, top_reply, listed_at as message_at_of, two_numbers};
+ghost use Rattle.pop_session.specs.Machine.{asked_for, asked_for_left, size_of, uid_row, stat_reply, listing_reply, listing_one_reply, retr_reply, top_reply, listed_at as message_at_of, two_numbers};
 ghost use Rattle.pop_session.specs.Replies.{reply_octets};
 ghost use Rattle.pop_session.specs.States.{Knows};
 
@@ -26,9 +26,11 @@ fn size<V: View, W: Wire, J: Keeper, C: Clock>(
     one: &Listed,
     outside: &mut Outside<W, J, C>,
 ) -> Result<usize, Memory>
-    requires { one.now.id < length outside.old.desk.store.kept.messages }
+    requires opens { IsOpen outside.old.desk }
+    requires id { one.now.id < length outside.old.desk.store.kept.messages }
     ensures size { IfOk result (λ n. WithMeanings (λ meanings. n ≡ size_of meanings V.mode outside.old.desk.store one.now)) }
-    ensures same { outside.new ≡ outside.old }
+    ensures asks { Asks outside.old outside.new (wanting result) (asked_for V.mode outside.old.desk.store one.now) }
+    ensures keeps { Keeps outside.old outside.new (wanting result) }
 {
     outside.size::<V>(one.id)
 }
@@ -38,10 +40,12 @@ pub fn stat<V: View, W: Wire, J: Keeper, C: Clock>(
     maildrop: &[MaildropMessage],
     outside: &mut Outside<W, J, C>,
 ) -> Result<String, Memory>
-    requires { Knows outside.old.desk.store maildrop.now }
+    requires opens { IsOpen outside.old.desk }
+    requires known { Knows outside.old.desk.store maildrop.now }
     ensures text { IfOk result (λ text. WithMeanings (λ meanings.
         string_bytes text ≡ reply_octets meanings (stat_reply meanings V.mode outside.old.desk.store maildrop.now))) }
-    ensures same { outside.new ≡ outside.old }
+    ensures asks { Asks outside.old outside.new (wanting result) (asked_for_left V.mode outside.old.desk.store maildrop.now) }
+    ensures keeps { Keeps outside.old outside.new (wanting result) }
 {
     let mut count: usize = 0;
     let mut total: u128 = 0;
@@ -66,10 +70,12 @@ pub fn list<V: View, W: Wire, J: Keeper, C: Clock>(
     maildrop: &[MaildropMessage],
     outside: &mut Outside<W, J, C>,
 ) -> Result<String, Memory>
-    requires { Knows outside.old.desk.store maildrop.now }
+    requires opens { IsOpen outside.old.desk }
+    requires known { Knows outside.old.desk.store maildrop.now }
     ensures text { IfOk result (λ text. WithMeanings (λ meanings.
         string_bytes text ≡ reply_octets meanings (listing_reply (size_of meanings V.mode outside.old.desk.store) maildrop.now))) }
-    ensures same { outside.new ≡ outside.old }
+    ensures asks { Asks outside.old outside.new (wanting result) (asked_for_left V.mode outside.old.desk.store maildrop.now) }
+    ensures keeps { Keeps outside.old outside.new (wanting result) }
 {
     let alloc = outside.alloc();
     let mut text = String::from_str(alloc, "+OK\r\n")?;
@@ -105,10 +111,12 @@ pub fn list_one<V: View, W: Wire, J: Keeper, C: Clock>(
     one: &Listed,
     outside: &mut Outside<W, J, C>,
 ) -> Result<String, Memory>
-    requires { one.now.id < length outside.old.desk.store.kept.messages }
+    requires opens { IsOpen outside.old.desk }
+    requires id { one.now.id < length outside.old.desk.store.kept.messages }
     ensures text { IfOk result (λ text. WithMeanings (λ meanings.
         string_bytes text ≡ reply_octets meanings (listing_one_reply (size_of meanings V.mode outside.old.desk.store) number one.now))) }
-    ensures same { outside.new ≡ outside.old }
+    ensures asks { Asks outside.old outside.new (wanting result) (asked_for V.mode outside.old.desk.store one.now) }
+    ensures keeps { Keeps outside.old outside.new (wanting result) }
 {
     let size = size::<V, W, J, C>(one, outside)?;
     let alloc = outside.alloc();
@@ -143,8 +151,10 @@ pub fn retr<V: View, W: Wire, J: Keeper, C: Clock>(
     one: &Listed,
     outside: &mut Outside<W, J, C>,
 ) -> Result<(), Fault>
-    requires { one.now.id < length outside.old.desk.store.kept.messages }
-    ensures replies { WithMeanings (λ meanings. Replies outside.old outside.new (fault_of result) (reply_octets meanings (retr_reply meanings V.mode outside.old.desk.store 0 one.now))) }
+    requires opens { IsOpen outside.old.desk }
+    requires id { one.now.id < length outside.old.desk.store.kept.messages }
+    ensures replies { WithMeanings (λ meanings. AsksAndReplies outside.old outside.new (fault_of result) (asked_for V.mode outside.old.desk.store one.now)
+        (reply_octets meanings (retr_reply meanings V.mode outside.old.desk.store 0 one.now))) }
     ensures keeps { Keeps outside.old outside.new (fault_of result) }
 {
     if V::enabled() {
@@ -162,9 +172,11 @@ pub fn top<V: View, W: Wire, J: Keeper, C: Clock>(
     lines: u64,
     outside: &mut Outside<W, J, C>,
 ) -> Result<(), Fault>
-    requires { one.now.id < length outside.old.desk.store.kept.messages }
+    requires opens { IsOpen outside.old.desk }
+    requires id { one.now.id < length outside.old.desk.store.kept.messages }
     ensures replies { WithMeanings (λ meanings. (n : ℕ) → min n (2 ^ 64 - 1) ≡ lines →
-        Replies outside.old outside.new (fault_of result) (reply_octets meanings (top_reply meanings V.mode outside.old.desk.store n 0 one.now))) }
+        AsksAndReplies outside.old outside.new (fault_of result) (asked_for V.mode outside.old.desk.store one.now)
+        (reply_octets meanings (top_reply meanings V.mode outside.old.desk.store n 0 one.now))) }
     ensures keeps { Keeps outside.old outside.new (fault_of result) }
 {
     let shown = outside.show::<V>(one.id)?;

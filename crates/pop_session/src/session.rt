@@ -1,15 +1,15 @@
 //! The rows of a session, and serving it.
-ghost use Rattle.std.specs.Prelude.{◌≡◌, Some, IfOk, ◌⊎◌, map, false, refl};
+ghost use Rattle.std.specs.Prelude.{◌≡◌, [], Some, IfOk, ◌⊎◌, map, false, refl};
 ghost use Rattle.std.specs.Option.{option_copied};
 ghost use Rattle.mail_wire.specs.Numbers.{number_of};
 ghost use Rattle.session_core.specs.Desks.{IsOpen};
-ghost use Rattle.session_core.specs.Doing.{Replies};
+ghost use Rattle.session_core.specs.Doing.{AsksAndReplies};
 ghost use Rattle.session_core.specs.Keeps.{Keeps, fault_of};
 ghost use Rattle.session_core.specs.Meanings.{WithMeanings};
 ghost use Rattle.session_core.specs.Served.{met_of};
 ghost use Rattle.session_core.specs.Serving.{ServesBy};
 ghost use Rattle.session_core.specs.declared.rows.Wants.TheVariants.{Line};
-ghost use Rattle.pop_session.specs.Machine.{transaction, answers, done, marked, authorization_step, transaction_step, transaction_reply, dele_step, quit_step};
+ghost use Rattle.pop_session.specs.Machine.{transaction, answers, done, marked, authorization_step, transaction_asks, transaction_step, transaction_reply, dele_step, quit_step};
 ghost use Rattle.pop_session.specs.PopLaws.{agrees_by, opening_fits_by, rows_fit_by, long_rows_fit_by};
 ghost use Rattle.pop_session.specs.Replies.{reply_octets};
 ghost use Rattle.pop_session.specs.Session.{pop_grammar, pop_protocol, PopStands, KnowsPop, TakesStep};
@@ -85,7 +85,7 @@ fn authorize<V: Kind, W: Wire, J: Keeper, C: Clock>(
     command: Command,
     outside: &mut Outside<W, J, C>,
 ) -> Result<Option<PopState>, Fault>
-    ensures takes { TakesStep outside.old outside.new result
+    ensures takes { TakesStep outside.old outside.new result []
         (λ meanings. authorization_step meanings V.mode pop.state.user outside.old.desk.store command.entry.keyword (option_copied command.entry.argument)) }
     ensures keeps { Keeps outside.old outside.new (fault_of result) }
 {
@@ -102,8 +102,10 @@ fn give_of_message<V: Kind, W: Wire, J: Keeper, C: Clock>(
     outside: &mut Outside<W, J, C>,
 ) -> Result<(), Fault>
     requires keyword { (keyword ≡ Keyword.List) ⊎ (keyword ≡ Keyword.Uidl) ⊎ (keyword ≡ Keyword.Retr) }
+    requires opens { IsOpen outside.old.desk }
     requires known { Knows outside.old.desk.store maildrop.now }
-    ensures replies { WithMeanings (λ meanings. Replies outside.old outside.new (fault_of result)
+    ensures replies { WithMeanings (λ meanings. AsksAndReplies outside.old outside.new (fault_of result)
+        (transaction_asks V.mode maildrop.now outside.old.desk.store keyword (Some text.now))
         (reply_octets meanings (transaction_reply meanings V.mode maildrop.now outside.old.desk.store keyword (Some text.now)))) }
     ensures keeps { Keeps outside.old outside.new (fault_of result) }
 {
@@ -131,8 +133,10 @@ fn give_top<V: Kind, W: Wire, J: Keeper, C: Clock>(
     maildrop: &[MaildropMessage],
     outside: &mut Outside<W, J, C>,
 ) -> Result<(), Fault>
-    requires { Knows outside.old.desk.store maildrop.now }
-    ensures replies { WithMeanings (λ meanings. Replies outside.old outside.new (fault_of result)
+    requires opens { IsOpen outside.old.desk }
+    requires known { Knows outside.old.desk.store maildrop.now }
+    ensures replies { WithMeanings (λ meanings. AsksAndReplies outside.old outside.new (fault_of result)
+        (transaction_asks V.mode maildrop.now outside.old.desk.store Keyword.Top (Some text.now))
         (reply_octets meanings (transaction_reply meanings V.mode maildrop.now outside.old.desk.store Keyword.Top (Some text.now)))) }
     ensures keeps { Keeps outside.old outside.new (fault_of result) }
 {
@@ -151,8 +155,10 @@ fn give_reply<V: Kind, W: Wire, J: Keeper, C: Clock>(
     command: Command,
     outside: &mut Outside<W, J, C>,
 ) -> Result<(), Fault>
-    requires { Knows outside.old.desk.store maildrop.now }
-    ensures replies { WithMeanings (λ meanings. Replies outside.old outside.new (fault_of result)
+    requires opens { IsOpen outside.old.desk }
+    requires known { Knows outside.old.desk.store maildrop.now }
+    ensures replies { WithMeanings (λ meanings. AsksAndReplies outside.old outside.new (fault_of result)
+        (transaction_asks V.mode maildrop.now outside.old.desk.store command.entry.keyword (option_copied command.entry.argument))
         (reply_octets meanings (transaction_reply meanings V.mode maildrop.now outside.old.desk.store command.entry.keyword (option_copied command.entry.argument)))) }
     ensures keeps { Keeps outside.old outside.new (fault_of result) }
 {
@@ -186,8 +192,11 @@ fn stay<V: Kind, W: Wire, J: Keeper, C: Clock>(
     command: Command,
     outside: &mut Outside<W, J, C>,
 ) -> Result<Option<PopState>, Fault>
-    requires { Knows outside.old.desk.store pop.state.maildrop.items }
-    ensures takes { TakesStep outside.old outside.new result (λ meanings. answers
+    requires opens { IsOpen outside.old.desk }
+    requires known { Knows outside.old.desk.store pop.state.maildrop.items }
+    ensures takes { TakesStep outside.old outside.new result
+        (transaction_asks V.mode pop.state.maildrop.items outside.old.desk.store command.entry.keyword (option_copied command.entry.argument))
+        (λ meanings. answers
         (transaction_reply meanings V.mode pop.state.maildrop.items outside.old.desk.store command.entry.keyword (option_copied command.entry.argument))
         (transaction V.mode pop.state.maildrop.items)) }
     ensures keeps { Keeps outside.old outside.new (fault_of result) }
@@ -203,7 +212,7 @@ fn dele<V: Kind, W: Wire, J: Keeper, C: Clock>(
     outside: &mut Outside<W, J, C>,
 ) -> Result<Option<PopState>, Fault>
     requires { Knows outside.old.desk.store pop.state.maildrop.items }
-    ensures takes { TakesStep outside.old outside.new result (λ meanings. dele_step V.mode pop.state.maildrop.items (number_of text.now)) }
+    ensures takes { TakesStep outside.old outside.new result [] (λ meanings. dele_step V.mode pop.state.maildrop.items (number_of text.now)) }
     ensures keeps { Keeps outside.old outside.new (fault_of result) }
 {
     match find_message(outside.store(), &pop.state.maildrop, text) {
@@ -228,7 +237,7 @@ fn rset<V: Kind, W: Wire, J: Keeper, C: Clock>(
     outside: &mut Outside<W, J, C>,
 ) -> Result<Option<PopState>, Fault>
     requires { Knows outside.old.desk.store pop.state.maildrop.items }
-    ensures takes { TakesStep outside.old outside.new result (λ meanings. answers done (transaction V.mode (map (marked false) pop.state.maildrop.items))) }
+    ensures takes { TakesStep outside.old outside.new result [] (λ meanings. answers done (transaction V.mode (map (marked false) pop.state.maildrop.items))) }
     ensures keeps { Keeps outside.old outside.new (fault_of result) }
 {
     outside.give(DONE)?;
@@ -242,7 +251,7 @@ fn quit<V: Kind, W: Wire, J: Keeper, C: Clock>(
 ) -> Result<Option<PopState>, Fault>
     requires opens { IsOpen outside.old.desk }
     requires known { Knows outside.old.desk.store pop.state.maildrop.items }
-    ensures takes { TakesStep outside.old outside.new result (λ meanings. quit_step pop.state.maildrop.items) }
+    ensures takes { TakesStep outside.old outside.new result [] (λ meanings. quit_step pop.state.maildrop.items) }
     ensures keeps { Keeps outside.old outside.new (fault_of result) }
 {
     pop.quit().update(outside)?;
@@ -259,6 +268,7 @@ fn transact<V: Kind, W: Wire, J: Keeper, C: Clock>(
     requires opens { IsOpen outside.old.desk }
     requires known { Knows outside.old.desk.store pop.state.maildrop.items }
     ensures takes { TakesStep outside.old outside.new result
+        (transaction_asks V.mode pop.state.maildrop.items outside.old.desk.store command.entry.keyword (option_copied command.entry.argument))
         (λ meanings. transaction_step meanings V.mode pop.state.maildrop.items outside.old.desk.store command.entry.keyword (option_copied command.entry.argument)) }
     ensures keeps { Keeps outside.old outside.new (fault_of result) }
 {

@@ -30,8 +30,8 @@ fn give_lines<V: View>(
     len: usize,
     wire: &mut MemWire,
 ) -> Result<Result<(), Failed>, Fail> {
-    let tree = read_tree(alloc, msg).map_err(|_| "no tree")?;
-    let shown = V::show(alloc, &mut Cache::plain(), 0, msg, tree)?;
+    let _tree = read_tree(alloc, msg).map_err(|_| "no tree")?;
+    let shown = V::show(alloc, &mut Cache::open(alloc, 1, 1)?, 0, msg)?;
     let size = shown.size(msg);
     if size < at || size - at < len {
         return Err(Fail::from("no such range"));

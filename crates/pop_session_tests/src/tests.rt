@@ -1,12 +1,14 @@
 //! Sessions over a wire in memory and a journal that was written here: whole, octet by octet and in every single cut.
-ghost use Rattle.session_core.specs.Desks.{IsOpen};
+ghost use Rattle.std.specs.Prelude.{◌<◌, ◌≤◌, IfOk, OnOk};
+ghost use Rattle.session_core.specs.Desks.{AreLimits, IsOpen};
 
 use journal_records::{Record, push_record};
 use mail_wire::{Entry, Failure, Fault, FixedClock, MemKeeper, MemWire, Memory, Octets};
 use pop_session::{PopSession, serve_pop};
-use session_core::{Desk, LIMITS, Outside, Served, feed, open_desk};
+use session_core::{Desk, LIMITS, Limits, Outside, Served, feed, open_desk};
 use std::alloc::Global;
 use std::test::Fail;
+use surrogate_cache::Counts;
 
 const CAFE: [u8; 25] = *b"Subject: caf\xc3\xa9 bar\r\n\r\nx\r\n";
 
@@ -57,6 +59,7 @@ fn feed_all(
     outside: &mut Outside<MemWire, MemKeeper, FixedClock>,
 ) -> Result<(), Fault>
     requires { IsOpen outside.old.desk }
+    ensures { OnOk result (IsOpen outside.new.desk) }
 {
     let mut session = PopSession::begin(outside)?;
     for piece in pieces {
@@ -94,10 +97,24 @@ fn wire_of(alloc: Global, failures: Vec<Failure>) -> MemWire {
     MemWire::new(alloc, Octets::new(alloc), Vec::new(alloc), failures)
 }
 
+// A cache of so many blocks for so many entries.
+fn limits_of(pool_blocks: u32, cache_entries: u32) -> Limits
+    requires blocks { (0 < pool_blocks) × (pool_blocks ≤ 65536) }
+    requires entries { 0 < cache_entries }
+    ensures { AreLimits result }
+{
+    Limits {
+        message_max: LIMITS.message_max,
+        session_max: LIMITS.session_max,
+        pool_blocks,
+        cache_entries,
+    }
+}
+
 // What a session is given that takes these pieces.
 fn given(alloc: Global, keeper: &mut MemKeeper, pieces: &[&[u8]]) -> Result<Octets, Fail> {
     let mut wire = wire_of(alloc, Vec::new(alloc));
-    let desk = open_desk(alloc, keeper, LIMITS)?;
+    let desk = open_desk(alloc, keeper, limits_of(2, 2))?;
     serve(alloc, desk, pieces, &mut wire, keeper)?;
     Ok(octets_given(alloc, &wire)?)
 }
@@ -273,7 +290,7 @@ fn after_a_fault_a_prefix_was_given(rt: HostRuntime) -> Result<(), Fail> {
     let mut keeper = keeper_of(alloc, &journal)?;
     let stream = b"USER ann@example.org\r\nPASS pw\r\nRETR 1\r\nQUIT\r\n";
     let mut sound = wire_of(alloc, Vec::new(alloc));
-    let desk = open_desk(alloc, &mut keeper, LIMITS)?;
+    let desk = open_desk(alloc, &mut keeper, limits_of(1, 1))?;
     serve(alloc, desk, &[stream], &mut sound, &mut keeper)?;
     let all = octets_given(alloc, &sound)?;
     // Three replies, one of several parts, and the last one.
@@ -282,13 +299,77 @@ fn after_a_fault_a_prefix_was_given(rt: HostRuntime) -> Result<(), Fail> {
     for call in 0..20 {
         let failures = Vec::from_slice(alloc, &[Failure { call, kept: 3 }])?;
         let mut wire = wire_of(alloc, failures);
-        let desk = open_desk(alloc, &mut keeper, LIMITS)?;
+        let desk = open_desk(alloc, &mut keeper, limits_of(1, 1))?;
         let served = serve(alloc, desk, &[stream], &mut wire, &mut keeper);
         let octets = octets_given(alloc, &wire)?;
         assert!(rt; matches!(served, Err(Fault::Wire)) == (call < calls));
         assert!(rt; all.as_slice().starts_with(octets.as_slice()));
         assert!(rt; (octets.len() == all.len()) == served.is_ok() || call + 1 == calls);
     }
+    Ok(())
+}
+
+// What a session is given that takes this stream, and the desk behind it.
+fn desk_behind(
+    alloc: Global,
+    desk: Desk,
+    stream: &[u8],
+    keeper: &mut MemKeeper,
+) -> Result<(Desk, Octets), Fail>
+    requires { IsOpen desk }
+    ensures { IfOk result (λ behind. IsOpen behind.0) }
+{
+    let mut wire = wire_of(alloc, Vec::new(alloc));
+    let mut clock = FixedClock::new(0);
+    let mut outside = Outside::new(alloc, desk, &mut wire, keeper, &mut clock);
+    feed_all(&[stream], &mut outside)?;
+    let (desk, _wire, _keeper, _clock) = outside.into_parts();
+    let octets = octets_given(alloc, &wire)?;
+    Ok((desk, octets))
+}
+
+#[test]
+fn an_enabled_session_leaves_the_cache(rt: HostRuntime) -> Result<(), Fail> {
+    let alloc = rt.alloc();
+    let mut keeper = keeper_of(alloc, &journal_of(alloc, &[&CAFE])?)?;
+    let desk = open_desk(alloc, &mut keeper, limits_of(1, 1))?;
+    let stream = b"USER ann@example.org\r\nPASS pw\r\nUTF8\r\nSTAT\r\nLIST 1\r\nQUIT\r\n";
+    let (desk, given) = desk_behind(alloc, desk, stream, &mut keeper)?;
+    let want =
+        b"+OK ready\r\n+OK\r\n+OK\r\n-ERR out of order\r\n+OK 1 44\r\n+OK 1 44\r\n+OK bye\r\n";
+    assert!(rt; given.as_slice() == want.as_slice());
+    assert!(rt; desk.cache.entries(alloc)?.as_slice() == [0].as_slice());
+    assert!(rt; desk.cache.counts() == Counts { built: 1, hits: 1 });
+    let stream =
+        b"UTF8\r\nUSER ann@example.org\r\nPASS pw\r\nSTAT\r\nLIST\r\nRETR 1\r\nTOP 1 0\r\nQUIT\r\n";
+    let (desk, given) = desk_behind(alloc, desk, stream, &mut keeper)?;
+    assert!(rt;
+        given.as_slice().starts_with(
+            b"+OK ready\r\n+OK\r\n+OK\r\n+OK\r\n+OK 1 25\r\n+OK\r\n1 25\r\n"
+        )
+    );
+    assert!(rt; desk.cache.entries(alloc)?.as_slice() == [0].as_slice());
+    assert!(rt; desk.cache.counts() == Counts { built: 1, hits: 1 });
+    Ok(())
+}
+
+#[test]
+fn a_legacy_session_asks_its_cache(rt: HostRuntime) -> Result<(), Fail> {
+    let alloc = rt.alloc();
+    let mut keeper = keeper_of(alloc, &journal_of(alloc, &[&CAFE, &CAFE])?)?;
+    let desk = open_desk(alloc, &mut keeper, limits_of(2, 2))?;
+    let stream = b"USER ann@example.org\r\nPASS pw\r\nSTAT\r\nLIST\r\nRETR 1\r\n";
+    let (desk, given) = desk_behind(alloc, desk, stream, &mut keeper)?;
+    let want =
+        b"+OK ready\r\n+OK\r\n+OK\r\n+OK 2 88\r\n+OK\r\n1 44\r\n2 44\r\n.\r\n+OK\r\nSubject:\r\n =?UTF-8?B?Y2Fmw6k=?=\r\n bar\r\n\r\nx\r\n.\r\n";
+    assert!(rt; given.as_slice() == want.as_slice());
+    assert!(rt; desk.cache.entries(alloc)?.as_slice() == [0, 1].as_slice());
+    assert!(rt; desk.cache.counts() == Counts { built: 2, hits: 3 });
+    // What is refused asks for nothing, nor do other commands.
+    let stream =
+        b"USER ann@example.org\r\nPASS pw\r\nRETR 3\r\nLIST x\r\nTOP 1\r\nUIDL\r\nDELE 1\r\nRETR 1\r\nNOOP\r\nRSET\r\nQUIT\r\n";
+    let (desk, _given) = desk_behind(alloc, desk, stream, &mut keeper)?;
+    assert!(rt; desk.cache.counts() == Counts { built: 2, hits: 3 });
     Ok(())
 }
 

@@ -78,7 +78,7 @@ reported_as kept queued path failed stamp destination text (Err met) moment repo
 
 -- nothing is made
 makes_nothing : (a : Around) → Makes a a None []
-makes_nothing a = record { wire = refl; changes = Follows-nil a.desk.store a.keeper.octets }
+makes_nothing a = record { wire = refl; cache = refl; changes = Follows-nil a.desk.store a.keeper.octets }
 
 -- no report is due
 pub unreported : (path_of : List ℕ → Option (Option Address)) (before now : Around) (queued : Queued) (outcomes : List Outcome) → now ≡ before
@@ -121,7 +121,8 @@ delivered_report path_of before now queued outcomes path failed moment delivery 
     rw is (told_report path_of before now queued outcomes path failed moment delivery None due makes)
 delivered_report path_of before now queued outcomes path failed moment delivery (Err fault.Keeper) due is makes fine =
     (_, told_report path_of before now queued outcomes path failed moment delivery (Some fault.Keeper) due makes)
-delivered_report path_of before now queued outcomes path failed moment delivery (Err fault.Memory) due is makes fine = record { wire = makes.wire; changes = makes.changes }
+delivered_report path_of before now queued outcomes path failed moment delivery (Err fault.Memory) due is makes fine =
+    record { wire = makes.wire; cache = makes.cache; changes = makes.changes }
 delivered_report path_of before now queued outcomes path failed moment delivery (Err fault.Wire) due is makes fine = absurd (fine refl)
 
 -- it goes nowhere

@@ -308,12 +308,13 @@ part_off path_of before a b bag acts old new part =
       given_on = Gives-trans a.wire part.between.wire b.wire own prefix.given part.done.does.gives prefix.gives;
       done = record {
         done = part.acts;
-        parts = part.octets ∷ [];
+        cut = gives part.octets ∷ [];
         left = [];
         acts_are = refl;
+        unchanged = refl;
         begun = prefix.given;
         missing = prefix.missing;
-        parts_are = append-nil part.octets ∙ sym prefix.whole;
+        cut_is = append-nil part.octets ∙ sym prefix.whole;
         given_is = refl;
         follows = found.follows;
       };

@@ -143,12 +143,13 @@ pub stopped_behind : (old new : StoreState) (had has : Option (List ℕ)) (acts 
     → StopsIn (λ octets. octets) old new had has acts given
 stopped_behind old new had has acts given done = record {
   done = acts;
-  parts = [];
+  cut = [];
   left = [];
   acts_are = sym (append-nil acts);
+  unchanged = refl;
   begun = [];
   missing = [];
-  parts_are = refl;
+  cut_is = refl;
   given_is = done.0 ∙ sym (append-nil (given_by (λ octets. octets) acts));
   follows = done.1;
 }

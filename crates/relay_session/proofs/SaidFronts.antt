@@ -1,5 +1,5 @@
 -- What was given is a front of what the client says.
-use Rattle.std.proofs.Common.{◌≡◌, inl, inr, ℕ, List, [], ◌∷◌, ◌++◌, map, Option, None, Some, Result, Ok, Err, refl, sym, ap, ◌∙◌, append_assoc, append-nil}
+use Rattle.std.proofs.Common.{◌≡◌, inl, inr, ℕ, List, [], ◌∷◌, ◌++◌, Option, None, Some, Result, Ok, Err, refl, sym, ap, ◌∙◌, append_assoc, append-nil}
 use Rattle.std.specs.Io.KnownBytes.{Consumes}
 use Rattle.std.proofs.lemmas.List.Concat.{flat_map-append}
 use Rattle.std.proofs.lemmas.Option.{none-some, same_Some}
@@ -14,10 +14,10 @@ use Rattle.relay_choice.specs.Relay.{act_octets, sent_octets}
 use Rattle.relay_choice.specs.declared.letters.Act.{Act as ClientAct}
 use Rattle.relay_choice.specs.declared.replies.Reply.{Reply}
 use Rattle.relay_choice.proofs.GoingOnLemmas.{relay_grows}
-use Rattle.session_core.specs.Acts.{Act, changes, gives}
+use Rattle.session_core.specs.Acts.{Act, changes}
 use Rattle.session_core.specs.Around.{Around}
 use Rattle.session_core.specs.Done.{IsDone, StopsIn, given_by}
-use Rattle.session_core.proofs.DoneLemmas.{given_by-append, octets_of_acts}
+use Rattle.session_core.proofs.DoneLemmas.{given_by-append}
 use Rattle.session_core.proofs.MeaningLemmas.{meanings_given}
 use Rattle.kept_mail.specs.Kept.{name_of}
 use Rattle.relay_session.specs.Letters.{Mailbag, messages_of}
@@ -40,13 +40,11 @@ plain octets = octets
 
 stops_front : (old new : StoreState) (had has : Option (List ℕ)) (acts : List (Act (List ℕ))) (given : List ℕ) → StopsIn plain old new had has acts given → IsFrontOf given (given_by plain acts)
 stops_front old new had has acts given stops =
-    let parts = map gives stops.parts in
     let done = given_by plain stops.done in
-    let left = given_by plain stops.left in
-    let own : given_by plain parts ≡ stops.begun ++ stops.missing = octets_of_acts plain [] stops.parts ∙ stops.parts_are in (
+    let left = given_by plain stops.left in (
       stops.missing ++ left,
-      ap (λ (l : List (Act (List ℕ))). given_by plain l) stops.acts_are ∙ given_by-append plain stops.done (parts ++ stops.left)
-          ∙ ap (λ (l : List ℕ). done ++ l) (given_by-append plain parts stops.left ∙ ap (λ (l : List ℕ). l ++ left) own ∙ append_assoc stops.begun stops.missing left)
+      ap (λ (l : List (Act (List ℕ))). given_by plain l) stops.acts_are ∙ given_by-append plain stops.done (stops.cut ++ stops.left)
+          ∙ ap (λ (l : List ℕ). done ++ l) (given_by-append plain stops.cut stops.left ∙ ap (λ (l : List ℕ). l ++ left) stops.cut_is ∙ append_assoc stops.begun stops.missing left)
           ∙ sym (append_assoc done stops.begun (stops.missing ++ left)) ∙ ap (λ (l : List ℕ). l ++ (stops.missing ++ left)) (sym stops.given_is),
     )
 

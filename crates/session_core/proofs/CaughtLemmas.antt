@@ -1,5 +1,5 @@
 -- A desk that catches up, or is opened anew.
-use Rattle.std.proofs.Common.{◌≡◌, ℕ, List, [], ◌∷◌, ◌++◌, false, Option, Some, Result, Ok, Err, refl, ap, sym, subst, ◌∙◌, inl, inr}
+use Rattle.std.proofs.Common.{◌≡◌, ℕ, List, [], ◌∷◌, ◌++◌, false, Option, None, Some, Result, Ok, Err, refl, ap, sym, subst, ◌∙◌, inl, inr}
 use Rattle.std.specs.Prelude.{IfOk, IfSome, OnOk, codes, is_err, slice_index_or}
 use Rattle.std.proofs.lemmas.List.Elements.{All-nil}
 use Rattle.std.proofs.lemmas.Option.{IfSome_then}
@@ -11,14 +11,16 @@ use Rattle.journal_records.specs.Stored.{IsStored}
 use Rattle.kept_mail.specs.Kept.{Kept, after_all, after_record, name_of, nothing}
 use Rattle.kept_mail.specs.Records.{AreRecords, IsRecord}
 use Rattle.kept_mail.specs.declared.kept.Message.{Message}
-use Rattle.mail_store.specs.Answers.{IsFold, OpensTo}
+use Rattle.mail_store.specs.Answers.{IsFold, IsJournalFault, LeavesRecords, OpensTo}
 use Rattle.mail_store.specs.Catching.{CatchesUp, ReadsOn}
 use Rattle.mail_store.specs.StoreState.{StoreState, AreStored}
 use Rattle.mail_store.specs.declared.opening.OpenFault.{OpenFault}
-use Rattle.session_core.specs.Desks.{AreLimits, HasFirst, IsOpen, IsStoreName, WorksWithin}
-use Rattle.surrogate_cache.specs.declared.cache.Cache.{Cache}
+use Rattle.mail_store.specs.declared.opening.OpenFault.TheVariants as faults
+use Rattle.session_core.specs.Desks.{AreLimits, HasFirst, IsCacheWithin, IsCacheOf, IsOpen, IsStoreName, WorksWithin, new_cache}
+use Rattle.surrogate_cache.specs.Caching.{CacheState}
 use Rattle.session_core.specs.declared.desk.Desk.{Desk}
 use Rattle.session_core.specs.declared.desk.Limits.{Limits}
+use Rattle.session_core.proofs.CachedLemmas.{IsCacheOf-after, IsCacheOf-new}
 use Rattle.session_core.proofs.DeskLemmas.{AreStored-after}
 
 -- ---- the desk is open, and open again
@@ -42,17 +44,29 @@ named_all : (kept : Kept) (all : List Record) → AreRecords kept all → IsStor
 named_all kept [] are named = named
 named_all kept (one ∷ others) are named = named_all (after_record kept one) others are.1 (named_after kept one are.0 named)
 
--- a store that was opened, with a cache, within the limits that it was opened with
-pub IsOpen-fold : (limits : Limits) (store : StoreState) (cache : Cache) → AreLimits limits → IsFold store.kept → store.message_max ≡ limits.message_max → store.failed ≡ false
+-- octets that nothing was done to have the records that they had
+pub left_alone : (octets : Option (List ℕ)) → LeavesRecords octets octets
+left_alone None = refl
+left_alone (Some octets) = inl refl
+
+-- want of memory says nothing of a journal
+pub memory_wanted : (old new : Option (List ℕ)) → IfSome old (λ octets. IsJournalFault octets new faults.Memory)
+memory_wanted None new = tt
+memory_wanted (Some octets) new = tt
+
+-- a store that was opened, with a new cache, within the limits that both were opened with
+pub IsOpen-fold : (limits : Limits) (store : StoreState) (cache : CacheState) → AreLimits limits → IsFold store.kept → store.message_max ≡ limits.message_max → store.failed ≡ false
+    → cache ≡ new_cache limits
     → IsOpen (record { store = store; cache = cache; limits = limits })
-IsOpen-fold limits store cache are fold agrees works = record {
+IsOpen-fold limits store cache are fold agrees works new = record {
   limits = are;
   agrees = agrees;
   works = works;
   named = subst (λ (kept : Kept). IsStoreName (name_of kept)) (sym fold.kept_is) (named_all nothing fold.all fold.records (inr refl));
   stored = subst (λ (kept : Kept). AreStored kept.messages) (sym fold.kept_is)
       (AreStored-after nothing fold.all fold.records (record { each = All-nil (λ (message : Message). IsStored message.octets); dated = All-nil (λ (message : Message). IsDate message.date) }));
-  cached = tt;
+  cached = IsCacheOf-new cache store.kept (ap (λ (state : CacheState). state.entries) new);
+  places = record { blocks = ap (λ (state : CacheState). state.blocks) new; places = ap (λ (state : CacheState). state.places) new };
 }
 
 pub open_again : {T E : Type 0} (result : Result T E) (desk : Desk) (store : StoreState) (told : Option (List ℕ)) → ReadsOn told desk.store store → store.failed ≡ is_err result
@@ -63,7 +77,8 @@ open_again (Ok done) desk store told reads failed = λ within. record {
   works = failed;
   named = subst (λ (s : StoreState). IsStoreName (name_of s.kept)) (sym reads.store) (named_all desk.store.kept reads.more reads.records within.named);
   stored = subst (λ (s : StoreState). AreStored s.kept.messages) (sym reads.store) (AreStored-after desk.store.kept reads.more reads.records within.stored);
-  cached = tt;
+  cached = subst (λ (s : StoreState). IsCacheOf desk.cache s.kept) (sym reads.store) (IsCacheOf-after desk.cache desk.store.kept reads.more within.cached);
+  places = within.places;
 }
 open_again (Err fault) desk store told reads failed = tt
 
@@ -89,4 +104,6 @@ WorksWithin-open limits desk opens same = record {
   agrees = opens.agrees ∙ ap (λ (all : Limits). all.message_max) same;
   named = opens.named;
   stored = opens.stored;
+  cached = opens.cached;
+  places = subst (λ (all : Limits). IsCacheWithin all desk.cache) same opens.places;
 }

@@ -1,5 +1,5 @@
 -- What a store keeps of its name and of its messages' trees and dates, whatever is put last in it.
-use Rattle.std.proofs.Common.{◌≡◌, ℕ, cond, Bool, true, false, List, [], ◌∷◌, map, Option, None, Some, Result, Ok, Err, refl, ap, ◌∙◌, subst, append-nil}
+use Rattle.std.proofs.Common.{◌≡◌, ℕ, cond, Bool, true, false, List, [], ◌∷◌, map, Option, None, Some, Result, Ok, Err, refl, sym, ap, ◌∙◌, subst, append-nil}
 use Rattle.std.specs.Prelude.{codes, slice_index_or}
 use Rattle.std.proofs.lemmas.List.Elements.{All-push}
 use Rattle.mail_wire.specs.KeeperTelling.{KeeperTelling}
@@ -27,8 +27,10 @@ use Rattle.mail_store.proofs.IndexLemmas.{AreStored-same}
 use Rattle.kept_mail.proofs.SameMessages.{AreSameMessages-flags, AreSameMessages-gone}
 use Rattle.session_core.specs.Around.{Around}
 use Rattle.session_core.specs.Changes.{append_changes, calls_of, changes_of, folder_changes, unless_refused}
+use Rattle.session_core.specs.Desks.{IsCacheOf}
 use Rattle.session_core.specs.Doing.{IsChanged}
 use Rattle.session_core.specs.Keeps.{Keeps, answer_of, fault_of}
+use Rattle.session_core.proofs.CachedLemmas.{IsCacheOf-after}
 
 -- ---- what holds after any records
 
@@ -134,7 +136,8 @@ changed_keeps a store keeper None made named changed cause wire = record {
     works = rw changed.store opens.works;
     named = rw (changed.store, named) opens.named;
     stored = rw changed.store (AreStored-after a.desk.store.kept (records_of made) changed.records opens.stored);
-    cached = tt;
+    cached = subst (λ (s : StoreState). IsCacheOf a.desk.cache s.kept) (sym changed.store) (IsCacheOf-after a.desk.cache a.desk.store.kept (records_of made) opens.cached);
+    places = opens.places;
   };
   limit = rw changed.store refl;
   name = rw changed.store named;

@@ -7,24 +7,27 @@ use Rattle.mail_wire.specs.declared.outside.Fault.TheVariants as fault
 use Rattle.mail_wire.specs.Moves.{GivesOrFails}
 use Rattle.mail_wire.specs.Telling.{Telling}
 use Rattle.mail_wire.proofs.Moving.{Gives-nil, Gives-trans, GivesPrefix-nil}
-use Rattle.session_core.specs.Acts.{Act, gives as gives_part, acts_of, changes_in}
+use Rattle.session_core.specs.Acts.{Act, gives as gives_part, acts_of, asked_in, changes_in}
 use Rattle.session_core.specs.Done.{given_by, StopsIn}
 use Rattle.mail_store.specs.Following.{records_of}
 use Rattle.journal_records.specs.declared.records.Record.{Record}
-use Rattle.session_core.proofs.DoneLemmas.{given_by-append, records_in-append, changes_in-acts, octets_of_acts, StopsIn-none, StopsIn-reply, IsDone-more}
+use Rattle.surrogate_cache.proofs.HeldLemmas.{Fetched-append}
+use Rattle.session_core.proofs.DoneLemmas.{given_by-append, records_in-append, asked_in-acts, asked_in-append, changes_in-acts, octets_of_acts, StopsIn-none, StopsIn-reply, IsDone-more}
 use Rattle.mail_store.proofs.FollowLemmas.{Follows-nil, Follows-more}
 use Rattle.session_core.specs.Around.{Around, LeavesDesk}
 use Rattle.session_core.specs.Doing.{Does, DoesAll, DoesFirst, Makes, Replies}
 use Rattle.session_core.specs.Keeps.{answer_of, fault_of}
+use Rattle.session_core.specs.declared.desk.Desk.{Desk}
 
 pub DoesAll-nil : {P : Type 0} (spelled : P → List ℕ) (a : Around) → DoesAll spelled a a []
-DoesAll-nil spelled a = record { gives = Gives-nil a.wire; follows = Follows-nil a.desk.store a.keeper.octets }
+DoesAll-nil spelled a = record { gives = Gives-nil a.wire; follows = Follows-nil a.desk.store a.keeper.octets; fetched = refl }
 
 pub DoesAll-then : {P : Type 0} (spelled : P → List ℕ) (a b c : Around) (xs ys : List (Act P)) → DoesAll spelled a b xs → DoesAll spelled b c ys → DoesAll spelled a c (xs ++ ys)
 DoesAll-then spelled a b c xs ys one two = record {
   gives = rw (given_by-append spelled xs ys) (Gives-trans a.wire b.wire c.wire (given_by spelled xs) (given_by spelled ys) one.gives two.gives);
   follows = rw (records_in-append xs ys)
       (Follows-more a.desk.store b.desk.store c.desk.store a.keeper.octets b.keeper.octets c.keeper.octets (records_of (changes_in xs)) (records_of (changes_in ys)) one.follows two.follows);
+  fetched = rw (asked_in-append xs ys) (Fetched-append (asked_in xs) (asked_in ys) a.desk.cache b.desk.cache c.desk.cache one.fetched two.fetched);
 }
 
 -- some of these acts were done behind others, and before others
@@ -96,6 +99,7 @@ pub Does-changes : {P : Type 0} (spelled : P → List ℕ) (a b c : Around) (met
 Does-changes spelled a b c None made reply makes replies = record {
   gives = rw (octets_of_acts spelled made reply, ← makes.wire) replies.gives;
   follows = rw (changes_in-acts made reply, replies.leaves.desk, replies.leaves.keeper) makes.changes;
+  fetched = rw (asked_in-acts made reply) (ap (λ (desk : Desk). desk.cache) replies.leaves.desk ∙ makes.cache);
 }
 Does-changes spelled a b c (Some fault.Keeper) made reply makes replies = absurd (replies.fine refl)
 Does-changes spelled a b c (Some fault.Wire) made reply makes replies = record {
@@ -111,7 +115,7 @@ Does-changes spelled a b c (Some fault.Memory) made reply makes replies = record
 
 -- a reply
 pub Does-replies : {P : Type 0} (spelled : P → List ℕ) (a b : Around) (met : Option Fault) (reply : List P) → Replies a b met (flat_map spelled reply) → Does spelled a b met (acts_of [] reply)
-Does-replies spelled a b met reply replies = Does-changes spelled a a b met [] reply (record { wire = refl; changes = Follows-nil a.desk.store a.keeper.octets }) replies
+Does-replies spelled a b met reply replies = Does-changes spelled a a b met [] reply (record { wire = refl; cache = refl; changes = Follows-nil a.desk.store a.keeper.octets }) replies
 
 -- changes that broke off
 pub Does-unchanged : {P : Type 0} (spelled : P → List ℕ) (a b : Around) (met : Fault) (made : List (List Record)) (reply : List P) → Makes a b (Some met) made → DoesFirst spelled a b met (acts_of made reply)

@@ -5,11 +5,12 @@ use Rattle.std.specs.List.{flat_map}
 use Rattle.std.proofs.lemmas.List.Concat.{flat_map-append}
 use Rattle.mail_wire.specs.declared.outside.Fault.{Fault}
 use Rattle.mail_wire.specs.declared.outside.Fault.TheVariants as fault
-use Rattle.session_core.specs.Acts.{Act, gives, changes, acts_of, changes_in, act_octets}
+use Rattle.session_core.specs.Acts.{Act, gives, changes, asks, acts_of, asked_in, asking, changes_in, act_octets}
 use Rattle.session_core.specs.Done.{given_by, StopsIn, FailsIn, IsDone}
 use Rattle.mail_store.specs.Following.{records_of, Follows}
 use Rattle.mail_store.specs.StoreState.{StoreState}
 use Rattle.journal_records.specs.declared.records.Record.{Record}
+use Rattle.surrogate_cache.specs.Caching.{Asked}
 use Rattle.mail_store.proofs.FollowLemmas.{Follows-nil, Follows-more, Breaks-more, records_of-append}
 
 -- ---- acts
@@ -18,6 +19,13 @@ pub changes_in-append : {P : Type 0} (xs ys : List (Act P)) → changes_in (xs +
 changes_in-append [] ys = refl
 changes_in-append (gives part ∷ xs) ys = changes_in-append xs ys
 changes_in-append (changes records ∷ xs) ys = ap (λ l. records ∷ l) (changes_in-append xs ys)
+changes_in-append (asks asked ∷ xs) ys = changes_in-append xs ys
+
+pub asked_in-append : {P : Type 0} (xs ys : List (Act P)) → asked_in (xs ++ ys) ≡ asked_in xs ++ asked_in ys
+asked_in-append [] ys = refl
+asked_in-append (gives part ∷ xs) ys = asked_in-append xs ys
+asked_in-append (changes records ∷ xs) ys = asked_in-append xs ys
+asked_in-append (asks asked ∷ xs) ys = ap (λ l. asked ∷ l) (asked_in-append xs ys)
 
 of_reply : {P : Type 0} (reply : List P) → changes_in (map gives reply) ≡ []
 of_reply [] = refl
@@ -44,6 +52,15 @@ pub octets_of_acts : {P : Type 0} (spelled : P → List ℕ) (made : List (List 
 octets_of_acts spelled [] reply = octets_of_reply spelled reply
 octets_of_acts spelled (records ∷ made) reply = octets_of_acts spelled made reply
 
+none_asked : {P : Type 0} (reply : List P) → asked_in (map gives reply) ≡ []
+none_asked [] = refl
+none_asked (part ∷ reply) = none_asked reply
+
+-- changes and a reply ask for no message
+pub asked_in-acts : {P : Type 0} (made : List (List Record)) (reply : List P) → asked_in (acts_of made reply) ≡ []
+asked_in-acts [] reply = none_asked reply
+asked_in-acts (records ∷ made) reply = asked_in-acts made reply
+
 pub given_by-append : {P : Type 0} (spelled : P → List ℕ) (xs ys : List (Act P)) → given_by spelled (xs ++ ys) ≡ given_by spelled xs ++ given_by spelled ys
 given_by-append spelled xs ys = flat_map-append (act_octets spelled) xs ys
 
@@ -51,26 +68,57 @@ given_by-append spelled xs ys = flat_map-append (act_octets spelled) xs ys
 pub records_in-append : {P : Type 0} (xs ys : List (Act P)) → records_of (changes_in (xs ++ ys)) ≡ records_of (changes_in xs) ++ records_of (changes_in ys)
 records_in-append xs ys = ap (λ (l : List (List Record)). records_of l) (changes_in-append xs ys) ∙ records_of-append (changes_in xs) (changes_in ys)
 
+-- ---- acts behind the messages that are asked for
+
+pub asked_in-asking : {P : Type 0} (asked : List Asked) (acts : List (Act P)) → asked_in (asking asked acts) ≡ asked ++ asked_in acts
+asked_in-asking [] acts = refl
+asked_in-asking (one ∷ asked) acts = ap (λ l. one ∷ l) (asked_in-asking asked acts)
+
+pub changes_in-asking : {P : Type 0} (asked : List Asked) (acts : List (Act P)) → changes_in (asking asked acts) ≡ changes_in acts
+changes_in-asking [] acts = refl
+changes_in-asking (one ∷ asked) acts = changes_in-asking asked acts
+
+pub given_by-asking : {P : Type 0} (spelled : P → List ℕ) (asked : List Asked) (acts : List (Act P)) → given_by spelled (asking asked acts) ≡ given_by spelled acts
+given_by-asking spelled [] acts = refl
+given_by-asking spelled (one ∷ asked) acts = given_by-asking spelled asked acts
+
 -- ---- one call
 
 -- nothing was done
 pub StopsIn-none : {P : Type 0} (spelled : P → List ℕ) (old : StoreState) (had : Option (List ℕ)) (acts : List (Act P)) → StopsIn spelled old old had had acts []
 StopsIn-none spelled old had acts =
-    record { done = []; parts = []; left = acts; acts_are = refl; begun = []; missing = []; parts_are = refl; given_is = refl; follows = Follows-nil old had }
+    record { done = []; cut = []; left = acts; acts_are = refl; unchanged = refl; begun = []; missing = []; cut_is = refl; given_is = refl; follows = Follows-nil old had }
 
 -- the changes were made, and of the reply a prefix was given
 pub StopsIn-reply : {P : Type 0} (spelled : P → List ℕ) (old new : StoreState) (had has : Option (List ℕ)) (made : List (List Record)) (reply : List P) (given missing : List ℕ)
     → Follows old new had has (records_of made) → given ++ missing ≡ flat_map spelled reply → StopsIn spelled old new had has (acts_of made reply) given
 StopsIn-reply {P = P} spelled old new had has made reply given missing follows whole = record {
   done = map changes made;
-  parts = reply;
+  cut = map gives reply;
   left = [];
   acts_are = ap (λ l. map changes made ++ l) (sym (append-nil (map gives reply)));
+  unchanged = of_reply reply;
   begun = given;
   missing = missing;
-  parts_are = sym whole;
+  cut_is = octets_of_reply spelled reply ∙ sym whole;
   given_is = ap (λ l. l ++ given) (sym (nothing_given spelled made));
   follows = rw (changes_alone P made) follows;
+}
+
+-- of a reply behind the messages that are asked for a prefix was given
+pub StopsIn-asked : {P : Type 0} (spelled : P → List ℕ) (old : StoreState) (had : Option (List ℕ)) (asked : List Asked) (reply : List P) (given missing : List ℕ) → given ++ missing ≡ flat_map spelled reply
+    → StopsIn spelled old old had had (asking asked (acts_of [] reply)) given
+StopsIn-asked spelled old had asked reply given missing whole = record {
+  done = [];
+  cut = asking asked (acts_of [] reply);
+  left = [];
+  acts_are = sym (append-nil (asking asked (acts_of [] reply)));
+  unchanged = changes_in-asking asked (acts_of [] reply) ∙ of_reply reply;
+  begun = given;
+  missing = missing;
+  cut_is = given_by-asking spelled asked (acts_of [] reply) ∙ octets_of_reply spelled reply ∙ sym whole;
+  given_is = refl;
+  follows = Follows-nil old had;
 }
 
 -- ---- acts behind others, and before others
@@ -88,12 +136,13 @@ StopsIn-more : {P : Type 0} (spelled : P → List ℕ) (old mid new : StoreState
     → StopsIn spelled old new had having (front ++ (acts ++ more)) (given_by spelled front ++ given)
 StopsIn-more spelled old mid new had has having front acts more given first stops = record {
   done = front ++ stops.done;
-  parts = stops.parts;
+  cut = stops.cut;
   left = stops.left ++ more;
-  acts_are = ap (λ l. front ++ (l ++ more)) stops.acts_are ∙ behind_and_before front stops.done (map gives stops.parts) stops.left more;
+  acts_are = ap (λ l. front ++ (l ++ more)) stops.acts_are ∙ behind_and_before front stops.done stops.cut stops.left more;
+  unchanged = stops.unchanged;
   begun = stops.begun;
   missing = stops.missing;
-  parts_are = stops.parts_are;
+  cut_is = stops.cut_is;
   given_is = ap (λ l. given_by spelled front ++ l) stops.given_is ∙ front_given spelled front stops.done stops.begun;
   follows = rw (records_in-append front stops.done)
       (Follows-more old mid new had has having (records_of (changes_in front)) (records_of (changes_in stops.done)) first stops.follows);

@@ -5,7 +5,8 @@ use Rattle.mail_wire.proofs.AllLemmas.{all-append}
 use Rattle.session_core.proofs.TurnsLemmas.{turns-zero, turns-stop, turns-go}
 use Rattle.std.specs.List.{AllByRecursion}
 use Rattle.journal_records.specs.declared.records.Record.{Record}
-use Rattle.session_core.specs.Acts.{Act, acts_of, IsFitAct}
+use Rattle.surrogate_cache.specs.Caching.{Asked}
+use Rattle.session_core.specs.Acts.{Act, acts_of, asking, IsFitAct}
 use Rattle.session_core.specs.Meanings.{Meanings}
 use Rattle.session_core.specs.Protocol.{Protocol, IsFitTurn}
 
@@ -17,6 +18,11 @@ fit_reply Fits (part ∷ reply) fit = (fit.0, fit_reply Fits reply fit.1)
 pub fit_acts : {P : Type 0} (Fits : P → Type 0) (made : List (List Record)) (reply : List P) → AllByRecursion Fits reply → AllByRecursion (IsFitAct Fits) (acts_of made reply)
 fit_acts Fits [] reply fit = fit_reply Fits reply fit
 fit_acts Fits (records ∷ made) reply fit = (tt, fit_acts Fits made reply fit)
+
+-- acts behind the messages that are asked for
+pub fit_asking : {P : Type 0} (Fits : P → Type 0) (asked : List Asked) (acts : List (Act P)) → AllByRecursion (IsFitAct Fits) acts → AllByRecursion (IsFitAct Fits) (asking asked acts)
+fit_asking Fits [] acts fit = fit
+fit_asking Fits (one ∷ asked) acts fit = (tt, fit_asking Fits asked acts fit)
 
 -- each turn of a sound state may be sent
 abbrev pub TurnsFit : Protocol → Meanings → Type 0

@@ -11,7 +11,7 @@ use Rattle.session_core.specs.Keeps.{Keeps, answer_of}
 
 -- ---- the keeper
 
-keeper_still : (a : KeeperTelling) → HasKeeperCause a a (answer_of None) fault.Keeper
+pub keeper_still : (a : KeeperTelling) → HasKeeperCause a a (answer_of None) fault.Keeper
 keeper_still a = record { later = omega arith; rose = λ bad. absurd cc; sure = λ sure. (sure, λ bad. cc) }
 
 keeper_then : (a b c : KeeperTelling) (met : Option Fault) → HasKeeperCause a b (answer_of None) fault.Keeper → HasKeeperCause b c (answer_of met) fault.Keeper → HasKeeperCause a c (answer_of met) fault.Keeper

@@ -5,6 +5,8 @@ pub mod KeepsLemmas
 pub mod TurnsLemmas
 pub mod DoneLemmas
 pub mod DoingLemmas
+pub mod AskingLemmas
+pub mod CachedLemmas
 pub mod FitLemmas
 pub mod GoingLemmas
 pub mod StepLemmas

@@ -1,6 +1,5 @@
 -- A session over a wire, between two takes and at its end, whatever its machine.
 use Rattle.std.proofs.Common.{◌≡◌, ℕ, ◌+◌, ◌<◌, ◌≤◌, List, [], ◌∷◌, ◌++◌, length, take, Option, None, Some, Ok, Err, refl, sym, ap, ◌∙◌, append-nil, append_assoc, arith, inl, inr, subst, length-append}
-use Rattle.std.specs.Prelude.{map}
 use Rattle.std.specs.List.{All, AllByRecursion}
 use Rattle.std.proofs.lemmas.List.{length-take-le}
 use Rattle.std.proofs.lemmas.List.Elements.{All-nil}
@@ -14,11 +13,13 @@ use Rattle.mail_wire.specs.Transcript.{taken_of}
 use Rattle.mail_wire.specs.Moves.{TakesPiece, TakesNothing}
 use Rattle.mail_wire.proofs.AllLemmas.{all-append}
 use Rattle.session_core.proofs.TurnsLemmas.{all_turns-append, all_turns-stop}
-use Rattle.session_core.specs.Acts.{Act, IsFitAct, gives, changes, changes_in}
+use Rattle.session_core.specs.Acts.{Act, IsFitAct, changes, asked_in, changes_in}
 use Rattle.session_core.specs.Done.{given_by, StopsIn, FailsIn, IsDone}
 use Rattle.mail_store.specs.Following.{records_of, Follows}
 use Rattle.mail_store.specs.StoreState.{StoreState}
-use Rattle.session_core.proofs.DoneLemmas.{IsDone-more, given_by-append, octets_of_acts, records_in-append}
+use Rattle.surrogate_cache.specs.Caching.{CacheState, Fetched}
+use Rattle.surrogate_cache.proofs.HeldLemmas.{Fetched-append}
+use Rattle.session_core.proofs.DoneLemmas.{IsDone-more, asked_in-append, given_by-append, records_in-append}
 use Rattle.mail_store.proofs.FollowLemmas.{Follows-more}
 use Rattle.session_core.specs.Around.{Around, LeavesDesk}
 use Rattle.session_core.specs.Desks.{IsOpen}
@@ -26,7 +27,7 @@ use Rattle.session_core.specs.Meanings.{Meanings, AreMeanings, WithMeanings}
 use Rattle.session_core.specs.Moments.{Moment, IsTold}
 use Rattle.session_core.specs.Protocol.{Protocol, IsFitTurn}
 use Rattle.session_core.specs.Served.{met_of, served_of}
-use Rattle.session_core.specs.Serving.{Course, course_of, turns_for, acts_for, replies_to, changes_by, EndsBy, IsSent, IsPrefixOf, MayTake, ServesLawfully, Serves, ServesBy}
+use Rattle.session_core.specs.Serving.{Course, course_of, turns_for, acts_for, asked_for, replies_to, changes_by, EndsBy, IsSent, IsPrefixOf, MayTake, ServesLawfully, Serves, ServesBy, ServesFrom}
 use Rattle.session_core.specs.Sessions.{BeginsSession, Feeds, FeedsBy, HasEnded, StandsFor}
 use Rattle.session_core.specs.Steps.{Standing}
 use Rattle.session_core.specs.declared.desk.Desk.{Desk}
@@ -105,9 +106,8 @@ stops_begins : {P : Type 0} (spelled : P → List ℕ) (old new : StoreState) (h
 stops_begins spelled old new had has acts given stops =
     let left = given_by spelled stops.left in (
       stops.missing ++ left,
-      ap (given_by spelled) stops.acts_are ∙ given_by-append spelled stops.done (map gives stops.parts ++ stops.left)
-          ∙ ap (λ l. given_by spelled stops.done ++ l)
-          (given_by-append spelled (map gives stops.parts) stops.left ∙ ap (λ l. l ++ left) (octets_of_acts spelled [] stops.parts ∙ stops.parts_are))
+      ap (given_by spelled) stops.acts_are ∙ given_by-append spelled stops.done (stops.cut ++ stops.left)
+          ∙ ap (λ l. given_by spelled stops.done ++ l) (given_by-append spelled stops.cut stops.left ∙ ap (λ l. l ++ left) stops.cut_is)
           ∙ behind_begun (given_by spelled stops.done) stops.begun stops.missing left ∙ ap (λ l. l ++ (stops.missing ++ left)) (sym stops.given_is),
     )
 
@@ -141,6 +141,11 @@ not_limit fault.Keeper is = cc
 not_limit fault.Wire is = cc
 not_limit fault.Memory is = cc
 
+not_whole : (met : Fault) → met_of (served_of (Err met)) ≡ None → ⊥
+not_whole fault.Keeper is = cc
+not_whole fault.Wire is = cc
+not_whole fault.Memory is = cc
+
 never_limit : Ended ≡ Limit → ⊥
 never_limit is = cc
 
@@ -148,36 +153,44 @@ never_limit is = cc
 
 lawfully : (course : Course) → IsFramed course.next → (store after : StoreState) (had has : Option (List ℕ)) (served : Served) (max : ℕ) (a b : Telling) (taken given : List ℕ) → length taken ≤ max
     → (half : Halfway (replies_to course store) (MayTake course store) a b taken given) → IsDone course.spelled store after had has (met_of served) (acts_for course store taken) given
-    → ServesLawfully course store after had has served max a b
-lawfully course framed store after had has served max a b taken given few half done = record {
-  entries = half.entries;
-  moves = half.moves;
-  lawful = half.lawful;
-  takes = half.takes;
-  few = rw half.taken_is few;
-  begun = rw half.given_is (begins_answer (replies_to course store) (MayTake course store) a b taken given (grows course framed store) half
-      (done_begins course.spelled store after had has (met_of served) (acts_for course store taken) given done));
-  done = rw (half.taken_is, half.given_is) done;
-}
+    → (lawful : ServesLawfully course store after had has served max a b) × (taken_of lawful.entries ≡ taken)
+lawfully course framed store after had has served max a b taken given few half done = (
+  record {
+    entries = half.entries;
+    moves = half.moves;
+    lawful = half.lawful;
+    takes = half.takes;
+    few = rw half.taken_is few;
+    begun = rw half.given_is (begins_answer (replies_to course store) (MayTake course store) a b taken given (grows course framed store) half
+        (done_begins course.spelled store after had has (met_of served) (acts_for course store taken) given done));
+    done = rw (half.taken_is, half.given_is) done;
+  },
+  half.taken_is,
+)
 
 -- a fault broke it off
-broken_off : (course : Course) → IsFramed course.next → (store after : StoreState) (had has : Option (List ℕ)) (met : Fault) (max : ℕ) (a b : Telling) (taken given : List ℕ) → length taken ≤ max
-    → Halfway (replies_to course store) (MayTake course store) a b taken given → IsDone course.spelled store after had has (Some met) (acts_for course store taken) given
-    → Serves course store after had has (served_of (Err met)) max a b
-broken_off course framed store after had has met max a b taken given few half done = record {
-  lawful = lawfully course framed store after had has (served_of (Err met)) max a b taken given few half (rw answered done);
-  ended = λ is. absurd (not_ended met is);
-  limit = λ is. absurd (not_limit met is);
+broken_off : (course : Course) → IsFramed course.next → (a b : Around) (met : Fault) (taken given : List ℕ) → length taken ≤ a.desk.limits.session_max
+    → Halfway (replies_to course a.desk.store) (MayTake course a.desk.store) a.wire b.wire taken given
+    → IsDone course.spelled a.desk.store b.desk.store a.keeper.octets b.keeper.octets (Some met) (acts_for course a.desk.store taken) given → ServesFrom course a b (served_of (Err met))
+broken_off course framed a b met taken given few half done = record {
+  serves = record {
+    lawful = (lawfully course framed a.desk.store b.desk.store a.keeper.octets b.keeper.octets (served_of (Err met)) a.desk.limits.session_max a.wire b.wire taken given few half (rw answered done)).0;
+    ended = λ is. absurd (not_ended met is);
+    limit = λ is. absurd (not_limit met is);
+  };
+  taken = λ is. absurd (not_whole met is);
+  whole = λ is. absurd (not_ended met is);
 }
 
 -- ---- what holds between two takes
 
--- All that was taken is answered, its changes are made, and the session stands for what follows.
+-- All that was taken is answered, its changes are made, what it asks for is fetched, and the session stands for what follows.
 pub record GoesBy (protocol : Protocol) {M : Type 0} (stands : Standing protocol M) (meanings : Meanings) (moments more : List Moment) (a b : Around) (at : Session M) (taken : ℕ) : Type 0 where
   pub octets : List ℕ
   pub serving : Serving (replies_to (course_of protocol meanings moments) a.desk.store) (MayTake (course_of protocol meanings moments) a.desk.store) a.wire b.wire octets
   pub stood : StandsFor protocol stands more at b.desk (turns_for (course_of protocol meanings moments) a.desk.store octets).after (turns_for (course_of protocol meanings moments) a.desk.store octets).rest
   pub follows : Follows a.desk.store b.desk.store a.keeper.octets b.keeper.octets (records_of (changes_by (course_of protocol meanings moments) a.desk.store octets))
+  pub fetched : Fetched a.desk.cache (asked_for (course_of protocol meanings moments) a.desk.store octets) b.desk.cache
   pub count : length octets ≡ taken
 
 -- The same whatever is meant, with moments that the clock told, and whatever moments are to come.
@@ -202,6 +215,7 @@ goes_first protocol stands a b at begins = record {
             (sym (ap (given_by course.spelled) none));
         stood = rw (turns_for-nil course a.desk.store) (begins.stands_for more);
         follows = rw none does.follows;
+        fetched = rw none does.fetched;
         count = refl;
       };
 }
@@ -240,6 +254,8 @@ more_by protocol stands laws meanings are moments sooner more a b c d at next ta
       stood = rw (turns_for-append course framed store so.octets (take n into)) fed.stands_for;
       follows = rw (acts, records_in-append (acts_for course store so.octets) turn.parts)
           (Follows-more store b.desk.store d.desk.store a.keeper.octets b.keeper.octets d.keeper.octets (records_of (changes_by course store so.octets)) (records_of (changes_in turn.parts)) so.follows after);
+      fetched = rw (acts, asked_in-append (acts_for course store so.octets) turn.parts)
+          (Fetched-append (asked_for course store so.octets) (asked_in turn.parts) a.desk.cache b.desk.cache d.desk.cache so.fetched (rw leaves.desk at fed.does.fetched));
       count = taken_more so.octets into taken n so.count low;
     }
 
@@ -276,7 +292,7 @@ start_fails protocol stands laws a b met begins = record {
       let does = begins.does meanings are in
       let store = a.desk.store in
       let first = DoesFirst-between course.spelled a a b met [] (course.opening store) (turns_for course store []).parts (DoesAll-nil course.spelled a) does in
-      broken_off course (laws.framed meanings are) store b.desk.store a.keeper.octets b.keeper.octets met a.desk.limits.session_max a.wire b.wire [] first.given (omega arith)
+      broken_off course (laws.framed meanings are) a b met [] first.given (omega arith)
       (Halfway-first (replies_to course store) (MayTake course store) a.wire b.wire first.given first.gives) first.done;
 }
 
@@ -295,7 +311,7 @@ take_fails protocol stands laws a b c at taken met fine few leaves nothing goes 
       let none = DoesFirst-none course.spelled c met [] fine in
       let follows : Follows store c.desk.store a.keeper.octets c.keeper.octets (records_of (changes_in acts)) = rw (leaves.desk, leaves.keeper) so.follows in
       let done = IsDone-more course.spelled store c.desk.store c.desk.store a.keeper.octets c.keeper.octets c.keeper.octets met acts [] [] none.given follows none.done in
-      broken_off course (laws.framed meanings are) store c.desk.store a.keeper.octets c.keeper.octets met a.desk.limits.session_max a.wire c.wire so.octets (front ++ none.given) (rw so.count few)
+      broken_off course (laws.framed meanings are) a c met so.octets (front ++ none.given) (rw so.count few)
       (Halfway-give (replies_to course store) (MayTake course store) a.wire c.wire c.wire so.octets front none.given
       (Halfway-of (replies_to course store) (MayTake course store) a.wire c.wire so.octets (Serving-nothing (replies_to course store) (MayTake course store) a.wire b.wire c.wire so.octets so.serving nothing)) none.gives)
       (rw (append-nil acts) at done);
@@ -321,7 +337,7 @@ feed_fails protocol stands laws a b c d at taken n into piece met few clock tick
       let follows : Follows store c.desk.store a.keeper.octets c.keeper.octets (records_of (changes_in acts)) = rw (leaves.desk, leaves.keeper) so.follows in
       let whole : acts_for course store (so.octets ++ take n into) ≡ acts ++ (turn.parts ++ []) =
       acts_for-append course (laws.framed meanings are) store so.octets (take n into) ∙ ap (λ l. acts ++ l) (sym (append-nil turn.parts)) in
-      broken_off course (laws.framed meanings are) store d.desk.store a.keeper.octets d.keeper.octets met a.desk.limits.session_max a.wire d.wire (so.octets ++ take n into) (front ++ by.does.given)
+      broken_off course (laws.framed meanings are) a d met (so.octets ++ take n into) (front ++ by.does.given)
       (rw (taken_more so.octets into taken n so.count low) few)
       (Halfway-give (replies_to course store) (MayTake course store) a.wire c.wire d.wire (so.octets ++ take n into) front by.does.given
       (Halfway-take (replies_to course store) (MayTake course store) a.wire b.wire c.wire so.octets into n so.serving took (may_take protocol stands laws meanings moments (fed.told ++ more) a b at taken n into so still low most)) by.does.gives)
@@ -342,15 +358,23 @@ sent : (protocol : Protocol) {M : Type 0} (stands : Standing protocol M) → Are
     → IsSent (course_of protocol meanings moments) a.desk.store b.desk.store a.keeper.octets b.keeper.octets so.octets (replies_to (course_of protocol meanings moments) a.desk.store so.octets)
 sent protocol stands laws meanings are moments more a b at taken opens so = record { replies = refl; fit = acts_fit protocol stands laws meanings are moments a.desk so.octets opens; changes = so.follows }
 
--- after the end more octets change nothing
+-- after the end more octets bring nothing
+acts_for-over : (course : Course) → IsFramed course.next → ((state : course.S) (octets : List ℕ) → course.HasEnded state → all_turns course.next state octets ≡ stay state octets) → (store : StoreState) (octets more : List ℕ)
+    → EndsBy course store octets → acts_for course store (octets ++ more) ≡ acts_for course store octets
+acts_for-over course framed quiet store octets more ends =
+    let turn = turns_for course store octets in
+    let none : piece_turn course store octets more ≡ stay turn.after (turn.rest ++ more) = quiet turn.after (turn.rest ++ more) ends in
+    acts_for-append course framed store octets more
+    ∙ ap (λ (t : Turn course.S (Act course.P)). acts_for course store octets ++ t.parts) none ∙ append-nil (acts_for course store octets)
+
+fetched_more : (course : Course) → IsFramed course.next → ((state : course.S) (octets : List ℕ) → course.HasEnded state → all_turns course.next state octets ≡ stay state octets) → (store : StoreState) (old new : CacheState)
+    (octets more : List ℕ) → EndsBy course store octets → Fetched old (asked_for course store octets) new → Fetched old (asked_for course store (octets ++ more)) new
+fetched_more course framed quiet store old new octets more ends fetched = rw (acts_for-over course framed quiet store octets more ends) fetched
+
 sent_more : (course : Course) → IsFramed course.next → ((state : course.S) (octets : List ℕ) → course.HasEnded state → all_turns course.next state octets ≡ stay state octets) → (store after : StoreState) (had has : Option (List ℕ))
     (octets given more : List ℕ) → EndsBy course store octets → IsSent course store after had has octets given → IsSent course store after had has (octets ++ more) given
 sent_more course framed quiet store after had has octets given more ends is =
-    let turn = turns_for course store octets in
-    let none : piece_turn course store octets more ≡ stay turn.after (turn.rest ++ more) = quiet turn.after (turn.rest ++ more) ends in
-    let acts : acts_for course store (octets ++ more) ≡ acts_for course store octets =
-    acts_for-append course framed store octets more
-    ∙ ap (λ (t : Turn course.S (Act course.P)). acts_for course store octets ++ t.parts) none ∙ append-nil (acts_for course store octets) in
+    let acts = acts_for-over course framed quiet store octets more ends in
     record {
       replies = is.replies ∙ sym (ap (given_by course.spelled) acts);
       fit = rw acts is.fit;
@@ -358,41 +382,46 @@ sent_more course framed quiet store after had has octets given more ends is =
     }
 
 -- all that was taken was done
-goes_lawfully : (protocol : Protocol) {M : Type 0} (stands : Standing protocol M) → AreLaws protocol stands → (meanings : Meanings) → AreMeanings meanings → (moments more : List Moment) (a b : Around) (at : Session M) (taken max : ℕ)
-    (served : Served) → met_of served ≡ None → taken ≤ max → GoesBy protocol stands meanings moments more a b at taken
-    → ServesLawfully (course_of protocol meanings moments) a.desk.store b.desk.store a.keeper.octets b.keeper.octets served max a.wire b.wire
-goes_lawfully protocol stands laws meanings are moments more a b at taken max served whole few so =
+goes_lawfully : (protocol : Protocol) {M : Type 0} (stands : Standing protocol M) → AreLaws protocol stands → (meanings : Meanings) → AreMeanings meanings → (moments more : List Moment) (a b : Around) (at : Session M) (taken : ℕ)
+    (served : Served) → met_of served ≡ None → taken ≤ a.desk.limits.session_max → (so : GoesBy protocol stands meanings moments more a b at taken)
+    → (lawful : ServesLawfully (course_of protocol meanings moments) a.desk.store b.desk.store a.keeper.octets b.keeper.octets served a.desk.limits.session_max a.wire b.wire) × (taken_of lawful.entries ≡ so.octets)
+goes_lawfully protocol stands laws meanings are moments more a b at taken served whole few so =
     let course = course_of protocol meanings moments in
-    lawfully course (laws.framed meanings are) a.desk.store b.desk.store a.keeper.octets b.keeper.octets served max a.wire b.wire so.octets (replies_to course a.desk.store so.octets) (rw so.count few)
+    lawfully course (laws.framed meanings are) a.desk.store b.desk.store a.keeper.octets b.keeper.octets served a.desk.limits.session_max a.wire b.wire so.octets (replies_to course a.desk.store so.octets) (rw so.count few)
     (Halfway-of (replies_to course a.desk.store) (MayTake course a.desk.store) a.wire b.wire so.octets so.serving) (rw whole (refl, so.follows))
 
 -- the session has ended
-session_by : (protocol : Protocol) {M : Type 0} (stands : Standing protocol M) → AreLaws protocol stands → (meanings : Meanings) → AreMeanings meanings → (moments more : List Moment) (a b : Around) (at : Session M) (taken max : ℕ)
-    → IsOpen a.desk → taken ≤ max → HasEnded at → GoesBy protocol stands meanings moments more a b at taken
-    → Serves (course_of protocol meanings moments) a.desk.store b.desk.store a.keeper.octets b.keeper.octets Ended max a.wire b.wire
-session_by protocol stands laws meanings are moments more a b at taken max opens few is so =
+session_by : (protocol : Protocol) {M : Type 0} (stands : Standing protocol M) → AreLaws protocol stands → (meanings : Meanings) → AreMeanings meanings → (moments more : List Moment) (a b : Around) (at : Session M) (taken : ℕ)
+    → IsOpen a.desk → taken ≤ a.desk.limits.session_max → HasEnded at → GoesBy protocol stands meanings moments more a b at taken → ServesFrom (course_of protocol meanings moments) a b Ended
+session_by protocol stands laws meanings are moments more a b at taken opens few is so =
     let course = course_of protocol meanings moments in
     let store = a.desk.store in
     let turns = turns_for course store so.octets in
     let ends : EndsBy course store so.octets = ended_state protocol stands more at b.desk turns.after turns.rest so.stood is in
     let due = sent protocol stands laws meanings are moments more a b at taken opens so in
     let over = λ (state : course.S) (octets : List ℕ) (ended : course.HasEnded state). all_turns-stop course.next state octets (laws.quiet meanings state octets ended) in
+    let law = goes_lawfully protocol stands laws meanings are moments more a b at taken Ended refl few so in
+    let begins = left_begins (replies_to course store) (MayTake course store) a.wire b.wire so.octets (replies_to course store so.octets)
+    (Halfway-of (replies_to course store) (MayTake course store) a.wire b.wire so.octets so.serving) in
     record {
-      lawful = goes_lawfully protocol stands laws meanings are moments more a b at taken max Ended refl few so;
-      ended = λ _. record {
-        entries = so.serving.entries;
-        moves = so.serving.moves;
-        lawful = so.serving.lawful;
-        takes = so.serving.takes;
-        few = rw (so.serving.taken_is, so.count) few;
-        sent = rw (so.serving.taken_is, so.serving.answered) due;
-        whole = rw so.serving.answered (IfSome_then a.wire.left {P = λ octets. IsPrefixOf so.octets octets}
-            (left_begins (replies_to course store) (MayTake course store) a.wire b.wire so.octets (replies_to course store so.octets)
-            (Halfway-of (replies_to course store) (MayTake course store) a.wire b.wire so.octets so.serving))
-            (λ octets front. rw front.1 (sent_more course (laws.framed meanings are) over store b.desk.store a.keeper.octets b.keeper.octets so.octets (replies_to course store so.octets) front.0 ends due)));
-        end = inl (rw so.serving.taken_is ends);
+      serves = record {
+        lawful = law.0;
+        ended = λ _. record {
+          entries = so.serving.entries;
+          moves = so.serving.moves;
+          lawful = so.serving.lawful;
+          takes = so.serving.takes;
+          few = rw (so.serving.taken_is, so.count) few;
+          sent = rw (so.serving.taken_is, so.serving.answered) due;
+          whole = rw so.serving.answered (IfSome_then a.wire.left {P = λ octets. IsPrefixOf so.octets octets} begins
+              (λ octets front. rw front.1 (sent_more course (laws.framed meanings are) over store b.desk.store a.keeper.octets b.keeper.octets so.octets (replies_to course store so.octets) front.0 ends due)));
+          end = inl (rw so.serving.taken_is ends);
+        };
+        limit = λ bad. absurd (never_limit bad);
       };
-      limit = λ bad. absurd (never_limit bad);
+      taken = λ _. rw law.1 so.fetched;
+      whole = λ _. IfSome_then a.wire.left {P = λ octets. IsPrefixOf so.octets octets} begins
+          (λ octets front. rw front.1 (fetched_more course (laws.framed meanings are) over store a.desk.cache b.desk.cache so.octets front.0 ends so.fetched));
     }
 
 pub session_ends : (protocol : Protocol) {M : Type 0} (stands : Standing protocol M) → AreLaws protocol stands → (a b : Around) (at : Session M) (taken : ℕ) → IsOpen a.desk → taken ≤ a.desk.limits.session_max → HasEnded at
@@ -400,37 +429,47 @@ pub session_ends : (protocol : Protocol) {M : Type 0} (stands : Standing protoco
 session_ends protocol stands laws a b at taken opens few is goes = record {
   told = goes.told;
   are_told = goes.are_told;
-  holds = λ meanings are more. session_by protocol stands laws meanings are (goes.told ++ more) more a b at taken a.desk.limits.session_max opens few is (goes.goes meanings are more);
+  holds = λ meanings are more. session_by protocol stands laws meanings are (goes.told ++ more) more a b at taken opens few is (goes.goes meanings are more);
 }
 
 -- nothing was left to take
-input_by : (protocol : Protocol) {M : Type 0} (stands : Standing protocol M) → AreLaws protocol stands → (meanings : Meanings) → AreMeanings meanings → (moments more : List Moment) (a b c : Around) (at : Session M) (taken max n : ℕ) (into : List ℕ)
-    → IsOpen a.desk → (HasEnded at → ⊥) → TakesPiece b.wire c.wire n into → n ≡ 0 → taken < max → GoesBy protocol stands meanings moments more a b at taken
-    → Serves (course_of protocol meanings moments) a.desk.store b.desk.store a.keeper.octets b.keeper.octets Ended max a.wire c.wire
-input_by protocol stands laws meanings are moments more a b c at taken max n into opens still piece none low so =
+input_by : (protocol : Protocol) {M : Type 0} (stands : Standing protocol M) → AreLaws protocol stands → (meanings : Meanings) → AreMeanings meanings → (moments more : List Moment) (a b c : Around) (at : Session M) (taken n : ℕ) (into : List ℕ)
+    → IsOpen a.desk → (HasEnded at → ⊥) → LeavesDesk b c → TakesPiece b.wire c.wire n into → n ≡ 0 → taken < a.desk.limits.session_max → GoesBy protocol stands meanings moments more a b at taken
+    → ServesFrom (course_of protocol meanings moments) a c Ended
+input_by protocol stands laws meanings are moments more a b c at taken n into opens still leaves piece none low so =
     let course = course_of protocol meanings moments in
     let store = a.desk.store in
-    let due = sent protocol stands laws meanings are moments more a b at taken opens so in
+    let max = a.desk.limits.session_max in
+    let due : IsSent course store c.desk.store a.keeper.octets c.keeper.octets so.octets (replies_to course store so.octets) =
+    rw (leaves.desk, leaves.keeper) (sent protocol stands laws meanings are moments more a b at taken opens so) in
+    let follows : Follows store c.desk.store a.keeper.octets c.keeper.octets (records_of (changes_by course store so.octets)) = rw (leaves.desk, leaves.keeper) so.follows in
+    let fetched : Fetched a.desk.cache (asked_for course store so.octets) c.desk.cache = rw leaves.desk so.fetched in
     let half = Halfway-take (replies_to course store) (MayTake course store) a.wire b.wire c.wire so.octets into n so.serving piece
     (may_take protocol stands laws meanings moments more a b at taken n into so still (omega (arith, none)) (omega (arith, none))) in
     let same : so.octets ++ take n into ≡ so.octets = rw none (append-nil so.octets) in
     let taken_is : taken_of half.entries ≡ so.octets = half.taken_is ∙ same in
+    let law = lawfully course (laws.framed meanings are) store c.desk.store a.keeper.octets c.keeper.octets Ended max a.wire c.wire (so.octets ++ take n into) (replies_to course store so.octets)
+    (rw same (omega (arith, so.count))) half (rw same (refl, follows)) in
+    let all_left = left_all (replies_to course store) (MayTake course store) a.wire c.wire (so.octets ++ take n into) (replies_to course store so.octets) half (piece.end none) in
     record {
-      lawful = lawfully course (laws.framed meanings are) store b.desk.store a.keeper.octets b.keeper.octets Ended max a.wire c.wire (so.octets ++ take n into) (replies_to course store so.octets)
-          (rw same (omega (arith, so.count))) half (rw same (refl, so.follows));
-      ended = λ _. record {
-        entries = half.entries;
-        moves = half.moves;
-        lawful = half.lawful;
-        takes = half.takes;
-        few = rw taken_is (omega (arith, so.count));
-        sent = rw (taken_is, half.given_is) due;
-        whole = rw half.given_is (IfSome_then a.wire.left {P = λ octets. so.octets ++ take n into ≡ octets}
-            (left_all (replies_to course store) (MayTake course store) a.wire c.wire (so.octets ++ take n into) (replies_to course store so.octets) half (piece.end none))
-            (λ octets all. subst (λ xs. IsSent course store b.desk.store a.keeper.octets b.keeper.octets xs (replies_to course store so.octets)) (sym same ∙ all) due));
-        end = inr (piece.end none, rw taken_is (omega (arith, so.count)));
+      serves = record {
+        lawful = law.0;
+        ended = λ _. record {
+          entries = half.entries;
+          moves = half.moves;
+          lawful = half.lawful;
+          takes = half.takes;
+          few = rw taken_is (omega (arith, so.count));
+          sent = rw (taken_is, half.given_is) due;
+          whole = rw half.given_is (IfSome_then a.wire.left {P = λ octets. so.octets ++ take n into ≡ octets} all_left
+              (λ octets all. subst (λ xs. IsSent course store c.desk.store a.keeper.octets c.keeper.octets xs (replies_to course store so.octets)) (sym same ∙ all) due));
+          end = inr (piece.end none, rw taken_is (omega (arith, so.count)));
+        };
+        limit = λ bad. absurd (never_limit bad);
       };
-      limit = λ bad. absurd (never_limit bad);
+      taken = λ _. rw (law.1, same) fetched;
+      whole = λ _. IfSome_then a.wire.left {P = λ octets. so.octets ++ take n into ≡ octets} all_left
+          (λ octets all. subst (λ xs. Fetched a.desk.cache (asked_for course store xs) c.desk.cache) (sym same ∙ all) fetched);
     }
 
 pub input_ends : (protocol : Protocol) {M : Type 0} (stands : Standing protocol M) → AreLaws protocol stands → (a b c : Around) (at : Session M) (taken n : ℕ) (into : List ℕ) → IsOpen a.desk → (HasEnded at → ⊥)
@@ -438,30 +477,33 @@ pub input_ends : (protocol : Protocol) {M : Type 0} (stands : Standing protocol 
 input_ends protocol stands laws a b c at taken n into opens still leaves piece none low goes = record {
   told = goes.told;
   are_told = goes.are_told;
-  holds = λ meanings are more. rw (leaves.desk, leaves.keeper) (input_by protocol stands laws meanings are (goes.told ++ more) more a b c at taken a.desk.limits.session_max n into opens still piece none low
-      (goes.goes meanings are more));
+  holds = λ meanings are more. input_by protocol stands laws meanings are (goes.told ++ more) more a b c at taken n into opens still leaves piece none low (goes.goes meanings are more);
 }
 
 -- the limit was reached
-limit_by : (protocol : Protocol) {M : Type 0} (stands : Standing protocol M) → AreLaws protocol stands → (meanings : Meanings) → AreMeanings meanings → (moments more : List Moment) (a b : Around) (at : Session M) (taken max : ℕ)
-    → IsOpen a.desk → (HasEnded at → ⊥) → taken ≡ max → GoesBy protocol stands meanings moments more a b at taken
-    → Serves (course_of protocol meanings moments) a.desk.store b.desk.store a.keeper.octets b.keeper.octets Limit max a.wire b.wire
-limit_by protocol stands laws meanings are moments more a b at taken max opens still full so =
+limit_by : (protocol : Protocol) {M : Type 0} (stands : Standing protocol M) → AreLaws protocol stands → (meanings : Meanings) → AreMeanings meanings → (moments more : List Moment) (a b : Around) (at : Session M) (taken : ℕ)
+    → IsOpen a.desk → (HasEnded at → ⊥) → taken ≡ a.desk.limits.session_max → GoesBy protocol stands meanings moments more a b at taken → ServesFrom (course_of protocol meanings moments) a b Limit
+limit_by protocol stands laws meanings are moments more a b at taken opens still full so =
     let course = course_of protocol meanings moments in
     let store = a.desk.store in
     let turns = turns_for course store so.octets in
+    let law = goes_lawfully protocol stands laws meanings are moments more a b at taken Limit refl (omega (arith, full)) so in
     record {
-      lawful = goes_lawfully protocol stands laws meanings are moments more a b at taken max Limit refl (omega (arith, full)) so;
-      ended = λ bad. absurd (never_limit (sym bad));
-      limit = λ _. record {
-        entries = so.serving.entries;
-        moves = so.serving.moves;
-        lawful = so.serving.lawful;
-        takes = so.serving.takes;
-        sent = rw (so.serving.taken_is, so.serving.answered) (sent protocol stands laws meanings are moments more a b at taken opens so);
-        full = rw so.serving.taken_is (so.count ∙ full);
-        goes_on = rw so.serving.taken_is (λ ends. still (ended_session protocol stands laws more at b.desk turns.after turns.rest so.stood ends));
+      serves = record {
+        lawful = law.0;
+        ended = λ bad. absurd (never_limit (sym bad));
+        limit = λ _. record {
+          entries = so.serving.entries;
+          moves = so.serving.moves;
+          lawful = so.serving.lawful;
+          takes = so.serving.takes;
+          sent = rw (so.serving.taken_is, so.serving.answered) (sent protocol stands laws meanings are moments more a b at taken opens so);
+          full = rw so.serving.taken_is (so.count ∙ full);
+          goes_on = rw so.serving.taken_is (λ ends. still (ended_session protocol stands laws more at b.desk turns.after turns.rest so.stood ends));
+        };
       };
+      taken = λ _. rw law.1 so.fetched;
+      whole = λ bad. absurd (never_limit (sym bad));
     }
 
 pub limit_reached : (protocol : Protocol) {M : Type 0} (stands : Standing protocol M) → AreLaws protocol stands → (a b : Around) (at : Session M) (taken : ℕ) → IsOpen a.desk → (HasEnded at → ⊥)
@@ -469,5 +511,5 @@ pub limit_reached : (protocol : Protocol) {M : Type 0} (stands : Standing protoc
 limit_reached protocol stands laws a b at taken opens still full goes = record {
   told = goes.told;
   are_told = goes.are_told;
-  holds = λ meanings are more. limit_by protocol stands laws meanings are (goes.told ++ more) more a b at taken a.desk.limits.session_max opens still full (goes.goes meanings are more);
+  holds = λ meanings are more. limit_by protocol stands laws meanings are (goes.told ++ more) more a b at taken opens still full (goes.goes meanings are more);
 }

@@ -1,14 +1,14 @@
 -- What sessions are served from, and when it serves them.
-use Rattle.std.specs.Prelude.{◌≡◌, ◌⊎◌, ℕ, ◌<◌, ◌≤◌, List, [], codes, false, slice_get, Option, IfSome}
+use Rattle.std.specs.Prelude.{◌≡◌, ◌⊎◌, ℕ, ◌<◌, ◌≤◌, List, [], length, codes, false, slice_get, Option, None, Some, IfSome}
 use Rattle.std.specs.Option.{option_map_or}
 use Rattle.kept_mail.specs.declared.limits.TheConstants.{MESSAGE_MAX}
 use Rattle.journal_records.specs.Addresses.{IsDomainText}
 use Rattle.journal_records.specs.declared.records.Record.{Record}
 use Rattle.kept_mail.specs.Kept.{Kept, name_of}
-use Rattle.mail_store.specs.Catching.{HasReadFirst}
+use Rattle.mail_store.specs.Catching.{HasReadFirst, IsBadFrom}
 use Rattle.mail_store.specs.StoreState.{StoreState, AreStored}
 use Rattle.kept_mail.specs.declared.kept.Message.{Message}
-use Rattle.surrogate_cache.specs.declared.cache.Cache.{Cache}
+use Rattle.surrogate_cache.specs.Caching.{CacheState, HoldsEach, IsStoredOf}
 use Rattle.session_core.specs.declared.desk.Desk.{Desk}
 use Rattle.session_core.specs.declared.desk.Limits.{Limits}
 
@@ -24,9 +24,27 @@ pub record AreLimits (limits : Limits) : Type 0 where
 abbrev pub IsStoreName : List ℕ → Type 0
 IsStoreName name = IsDomainText name ⊎ (name ≡ codes "localhost")
 
--- what the cache keeps is of these messages; so far it keeps nothing
-abbrev pub IsCacheOf : Cache → Kept → Type 0
-IsCacheOf cache kept = Unit {0}
+-- the octets of a message that is kept
+abbrev pub kept_octets : Kept → ℕ → List ℕ
+kept_octets kept id = option_map_or (λ (message : Message). message.octets) (slice_get kept.messages id) []
+
+-- the stored form is that of a rope of the message of this number
+pub record IsRopeOfKept (kept : Kept) (id : ℕ) (stored : List ℕ) : Type 0 where
+  pub known : id < length kept.messages
+  pub rope : IsStoredOf (kept_octets kept id) stored
+
+-- each rope that the cache holds is one of the message of its number, also where that is expunged
+abbrev pub IsCacheOf : CacheState → Kept → Type 0
+IsCacheOf cache kept = HoldsEach (IsRopeOfKept kept) cache
+
+-- the cache has as many blocks and places as these limits say
+pub record IsCacheWithin (limits : Limits) (cache : CacheState) : Type 0 where
+  pub blocks : cache.blocks ≡ limits.pool_blocks
+  pub places : cache.places ≡ limits.cache_entries
+
+-- a cache of these limits that holds nothing, and of which nothing was asked
+abbrev pub new_cache : Limits → CacheState
+new_cache limits = record { entries = []; counts = record { built = 0; hits = 0 }; blocks = limits.pool_blocks; places = limits.cache_entries }
 
 -- A desk that serves sessions: its store hasn't failed and has a name, each of its messages has a tree, its limits are the store's, and
 -- its cache is that of the store.
@@ -37,6 +55,7 @@ pub record IsOpen (desk : Desk) : Type 0 where
   pub named : IsStoreName (name_of desk.store.kept)
   pub stored : AreStored desk.store.kept.messages
   pub cached : IsCacheOf desk.cache desk.store.kept
+  pub places : IsCacheWithin desk.limits desk.cache
 
 -- A desk that serves sessions within these limits, or will once its store has caught up.
 pub record WorksWithin (limits : Limits) (desk : Desk) : Type 0 where
@@ -45,6 +64,8 @@ pub record WorksWithin (limits : Limits) (desk : Desk) : Type 0 where
   pub agrees : desk.store.message_max ≡ limits.message_max
   pub named : IsStoreName (name_of desk.store.kept)
   pub stored : AreStored desk.store.kept.messages
+  pub cached : IsCacheOf desk.cache desk.store.kept
+  pub places : IsCacheWithin limits desk.cache
 
 -- a desk that is kept has what the octets begin with
 abbrev pub HasFirst : Option Desk → List ℕ → Type 0
@@ -52,8 +73,14 @@ HasFirst kept octets = IfSome kept (λ desk. (all : List Record) × HasReadFirst
 
 -- the octets of a message of the store
 abbrev pub stored_octets : StoreState → ℕ → List ℕ
-stored_octets store id = option_map_or (λ (message : Message). message.octets) (slice_get store.kept.messages id) []
+stored_octets store id = kept_octets store.kept id
 
 -- the date of a message of the store
 abbrev pub stored_date : StoreState → ℕ → List ℕ
 stored_date store id = option_map_or (λ (message : Message). message.date) (slice_get store.kept.messages id) []
+
+-- The cache of the desk for the next session is that of the desk that was kept. It is new where none was, or where the store that was
+-- kept can't go on with the octets.
+abbrev pub IsNextCache : Limits → Option Desk → List ℕ → CacheState → Type 0
+IsNextCache limits None octets cache = cache ≡ new_cache limits
+IsNextCache limits (Some desk) octets cache = (cache ≡ desk.cache) ⊎ ((cache ≡ new_cache limits) × ((at : ℕ) × IsBadFrom desk.store octets at))

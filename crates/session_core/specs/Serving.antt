@@ -1,5 +1,5 @@
 -- What a session is sent of a stream, and what the call that serves it does to its wire, its store and its keeper.
-use Rattle.std.specs.Prelude.{◌≡◌, ◌⊎◌, ℕ, ◌<◌, ◌≤◌, List, [], ◌∷◌, ◌++◌, length, Option, IfSome}
+use Rattle.std.specs.Prelude.{◌≡◌, ◌⊎◌, ℕ, ◌<◌, ◌≤◌, List, [], ◌∷◌, ◌++◌, length, Option, None, IfSome}
 use Rattle.std.specs.Io.KnownBytes.{IsAtEnd}
 use Rattle.std.specs.List.{All, AllByRecursion}
 use Rattle.mail_wire.specs.Moves.{Moves}
@@ -9,11 +9,12 @@ use Rattle.session_core.specs.Turns.{Turn, all_turns}
 use Rattle.mail_wire.specs.declared.outside.Entry.{Entry}
 use Rattle.mail_wire.specs.declared.outside.Entry.TheVariants.{Taken, Given}
 use Rattle.mail_wire.specs.declared.traffic.TheConstants.{PIECE}
-use Rattle.session_core.specs.Acts.{Act, IsFitAct, changes_in}
+use Rattle.session_core.specs.Acts.{Act, IsFitAct, asked_in, changes_in}
 use Rattle.session_core.specs.Done.{given_by, IsDone}
 use Rattle.mail_store.specs.Following.{records_of, Follows}
 use Rattle.mail_store.specs.StoreState.{StoreState}
 use Rattle.journal_records.specs.declared.records.Record.{Record}
+use Rattle.surrogate_cache.specs.Caching.{Asked, Fetched}
 use Rattle.session_core.specs.Around.{Around}
 use Rattle.session_core.specs.Meanings.{Meanings, WithMeanings}
 use Rattle.session_core.specs.Moments.{Moment, IsTold}
@@ -72,6 +73,10 @@ replies_to course store octets = given_by course.spelled (acts_for course store 
 -- the changes that it makes
 abbrev pub changes_by : Course → StoreState → List ℕ → List (List Record)
 changes_by course store octets = changes_in (acts_for course store octets)
+
+-- the messages that it asks its cache for
+abbrev pub asked_for : Course → StoreState → List ℕ → List Asked
+asked_for course store octets = asked_in (acts_for course store octets)
 
 -- the commands end the session
 abbrev pub EndsBy : Course → StoreState → List ℕ → Type 0
@@ -143,8 +148,13 @@ pub record Serves (course : Course) (store after : StoreState) (had has : Option
   pub ended : served ≡ Ended → ServesAll course store after had has max before now
   pub limit : served ≡ Limit → ServesUpTo course store after had has max before now
 
+-- A session was served from a desk. Unless a fault broke it off, its cache is what the fetches of the messages that were asked for lead to,
+-- in order and no others: by what was taken, and at Ended by all that was left.
+pub record ServesFrom (course : Course) (before now : Around) (served : Served) : Type 0 where
+  pub serves : Serves course before.desk.store now.desk.store before.keeper.octets now.keeper.octets served before.desk.limits.session_max before.wire now.wire
+  pub taken : met_of served ≡ None → Fetched before.desk.cache (asked_for course before.desk.store (taken_of serves.lawful.entries)) now.desk.cache
+  pub whole : served ≡ Ended → IfSome before.wire.left (λ octets. Fetched before.desk.cache (asked_for course before.desk.store octets) now.desk.cache)
+
 -- the same of a protocol
 abbrev pub ServesBy : Protocol → Around → Around → Served → Type 0
-ServesBy protocol before now served =
-    OfCourse protocol before.clock (λ course.
-    Serves course before.desk.store now.desk.store before.keeper.octets now.keeper.octets served before.desk.limits.session_max before.wire now.wire)
+ServesBy protocol before now served = OfCourse protocol before.clock (λ course. ServesFrom course before now served)

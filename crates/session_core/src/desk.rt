@@ -3,7 +3,7 @@ ghost use Rattle.std.specs.Prelude.{◌≡◌, length, IfOk, IfErr, IfSome, OnEr
 ghost use Rattle.mail_wire.specs.Keeping.{HasKeeperCause};
 ghost use Rattle.mail_store.specs.Answers.{IsFold, OpensTo, IsJournalFault, LeavesRecords};
 ghost use Rattle.mail_store.specs.Catching.{ReadsOn, CatchesUp, IsCatchFault};
-ghost use Rattle.session_core.specs.Desks.{AreLimits, HasFirst, IsOpen, WorksWithin};
+ghost use Rattle.session_core.specs.Desks.{AreLimits, HasFirst, IsNextCache, IsOpen, WorksWithin, new_cache};
 
 use kept_mail::MESSAGE_MAX;
 use mail_store::{OpenFault, Store};
@@ -29,7 +29,7 @@ pub const LIMITS: Limits = Limits {
 };
 
 /// What sessions are served from.
-#[derive(Debug, Drop)]
+#[derive(Drop)]
 pub struct Desk {
     pub store: Store,
     pub cache: Cache,
@@ -49,28 +49,33 @@ pub fn open_desk<J: Keeper>(
     ensures end { IfOk result (λ desk. IfSome (J.tells keeper.new).octets (λ octets. desk.store.end ≡ length octets)) }
     ensures open { IfOk result IsOpen }
     ensures limits { IfOk result (λ desk. desk.limits ≡ limits) }
+    ensures cache { IfOk result (λ desk. desk.cache ≡ new_cache limits) }
 
     ensures fault { IfErr result (λ fault. IfSome (J.tells keeper.old).octets (λ old. IsJournalFault old (J.tells keeper.new).octets fault)) }
     ensures cause { HasKeeperCause (J.tells keeper.old) (J.tells keeper.new) result OpenFault.Keeper }
     ensures leaves { LeavesRecords (J.tells keeper.old).octets (J.tells keeper.new).octets }
 {
+    let Ok(cache) = Cache::open(alloc, limits.pool_blocks, limits.cache_entries) else {
+        return Err(OpenFault::Memory);
+    };
     let store = Store::open(alloc, keeper, limits.message_max)?;
     Ok(Desk {
         store,
-        cache: Cache::plain(),
+        cache,
         limits,
     })
 }
 
 impl Desk {
-    /// The store catches up with what others wrote to its journal, and the cache with the store. Where that is refused, the desk isn't to be
-    /// served from before it has caught up.
+    /// The store catches up with what others wrote to its journal. The cache stays, since the messages have the numbers that they had. Where
+    /// that is refused, the desk isn't to be served from before it has caught up.
     pub fn catch_up<J: Keeper>(&mut self, keeper: &mut J) -> Result<(), OpenFault>
         ensures reads { ReadsOn (J.tells keeper.old).octets self.old.store self.new.store }
         ensures catches { OnOk result (IfSome (J.tells keeper.old).octets (λ old. CatchesUp self.old.store old (J.tells keeper.new).octets self.new.store.kept)) }
         ensures end { OnOk result (IfSome (J.tells keeper.new).octets (λ octets. self.new.store.end ≡ length octets)) }
         ensures open { OnOk result (WorksWithin self.old.limits self.old → IsOpen self.new) }
         ensures limits { self.new.limits ≡ self.old.limits }
+        ensures cache { self.new.cache ≡ self.old.cache }
 
         ensures same { OnErr result ((J.tells keeper.new).octets ≡ (J.tells keeper.old).octets) }
         ensures fault { IfErr result (λ fault. IfSome (J.tells keeper.old).octets (λ old. IsCatchFault self.old.store old fault)) }
@@ -81,7 +86,8 @@ impl Desk {
     }
 }
 
-/// The desk for the next session: the one that was kept, once it has caught up. Where it can't or there is none, one that is opened anew.
+/// The desk for the next session: the one that was kept, once it has caught up. Where there is none, or the journal doesn't go on from what
+/// it had, one that is opened anew. A fault of the keeper and want of memory are answered, and the desk that was kept is gone then.
 pub fn next_desk<J: Keeper>(
     alloc: Global,
     kept: Option<Desk>,
@@ -95,6 +101,8 @@ pub fn next_desk<J: Keeper>(
     ensures end { IfOk result (λ desk. IfSome (J.tells keeper.new).octets (λ octets. desk.store.end ≡ length octets)) }
     ensures open { IfOk result IsOpen }
     ensures limits { IfOk result (λ desk. desk.limits ≡ limits) }
+    // What the last sessions were shown is still held.
+    ensures cache { IfOk result (λ desk. IfSome (J.tells keeper.old).octets (λ old. IsNextCache limits kept old desk.cache)) }
 
     ensures fault { IfErr result (λ fault. IfSome (J.tells keeper.old).octets (λ old. IsJournalFault old (J.tells keeper.new).octets fault)) }
     ensures cause { HasKeeperCause (J.tells keeper.old) (J.tells keeper.new) result OpenFault.Keeper }
@@ -105,9 +113,11 @@ pub fn next_desk<J: Keeper>(
     };
     match desk.catch_up(keeper) {
         Ok(()) => Ok(desk),
-        Err(_) => {
+        Err(OpenFault::BadJournal { .. }) => {
             drop(desk);
             open_desk(alloc, keeper, limits)
         }
+        Err(OpenFault::Keeper) => Err(OpenFault::Keeper),
+        Err(OpenFault::Memory) => Err(OpenFault::Memory),
     }
 }

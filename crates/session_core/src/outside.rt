@@ -1,5 +1,5 @@
 //! All that a session meets, as one value: its wire, its keeper, its clock, and the desk that it is served from.
-ghost use Rattle.std.specs.Prelude.{◌≡◌, ◌+◌, ◌<◌, ◌≤◌, ◌==◌, ◌∷◌, ℕ, List, length, take, drop, IfOk, OnErr, Err, None, false, []};
+ghost use Rattle.std.specs.Prelude.{◌≡◌, ◌+◌, ◌<◌, ◌≤◌, ◌==◌, ◌∷◌, ℕ, List, length, take, drop, IfOk, OnErr, OnOk, Err, None, false, []};
 ghost use Rattle.std.specs.List.{IsDistinct};
 ghost use Rattle.mail_wire.specs.Keeping.{HasKeeperCause};
 ghost use Rattle.mail_wire.specs.Moves.{GivesOrFails, HasWireCause, TakesNothing, TakesPiece};
@@ -7,12 +7,13 @@ ghost use Rattle.journal_records.specs.Grammar.{IsFolderName, kept_name};
 ghost use Rattle.journal_records.specs.declared.records.Record.TheVariants as records;
 ghost use Rattle.mail_store.specs.Changing.{IsAppendable, IsDeliverable, append_refusal, delivery_refusal, expunged, expunge_refusal, flags_refusal, folder_refusal, settle_refusal};
 ghost use Rattle.surrogate_rope.specs.Served.{IsShownOf, shown_octets};
+ghost use Rattle.surrogate_cache.specs.Caching.{Fetched, LosesShown, asked_by};
 ghost use Rattle.surrogate_cache.specs.Served.{IsServed, HasServedHeaders};
 ghost use Rattle.session_core.specs.Around.{LeavesDesk};
 ghost use Rattle.session_core.specs.Moments.{IsMoment, IsTold, moment_of};
 ghost use Rattle.session_core.specs.Changes.{append_changes, calls_of, came_of, changes_of, created_of, folder_changes};
-ghost use Rattle.session_core.specs.Desks.{IsOpen, stored_date, stored_octets};
-ghost use Rattle.session_core.specs.Doing.{IsChanged, Makes, Replies};
+ghost use Rattle.session_core.specs.Desks.{IsCacheOf, IsOpen, stored_date, stored_octets};
+ghost use Rattle.session_core.specs.Doing.{Asks, IsChanged, Makes, Replies, wanting};
 ghost use Rattle.session_core.specs.Keeps.{Keeps, fault_of};
 
 use crate::desk::{Desk, Limits};
@@ -23,7 +24,6 @@ use mail_wire::{
     Clock, Fault, Keeper, Memory, Octets, Span, Wire, date_text, give_all, internal_date,
     take_piece,
 };
-use mime_tree::{TreeFault, read_sound_tree};
 use std::alloc::Global;
 use std::marker::Model;
 use surrogate_cache::{Cache, View};
@@ -81,36 +81,36 @@ pub enum Created {
     TooLarge,
 }
 
-// What a session of this kind is shown of a message of the store.
+// What a session of this kind is shown of a message of the store, by way of the cache.
 fn show_message<V: View>(
     alloc: Global,
     store: &Store,
     cache: &mut Cache,
     id: u32,
 ) -> Result<Shown, Memory>
-    requires { id < length store.now.kept.messages }
+    requires id { id < length store.now.kept.messages }
+    requires cached { IsCacheOf cache.old store.now.kept }
     ensures shown { IfOk result (IsShownOf (stored_octets store.now id)) }
     ensures served { IfOk result (λ shown. IsServed V.mode (stored_octets store.now id) (shown_octets (stored_octets store.now id) shown)) }
     ensures headers { IfOk result (λ shown. HasServedHeaders V.mode (shown_octets (stored_octets store.now id) shown)) }
+    ensures fetched { OnOk result (Fetched cache.old (asked_by V.mode id (stored_octets store.now id)) cache.new) }
+    ensures loses { OnErr result (LosesShown V.mode (stored_octets store.now id) cache.old cache.new id) }
 {
-    let octets = store.octets(id);
-    match read_sound_tree(alloc, octets) {
-        Ok(tree) => V::show(alloc, cache, id, octets, tree),
-        Err(TreeFault::Memory) => Err(Memory),
-        // It has a tree.
-        Err(_) => unreachable!(),
-    }
+    V::show(alloc, cache, id, store.octets(id))
 }
 
-// How many octets a session of this kind is served of a message. A legacy one is served its surrogate, which takes its tree.
+// How many octets a session of this kind is served of a message. A legacy one is served its surrogate, which is fetched from the cache.
 fn served_size<V: View>(
     alloc: Global,
     store: &Store,
     cache: &mut Cache,
     id: u32,
 ) -> Result<usize, Memory>
-    requires { id < length store.now.kept.messages }
-    ensures { IfOk result (λ size. (shown : List ℕ) × IsServed V.mode (stored_octets store.now id) shown × (size ≡ length shown)) }
+    requires id { id < length store.now.kept.messages }
+    requires cached { IsCacheOf cache.old store.now.kept }
+    ensures size { IfOk result (λ size. (shown : List ℕ) × IsServed V.mode (stored_octets store.now id) shown × (size ≡ length shown)) }
+    ensures fetched { OnOk result (Fetched cache.old (asked_by V.mode id (stored_octets store.now id)) cache.new) }
+    ensures loses { OnErr result (LosesShown V.mode (stored_octets store.now id) cache.old cache.new id) }
 {
     if V::enabled() {
         return Ok(store.octets(id).len());
@@ -363,20 +363,24 @@ impl<'w, 'k, 'c, W: Wire, J: Keeper, C: Clock> Outside<'w, 'k, 'c, W, J, C> {
 
     /// What a session of this kind is shown of a message of the store.
     pub fn show<V: View>(&mut self, id: u32) -> Result<Shown, Memory>
-        requires { id < length self.old.desk.store.kept.messages }
+        requires opens { IsOpen self.old.desk }
+        requires id { id < length self.old.desk.store.kept.messages }
         ensures shown { IfOk result (IsShownOf (stored_octets self.old.desk.store id)) }
         ensures served { IfOk result (λ shown. IsServed V.mode (stored_octets self.old.desk.store id) (shown_octets (stored_octets self.old.desk.store id) shown)) }
         ensures headers { IfOk result (λ shown. HasServedHeaders V.mode (shown_octets (stored_octets self.old.desk.store id) shown)) }
-        ensures same { self.new ≡ self.old }
+        ensures asks { Asks self.old self.new (wanting result) (asked_by V.mode id (stored_octets self.old.desk.store id)) }
+        ensures keeps { Keeps self.old self.new (wanting result) }
     {
         show_message::<V>(self.alloc, &self.desk.store, &mut self.desk.cache, id)
     }
 
     /// How many octets a session of this kind is served of a message of the store. Where UTF-8 is enabled no tree is read for it.
     pub fn size<V: View>(&mut self, id: u32) -> Result<usize, Memory>
-        requires { id < length self.old.desk.store.kept.messages }
+        requires opens { IsOpen self.old.desk }
+        requires id { id < length self.old.desk.store.kept.messages }
         ensures size { IfOk result (λ size. (shown : List ℕ) × IsServed V.mode (stored_octets self.old.desk.store id) shown × (size ≡ length shown)) }
-        ensures same { self.new ≡ self.old }
+        ensures asks { Asks self.old self.new (wanting result) (asked_by V.mode id (stored_octets self.old.desk.store id)) }
+        ensures keeps { Keeps self.old self.new (wanting result) }
     {
         served_size::<V>(self.alloc, &self.desk.store, &mut self.desk.cache, id)
     }

@@ -56,7 +56,7 @@ pub fn serve<M: Machine, W: Wire, J: Keeper, C: Clock>(outside: &mut Outside<W, 
     // more than a piece, nothing else was ever given, and no more was taken than the limit. What was taken was done: the replies given
     // and the changes made in the store and in the keeper, in their order, or, after a fault, the first of them. At Ended it was sent
     // what is due for all that was left, and has ended, or nothing is left. At Limit it was sent what is due for as many octets as a
-    // session may take, and has not ended.
+    // session may take, and has not ended. At both the desk's cache is what the fetches that were asked for lead to, and no others.
     ensures serves { ServesBy M.protocol outside.old outside.new result }
     ensures keeps { Keeps outside.old outside.new (met_of result) }
 {

@@ -1,7 +1,7 @@
 -- What holds of the toy's rows.
 use Rattle.std.proofs.Common.{◌≡◌, ℕ, List, [], ◌∷◌, Some, refl}
 use Rattle.std.specs.List.{AllByRecursion}
-use Rattle.session_core.specs.Acts.{Act, IsFitAct, gives, changes}
+use Rattle.session_core.specs.Acts.{Act, IsFitAct, gives, changes, asks}
 use Rattle.session_core.specs.FramedLaws.{LongRowsFit, RowsFit}
 use Rattle.session_core.specs.declared.desk.Desk.{Desk}
 use Rattle.session_core_tests.specs.Echo.{EchoStands, State, echo_grammar, row_of, state_of, wanted_by, wants_of}
@@ -20,6 +20,7 @@ all_fit : (acts : List (Act (List ℕ))) → AllByRecursion (IsFitAct (λ part. 
 all_fit [] = tt
 all_fit (gives part ∷ acts) = (tt, all_fit acts)
 all_fit (changes records ∷ acts) = (tt, all_fit acts)
+all_fit (asks asked ∷ acts) = (tt, all_fit acts)
 
 pub rows_fit_by : RowsFit echo_grammar
 rows_fit_by meanings are state unit sound = record { fit = all_fit (row_of state unit).acts; sound = tt }

@@ -1,10 +1,13 @@
 //! Sizes and ranges of a message of the store, by the calls of the outside.
+ghost use Rattle.std.specs.Prelude.{OnOk};
+ghost use Rattle.session_core.specs.Desks.{IsOpen};
+
 use journal_records::{Record, push_record};
 use mail_wire::{Entry, FixedClock, MemKeeper, MemWire, Memory, Octets, Span};
 use session_core::{LIMITS, Outside, open_desk};
 use std::alloc::Global;
 use std::test::Fail;
-use surrogate_cache::{Enabled, Legacy, View};
+use surrogate_cache::{Counts, Enabled, Legacy, View};
 
 const MESSAGE: &str = "Subject: é\r\n\r\n.x\r\n";
 
@@ -29,7 +32,10 @@ fn journal_of(alloc: Global) -> Result<Octets, Memory> {
 }
 
 // How many octets a session of this kind is served of the message.
-fn size<V: View>(outside: &mut Outside<MemWire, MemKeeper, FixedClock>) -> Result<usize, Fail> {
+fn size<V: View>(outside: &mut Outside<MemWire, MemKeeper, FixedClock>) -> Result<usize, Fail>
+    requires { IsOpen outside.old.desk }
+    ensures { OnOk result (IsOpen outside.new.desk) }
+{
     if outside.store().message_count() == 0 {
         return Err(Fail::from("no message"));
     }
@@ -40,7 +46,10 @@ fn size<V: View>(outside: &mut Outside<MemWire, MemKeeper, FixedClock>) -> Resul
 fn give_shown<V: View>(
     outside: &mut Outside<MemWire, MemKeeper, FixedClock>,
     span: Span,
-) -> Result<(), Fail> {
+) -> Result<(), Fail>
+    requires { IsOpen outside.old.desk }
+    ensures { OnOk result (IsOpen outside.new.desk) }
+{
     if outside.store().message_count() == 0 {
         return Err(Fail::from("no message"));
     }
@@ -93,9 +102,10 @@ fn ranges_are_given_as_they_are_served(rt: HostRuntime) -> Result<(), Fail> {
     give_shown::<Enabled>(&mut outside, Span { at: 0, len: 7 })?;
     give_stored(&mut outside, Span { at: 17, len: 1 })?;
     give_stored(&mut outside, Span { at: 18, len: 0 })?;
-    let (_desk, _wire, _keeper, _clock) = outside.into_parts();
+    let (desk, _wire, _keeper, _clock) = outside.into_parts();
     let given = octets_given(alloc, &wire)?;
     let want = "\r\n =?UTF-8?B?w6k=?=\r\n\r\n.xSubject\r";
     assert!(rt; given.as_slice() == want.as_bytes());
+    assert!(rt; desk.cache.counts() == Counts { built: 1, hits: 1 });
     Ok(())
 }

@@ -1,7 +1,7 @@
 //! The toy over a wire in memory, with every first cut of its input.
 use crate::echo::Echo;
 use mail_wire::{Entry, FixedClock, MemKeeper, MemWire, Octets};
-use session_core::{Framed, LIMITS, Outside, Served, open_desk, serve};
+use session_core::{Framed, Limits, Outside, Served, open_desk, serve};
 use std::alloc::Global;
 use std::test::Fail;
 
@@ -9,10 +9,18 @@ const INPUT: &[u8] = b"one\r\nab{3}\r\nx\r\nyz\r\nQUIT\r\nlater\r\n";
 
 const ANSWER: &[u8] = b"one\r\n+ go\r\nx\r\nab{3}\r\nx\r\nyz\r\nbye\r\n";
 
+// A cache of one block, since it is opened for each cut.
+const SMALL: Limits = Limits {
+    message_max: 1_000,
+    session_max: 1_000_000,
+    pool_blocks: 1,
+    cache_entries: 1,
+};
+
 // What is given to this input, whose first piece has this size.
 fn given(alloc: Global, input: &[u8], size: usize) -> Result<Octets, Fail> {
     let mut keeper = MemKeeper::new(Octets::new(alloc), Vec::new(alloc));
-    let desk = open_desk(alloc, &mut keeper, LIMITS)?;
+    let desk = open_desk(alloc, &mut keeper, SMALL)?;
     let mut wire = MemWire::new(
         alloc,
         Octets::from_slice(alloc, input)?,

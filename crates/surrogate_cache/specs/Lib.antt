@@ -1,1 +1,3 @@
+pub mod Caching
 pub mod Served
+pub mod private

@@ -1,5 +1,7 @@
-//! What is shown of worked messages, in both kinds of session, by the public calls of surrogate_cache.
+//! What is shown of worked messages, in both kinds of session, and the cache of their ropes, by the public calls of surrogate_cache.
 #![tactic(auto)]
 
+#[cfg(test)]
+mod fetches;
 #[cfg(test)]
 mod tests;

@@ -1,11 +1,13 @@
 //! What is shown of a message, in both kinds.
+ghost use Rattle.std.specs.Prelude.{◌≤◌, IfOk, OnOk};
+ghost use Rattle.surrogate_cache.specs.Caching.{HoldsEach, IsStoredOf};
 ghost use Rattle.surrogate_rope.specs.Served.{IsShownOf};
 
 use mail_wire::{Entry, Failed, Failure, MemWire, Memory, Octets};
 use mime_tree::read_tree;
 use std::alloc::Global;
 use std::test::Fail;
-use surrogate_cache::{Cache, Enabled, Legacy, View, give_range};
+use surrogate_cache::{Cache, Counts, Enabled, Legacy, View, give_range};
 use surrogate_rope::Shown;
 
 // All that is shown, read in pieces of seven octets.
@@ -21,11 +23,29 @@ fn all_of(alloc: Global, shown: &Shown, msg: &[u8]) -> Result<Octets, Memory>
     Ok(all)
 }
 
+// A cache of so many blocks and entries, for one message.
+fn open(alloc: Global, blocks: u32, entries: u32, msg: &[u8]) -> Result<Cache, Memory>
+    requires blocks { (1 ≤ blocks) × (blocks ≤ 65536) }
+    requires entries { 1 ≤ entries }
+    ensures { IfOk result (HoldsEach (λ _. IsStoredOf msg.now)) }
+{
+    Cache::open(alloc, blocks, entries)
+}
+
+// Shows the message that a cache is for, under any number.
+fn show<V: View>(alloc: Global, cache: &mut Cache, id: u32, msg: &[u8]) -> Result<Shown, Fail>
+    requires { HoldsEach (λ _. IsStoredOf msg.now) cache.old }
+    ensures shown { IfOk result (IsShownOf msg.now) }
+    ensures holds { OnOk result (HoldsEach (λ _. IsStoredOf msg.now) cache.new) }
+{
+    let _tree = read_tree(alloc, msg).map_err(|_| "no tree")?;
+    Ok(V::show(alloc, cache, id, msg)?)
+}
+
 // What is shown of a message.
 fn shown<V: View>(alloc: Global, msg: &[u8]) -> Result<Octets, Fail> {
-    let tree = read_tree(alloc, msg).map_err(|_| "no tree")?;
-    let mut cache = Cache::plain();
-    let shown = V::show(alloc, &mut cache, 0, msg, tree)?;
+    let mut cache = open(alloc, 1, 1, msg)?;
+    let shown = show::<V>(alloc, &mut cache, 0, msg)?;
     Ok(all_of(alloc, &shown, msg)?)
 }
 
@@ -57,9 +77,8 @@ fn given<V: View>(
     len: usize,
     failures: &[Failure],
 ) -> Result<(Result<(), Failed>, Vec<Entry>), Fail> {
-    let tree = read_tree(alloc, msg).map_err(|_| "no tree")?;
-    let mut cache = Cache::plain();
-    let shown = V::show(alloc, &mut cache, 0, msg, tree)?;
+    let mut cache = open(alloc, 1, 1, msg)?;
+    let shown = show::<V>(alloc, &mut cache, 0, msg)?;
     let size = shown.size(msg);
     if size < len || size - len < at {
         return Err(Fail::from("no such range"));
@@ -105,5 +124,25 @@ fn a_wire_that_fails_was_given_a_prefix(rt: HostRuntime) -> Result<(), Fail> {
     let failure = Failure { call: 1, kept: 3 };
     let (answer, entries) = given::<Legacy>(rt.alloc(), STORED.as_bytes(), 3, 38, &[failure])?;
     assert!(rt; answer == Err(Failed::Outside) && are_given(&entries, &["b\r\n", "Sub"]));
+    Ok(())
+}
+
+#[test]
+fn a_legacy_message_comes_through_the_cache(rt: HostRuntime) -> Result<(), Fail> {
+    let alloc = rt.alloc();
+    let message = STORED.as_bytes();
+    let mut cache = open(alloc, 2, 2, message)?;
+    show::<Enabled>(alloc, &mut cache, 5, message)?;
+    assert!(rt; cache.counts() == Counts { built: 0, hits: 0 });
+    let built = show::<Legacy>(alloc, &mut cache, 5, message)?;
+    let held = show::<Legacy>(alloc, &mut cache, 5, message)?;
+    assert!(rt;
+        all_of(alloc, &held, message)?.as_slice() == all_of(alloc, &built, message)?.as_slice()
+    );
+    show::<Legacy>(alloc, &mut cache, 4, message)?;
+    assert!(rt; cache.counts() == Counts { built: 2, hits: 1 });
+    show::<Enabled>(alloc, &mut cache, 5, message)?;
+    assert!(rt; cache.entries(alloc)?.as_slice() == [4, 5].as_slice());
+    assert!(rt; cache.counts() == Counts { built: 2, hits: 1 });
     Ok(())
 }

@@ -1,4 +1,4 @@
-use Rattle.std.proofs.Common.{◌≡◌, ◌+◌, ◌<◌, List, [], length, map, take, None, Some, refl, sym, ap, subst, ◌∙◌, arith}
+use Rattle.std.proofs.Common.{◌≡◌, ◌+◌, ◌<◌, List, [], length, map, take, None, Some, refl, sym, subst, ◌∙◌, arith}
 use Rattle.std.specs.Option.{option_copied}
 use Rattle.std.proofs.lemmas.List.{take_all}
 use Rattle.std.proofs.lemmas.Result.{err_from_is_err_and}
@@ -16,19 +16,12 @@ use Rattle.imap_session.proofs.FetchLemmas.{Carries-cut, Carries-item, HasShown-
 use Rattle.imap_session.proofs.PendingLemmas.{Carries-nil, Carries-on, Carries-stop}
 use Rattle.imap_session.proofs.fetching.put_items.Goals as goal
 
-pub returns-in_err-shown-clause-carries : goal.returns-in_err-shown-clause-carries
-returns-in_err-shown-clause-carries g c = λ meanings are store alike.
-    let failed = err_from_is_err_and c.from_residual.result c.from_residual.ensures.1 in
-    rw (failed.1, failed.2, c.shown_for.ensures.same) (Carries-stop (part_octets meanings) c.args.outside.now fault.Memory c.args.pending.now c.args.pending.now
-    (reply (parts_behind c.args.behind_others (map (item_parts meanings g.V.View.mode store c.args.one.now) c.args.items.now))) (λ bad. cc))
-
 pub loop-item-init : goal.loop-item-init
 loop-item-init g c = record {
-  shown = c.in_ok-shown.ensures.shown;
   apart = refl;
-  carries = λ meanings are store alike. rw c.shown_for.ensures.same (Carries-nil (part_octets meanings) c.args.outside.now c.args.pending.now);
-  desk = ap (λ around. around.desk) c.shown_for.ensures.same;
-  keeps = rw c.shown_for.ensures.same (Keeps-nil c.args.outside.now);
+  carries = λ meanings are store alike. Carries-nil (part_octets meanings) c.args.outside.now c.args.pending.now;
+  desk = refl;
+  keeps = Keeps-nil c.args.outside.now;
 }
 
 pub put_item-requires : goal.put_item-requires
@@ -36,13 +29,13 @@ put_item-requires g c =
     let low : c.loop-item.item-index < length c.args.items.now = omega arith in
     record {
       id = rw c.loop-item.invariant.desk c.requires.id;
-      shown = rw c.loop-item.invariant.desk (HasShown-at g.V.View.mode (stored_octets c.args.outside.now.desk.store c.args.one.now.id) c.args.items.now c.loop-item.item-index c.item-item.result (option_copied c.as_ref.result) low
-          c.item-item.is (rw (← c.as_ref.ensures.value) at c.loop-item.invariant.shown));
+      shown = rw c.loop-item.invariant.desk (HasShown-at g.V.View.mode (stored_octets c.args.outside.now.desk.store c.args.one.now.id) c.args.items.now c.loop-item.item-index c.item-item.result (option_copied c.args.shown) low
+          c.item-item.is c.requires.shown);
     }
 
 pub returns-in_err-push_space-clause-carries : goal.returns-in_err-push_space-clause-carries
 returns-in_err-push_space-clause-carries g c = λ meanings are store alike.
-    let failed = err_from_is_err_and c.from_residual-in_err-push_space.result c.from_residual-in_err-push_space.ensures.1 in
+    let failed = err_from_is_err_and c.from_residual.result c.from_residual.ensures.1 in
     let f = item_parts meanings g.V.View.mode store c.args.one.now in
     let spelled = part_octets meanings in
     let acts = reply (parts_behind c.args.behind_others (map f (take c.loop-item.item-index c.args.items.now))) in
@@ -67,7 +60,6 @@ pub loop-item-preserved : goal.loop-item-preserved
 loop-item-preserved g c =
     let low : c.loop-item.item-index < length c.args.items.now = omega arith in
     record {
-      shown = c.loop-item.invariant.shown;
       apart = stands_next c.args.behind_others c.args.items.now c.loop-item.item-index c.item-item.result low;
       carries = λ meanings are store alike.
           let f = item_parts meanings g.V.View.mode store c.args.one.now in

@@ -1,8 +1,5 @@
 use Rattle.std.proofs.Common.{◌≡◌, map, take, None}
-use Rattle.std.specs.List.{list_any}
 use Rattle.mail_store.specs.StoreState.{StoreState}
-use Rattle.surrogate_cache.specs.Served.{is_enabled}
-use Rattle.session_core.specs.Desks.{stored_octets}
 use Rattle.session_core.specs.Keeps.{Keeps}
 use Rattle.session_core.specs.Meanings.{WithMeanings}
 use Rattle.imap_session.specs.Items.{item_parts}
@@ -10,13 +7,11 @@ use Rattle.imap_session.specs.Machine.{parts_behind, reply}
 use Rattle.imap_session.specs.Replies.{part_octets}
 use Rattle.imap_session.specs.private.Messages.{ShowsAlike}
 use Rattle.imap_session.specs.private.Pending.{Carries}
-use Rattle.imap_session.specs.private.Shown.{HasShown, shows}
 use Rattle.imap_session.proofs.FetchLemmas.{stands_behind}
 use Rattle.imap_session.proofs.fetching.put_items.Given as goal
 
 abbrev pub invariant-loop-item : goal.invariant-loop-item
 invariant-loop-item g l = record {
-  shown : HasShown g.V.View.mode (stored_octets l.fn.outside.desk.store l.one.id) (list_any (shows (is_enabled g.V.View.mode)) l.items) l.shown;
   apart : l.apart ≡ stands_behind l.behind_others (take l.item-index l.items);
   carries : WithMeanings (λ meanings. (store : StoreState) → ShowsAlike store l.fn.outside.desk.store → Carries (part_octets meanings) l.fn.outside l.outside None
       l.fn.pending l.pending (reply (parts_behind l.behind_others (map (item_parts meanings g.V.View.mode store l.one) (take l.item-index l.items)))));

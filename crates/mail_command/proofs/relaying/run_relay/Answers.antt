@@ -1,7 +1,7 @@
 use Rattle.std.proofs.Common.{refl}
 use Rattle.std.proofs.lemmas.Result.{err_from_is_err_and}
 use Rattle.session_core.specs.declared.desk.TheConstants.{LIMITS}
-use Rattle.mail_command.proofs.RelayLemmas.{relay_failed, relay_told, relay_unopened}
+use Rattle.mail_command.proofs.RelayLemmas.{relay_cause, relay_failed, relay_told, relay_unopened}
 use Rattle.mail_command.proofs.SessionLemmas.{opened_exact}
 use Rattle.mail_command.proofs.relaying.run_relay.Goals as goal
 
@@ -40,3 +40,8 @@ returns-clause-runs g c =
 
 pub returns-clause-journal : goal.returns-clause-journal
 returns-clause-journal g c = opened_exact (g.J.Keeper.tells c.args.keeper.now).octets (g.J.Keeper.tells c.open_desk.new.keeper).octets c.in-Ok.desk.store _ c.in-Ok.ensures.opens
+
+pub returns-clause-cause : goal.returns-clause-cause
+returns-clause-cause g c =
+    relay_cause _ _ (g.J.Keeper.tells c.args.keeper.now) (g.J.Keeper.tells c.open_desk.new.keeper) _ c.open_desk.result c.relay_queue-desk.result.1 c.in_ok-end.end c.tell_end.result
+    c.open_desk.ensures.cause c.relay_queue-desk.ensures.keeper c.tell_end.ensures.tells c.tell_end.ensures.cause

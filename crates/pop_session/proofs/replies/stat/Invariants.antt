@@ -1,6 +1,8 @@
-use Rattle.std.proofs.Common.{◌≡◌, ◌≤◌, ◌*◌, ◌^◌, take, sum_by, length}
+use Rattle.std.proofs.Common.{◌≡◌, ◌≤◌, ◌*◌, ◌^◌, take, sum_by, length, None}
+use Rattle.session_core.specs.Doing.{Asks}
+use Rattle.session_core.specs.Keeps.{Keeps}
 use Rattle.session_core.specs.Meanings.{WithMeanings}
-use Rattle.pop_session.specs.Machine.{size_of, left_of}
+use Rattle.pop_session.specs.Machine.{asked_for_left, size_of, left_of}
 use Rattle.pop_session.proofs.replies.stat.Given as goal
 
 abbrev pub invariant-loop-one : goal.invariant-loop-one
@@ -9,5 +11,6 @@ invariant-loop-one g l = record {
   few : l.count ≤ l.one-index;
   summed : WithMeanings (λ meanings. l.total ≡ sum_by (size_of meanings g.V.View.mode l.fn.outside.desk.store) (left_of (take l.one-index l.maildrop)));
   fits : l.total ≤ l.one-index * 2 ^ 64;
-  same : l.outside ≡ l.fn.outside;
+  asks : Asks l.fn.outside l.outside None (asked_for_left g.V.View.mode l.fn.outside.desk.store (take l.one-index l.maildrop));
+  keeps : Keeps l.fn.outside l.outside None;
 }

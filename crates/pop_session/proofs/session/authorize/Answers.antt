@@ -1,4 +1,4 @@
-use Rattle.std.proofs.Common.{List, ℕ, Some, None, Ok, subst}
+use Rattle.std.proofs.Common.{List, [], ℕ, Some, None, Ok, subst}
 use Rattle.std.specs.Option.{option_copied}
 use Rattle.std.proofs.lemmas.Result.{err_from_is_err_and}
 use Rattle.mail_wire.specs.declared.outside.Fault.TheVariants as fault
@@ -12,7 +12,7 @@ pub returns-in_err-answer-clause-takes : goal.returns-in_err-answer-clause-takes
 returns-in_err-answer-clause-takes g c =
     let failed = err_from_is_err_and c.from_residual.result c.from_residual.ensures.1 in
     rw (failed.1, failed.2)
-    (takes_stop c.args.outside.now fault.Memory
+    (takes_stop c.args.outside.now fault.Memory []
     (λ meanings. authorization_step meanings g.V.View.mode c.args.pop.state.user c.args.outside.now.desk.store c.args.command.keyword (option_copied c.args.command.argument)) (λ bad. cc))
 
 pub returns-in_err-give-clause-takes : goal.returns-in_err-give-clause-takes

@@ -2,8 +2,8 @@ use Rattle.std.proofs.Common.{Some, Ok, refl}
 use Rattle.std.specs.Option.{option_copied}
 use Rattle.std.proofs.lemmas.Result.{err_from_is_err_and}
 use Rattle.session_core.proofs.MeaningLemmas.{meanings_given}
-use Rattle.pop_session.specs.Machine.{answers, transaction, transaction_reply}
-use Rattle.pop_session.proofs.RowLemmas.{takes_failed, takes_reply}
+use Rattle.pop_session.specs.Machine.{answers, transaction, transaction_asks, transaction_reply}
+use Rattle.pop_session.proofs.RowLemmas.{takes_asking, takes_failed_asking}
 use Rattle.pop_session.proofs.session.stay.Goals as goal
 
 pub returns-in_err-give_reply-clause-takes : goal.returns-in_err-give_reply-clause-takes
@@ -11,14 +11,16 @@ returns-in_err-give_reply-clause-takes g c =
     let failed = err_from_is_err_and c.from_residual.result c.from_residual.ensures.1 in
     let items = c.args.pop.state.maildrop.items in
     rw (failed.1, failed.2)
-    (takes_failed c.args.outside.now c.give_reply.new.outside c.in_err-give_reply.field-0.0
+    (takes_failed_asking c.args.outside.now c.give_reply.new.outside c.in_err-give_reply.field-0.0
+    (transaction_asks g.V.View.mode items c.args.outside.now.desk.store c.args.command.keyword (option_copied c.args.command.argument))
     (λ meanings. answers (transaction_reply meanings g.V.View.mode items c.args.outside.now.desk.store c.args.command.keyword (option_copied c.args.command.argument)) (transaction g.V.View.mode items))
     (λ meanings. refl) (λ meanings are. rw c.deref.ensures.value at (c.in_err-give_reply.ensures.replies meanings are)))
 
 pub returns-clause-takes : goal.returns-clause-takes
 returns-clause-takes g c =
     let items = c.args.pop.state.maildrop.items in
-    takes_reply c.args.outside.now c.give_reply.new.outside (Ok (Some c.in_transaction.result))
+    takes_asking c.args.outside.now c.give_reply.new.outside (Ok (Some c.in_transaction.result))
+    (transaction_asks g.V.View.mode items c.args.outside.now.desk.store c.args.command.keyword (option_copied c.args.command.argument))
     (λ meanings. answers (transaction_reply meanings g.V.View.mode items c.args.outside.now.desk.store c.args.command.keyword (option_copied c.args.command.argument)) (transaction g.V.View.mode items))
     (λ meanings. refl) (λ meanings are. rw c.deref.ensures.value at (c.in_ok-give_reply.ensures.replies meanings are)) (λ meanings are. c.in_transaction.ensures)
-    (let replies = c.in_ok-give_reply.ensures.replies meanings_given.0 meanings_given.1 in rw (c.in_transaction.ensures, replies.leaves.desk) c.requires)
+    (let replies = c.in_ok-give_reply.ensures.replies meanings_given.0 meanings_given.1 in rw (c.in_transaction.ensures, replies.store) c.requires.known)

@@ -1,6 +1,6 @@
 use Rattle.std.proofs.Common.{◌≡◌, false, rules}
 use Rattle.std.specs.Option.{option_copied}
-use Rattle.pop_session.specs.Machine.{answers, transaction, transaction_reply, transaction_step}
+use Rattle.pop_session.specs.Machine.{answers, transaction, transaction_asks, transaction_reply, transaction_step}
 use Rattle.pop_session.proofs.RowLemmas.{is_changing, takes_as, transaction_step-other}
 use Rattle.pop_session.proofs.session.transact.Goals as goal
 
@@ -20,5 +20,6 @@ returns-in_default-clause-takes g c =
     let word = c.args.command.keyword in
     let argument = option_copied c.args.command.argument in
     let other : is_changing c.args.command.keyword (option_copied c.args.command.argument) ≡ false = search rules in
-    takes_as c.args.outside.now c.stay.new.outside c.stay.result (λ meanings. answers (transaction_reply meanings g.V.View.mode items store word argument) (transaction g.V.View.mode items))
+    takes_as c.args.outside.now c.stay.new.outside c.stay.result (transaction_asks g.V.View.mode items store word argument)
+    (λ meanings. answers (transaction_reply meanings g.V.View.mode items store word argument) (transaction g.V.View.mode items))
     (λ meanings. transaction_step meanings g.V.View.mode items store word argument) (λ meanings. transaction_step-other meanings g.V.View.mode items store word argument other) c.stay.ensures.takes

@@ -1,0 +1,2 @@
+-- How the entries of a cache are kept.
+pub mod Kept

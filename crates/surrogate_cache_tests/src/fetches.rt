@@ -1,0 +1,258 @@
+//! What a cache holds after fetches.
+ghost use Rattle.std.specs.Prelude.{◌≤◌, IfOk, OnOk, [], slice_index_or};
+ghost use Rattle.surrogate_cache.specs.Caching.{HoldsEach, IsStoredOf};
+
+use mail_wire::{Memory, Octets};
+use mime_tree::read_tree;
+use std::alloc::Global;
+use std::test::Fail;
+use surrogate_cache::{Cache, Counts};
+use surrogate_rope::Rope;
+
+// How many octets the subjects of the messages 0 to 5 have.
+const SUBJECTS: [usize; 6] = [4, 12, 3200, 40, 5500, 3600];
+
+// How many blocks their stored ropes need.
+const BLOCKS: [usize; 6] = [1, 1, 2, 1, 3, 2];
+
+// A message with a subject of so many octets that aren't ASCII.
+fn message(alloc: Global, octets: usize) -> Result<Octets, Memory> {
+    let mut made = Octets::from_slice(alloc, b"Subject: ")?;
+    for _ in 0..octets / 2 {
+        made.push_slice("é".as_bytes())?;
+    }
+    made.push_slice(b"\r\n\r\nx\r\n")?;
+    Ok(made)
+}
+
+fn all_messages(alloc: Global) -> Result<Vec<Octets>, Memory> {
+    let mut all = Vec::new(alloc);
+    for octets in SUBJECTS {
+        all.push(message(alloc, octets)?)?;
+    }
+    Ok(all)
+}
+
+fn open(alloc: Global, blocks: u32, entries: u32, messages: &[Octets]) -> Result<Cache, Memory>
+    requires blocks { (1 ≤ blocks) × (blocks ≤ 65536) }
+    requires entries { 1 ≤ entries }
+    ensures { IfOk result (HoldsEach (λ id. IsStoredOf (slice_index_or messages.now id []))) }
+{
+    Cache::open(alloc, blocks, entries)
+}
+
+// Fetches one of the messages, and answers its rope, unless the fetch was refused.
+fn try_fetch(
+    alloc: Global,
+    cache: &mut Cache,
+    messages: &[Octets],
+    id: u32,
+) -> Result<Result<Rope, Memory>, Fail>
+    requires { HoldsEach (λ id. IsStoredOf (slice_index_or messages.now id [])) cache.old }
+    ensures { OnOk result (HoldsEach (λ id. IsStoredOf (slice_index_or messages.now id [])) cache.new) }
+{
+    let Some(octets) = messages.get(id as usize) else {
+        return Err(Fail::from("no message"));
+    };
+    let tree = read_tree(alloc, octets.as_slice()).map_err(|_| "no tree")?;
+    Ok(cache.fetch(alloc, id, octets.as_slice(), &tree))
+}
+
+// The same, and answers the stored form of its rope.
+fn fetch(alloc: Global, cache: &mut Cache, messages: &[Octets], id: u32) -> Result<Octets, Fail>
+    requires { HoldsEach (λ id. IsStoredOf (slice_index_or messages.now id [])) cache.old }
+    ensures { OnOk result (HoldsEach (λ id. IsStoredOf (slice_index_or messages.now id [])) cache.new) }
+{
+    let rope = try_fetch(alloc, cache, messages, id)??;
+    Ok(rope.store(alloc)?)
+}
+
+// The rope of one of the messages, if it is held.
+fn held(
+    alloc: Global,
+    cache: &mut Cache,
+    messages: &[Octets],
+    id: u32,
+) -> Result<Option<Rope>, Memory>
+    requires { HoldsEach (λ id. IsStoredOf (slice_index_or messages.now id [])) cache.old }
+    ensures { OnOk result (HoldsEach (λ id. IsStoredOf (slice_index_or messages.now id [])) cache.new) }
+{
+    cache.held(alloc, id)
+}
+
+// What is held, by the rule over a plain list of numbers and blocks.
+#[derive(Drop)]
+struct Plain {
+    held: Vec<(u32, usize)>,
+    counts: Counts,
+    blocks: usize,
+    places: usize,
+}
+
+// The list with an entry before all others, of which the first ones stay as long as there is room.
+fn with_first(
+    alloc: Global,
+    held: &[(u32, usize)],
+    first: (u32, usize),
+    blocks: usize,
+    places: usize,
+) -> Result<Vec<(u32, usize)>, Memory> {
+    let mut made = vec![in alloc; first]?;
+    let mut used = first.1;
+    for one in held {
+        if one.0 != first.0 {
+            used = used.saturating_add(one.1);
+            if used > blocks || made.len() >= places {
+                break;
+            }
+            made.push(*one)?;
+        }
+    }
+    Ok(made)
+}
+
+impl Plain {
+    fn new(alloc: Global, blocks: usize, places: usize) -> Plain {
+        Plain {
+            held: Vec::new(alloc),
+            counts: Counts { built: 0, hits: 0 },
+            blocks,
+            places,
+        }
+    }
+
+    fn fetch(&mut self, alloc: Global, id: u32, blocks: usize) -> Result<(), Memory> {
+        if self.held.iter().any(|one| one.0 == id) {
+            self.counts.hits = self.counts.hits.saturating_add(1);
+        } else {
+            self.counts.built = self.counts.built.saturating_add(1);
+            if blocks > self.blocks {
+                return Ok(());
+            }
+        }
+        self.held = with_first(alloc, &self.held, (id, blocks), self.blocks, self.places)?;
+        Ok(())
+    }
+
+    fn is(&self, entries: &[u32], counts: Counts) -> bool {
+        counts == self.counts
+            && entries.len() == self.held.len()
+            && entries
+                .iter()
+                .zip(self.held.iter())
+                .all(|(entry, one)| *entry == one.0)
+    }
+}
+
+// Whether a cache of so many blocks and entries is the plain list after each of these fetches.
+fn agrees(
+    alloc: Global,
+    messages: &[Octets],
+    blocks: u32,
+    entries: u32,
+    ids: &[u32],
+) -> Result<bool, Fail>
+    requires blocks { (1 ≤ blocks) × (blocks ≤ 65536) }
+    requires entries { 1 ≤ entries }
+{
+    let mut cache = open(alloc, blocks, entries, messages)?;
+    let mut plain = Plain::new(alloc, blocks as usize, entries as usize);
+    for id in ids {
+        fetch(alloc, &mut cache, messages, *id)?;
+        let needed = BLOCKS.get(*id as usize).copied().unwrap_or(0);
+        plain.fetch(alloc, *id, needed)?;
+        if !plain.is(cache.entries(alloc)?.as_slice(), cache.counts()) {
+            return Ok(false);
+        }
+    }
+    Ok(true)
+}
+
+#[test]
+fn the_last_fetched_are_held(rt: HostRuntime) -> Result<(), Fail> {
+    let alloc = rt.alloc();
+    let messages = all_messages(alloc)?;
+    let mut cache = open(alloc, 2, 8, &messages)?;
+    fetch(alloc, &mut cache, &messages, 0)?;
+    let second = fetch(alloc, &mut cache, &messages, 1)?;
+    fetch(alloc, &mut cache, &messages, 3)?;
+    assert!(rt; cache.entries(alloc)?.as_slice() == [3, 1].as_slice());
+    let fourth = fetch(alloc, &mut cache, &messages, 1)?;
+    assert!(rt; fourth.as_slice() == second.as_slice());
+    fetch(alloc, &mut cache, &messages, 0)?;
+    assert!(rt; cache.entries(alloc)?.as_slice() == [0, 1].as_slice());
+    assert!(rt; cache.counts() == Counts { built: 4, hits: 1 });
+    fetch(alloc, &mut cache, &messages, 4)?;
+    assert!(rt; cache.entries(alloc)?.as_slice() == [0, 1].as_slice());
+    assert!(rt; cache.counts() == Counts { built: 5, hits: 1 });
+    Ok(())
+}
+
+#[test]
+fn a_held_rope_needs_no_tree(rt: HostRuntime) -> Result<(), Fail> {
+    let alloc = rt.alloc();
+    let messages = all_messages(alloc)?;
+    let mut cache = open(alloc, 4, 4, &messages)?;
+    assert!(rt; held(alloc, &mut cache, &messages, 0)?.is_none());
+    assert!(rt; cache.counts() == Counts { built: 0, hits: 0 });
+    let built = fetch(alloc, &mut cache, &messages, 0)?;
+    fetch(alloc, &mut cache, &messages, 2)?;
+    let Some(rope) = held(alloc, &mut cache, &messages, 0)? else {
+        return Err(Fail::from("not held"));
+    };
+    assert!(rt; rope.store(alloc)?.as_slice() == built.as_slice());
+    assert!(rt; cache.entries(alloc)?.as_slice() == [0, 2].as_slice());
+    assert!(rt; cache.counts() == Counts { built: 2, hits: 1 });
+    Ok(())
+}
+
+#[test]
+fn each_pool_is_a_plain_list(rt: HostRuntime) -> Result<(), Fail> {
+    let messages = all_messages(rt.alloc())?;
+    let ids = [
+        0, 1, 2, 0, 3, 4, 3, 2, 5, 1, 1, 4, 0, 0, 5, 2, 3, 1, 0, 5, 4, 4, 3, 0, 2, 5, 1, 3, 3, 0,
+    ];
+    for blocks in 1..5 {
+        for entries in 1..5 {
+            assert!(rt; agrees(rt.alloc(), &messages, blocks, entries, &ids)?);
+        }
+    }
+    Ok(())
+}
+
+// These two say more where memory is refused, one request after the other, as `rt try --test --fail-alloc N` does.
+#[test]
+fn a_refused_build_counts_nothing(rt: HostRuntime) -> Result<(), Fail> {
+    let alloc = rt.alloc();
+    let messages = all_messages(alloc)?;
+    let mut cache = open(alloc, 3, 3, &messages)?;
+    fetch(alloc, &mut cache, &messages, 0)?;
+    fetch(alloc, &mut cache, &messages, 1)?;
+    if try_fetch(alloc, &mut cache, &messages, 2)?.is_err() {
+        assert!(rt; cache.counts() == Counts { built: 2, hits: 0 });
+        let held = cache.entries(alloc)?;
+        assert!(rt; held.as_slice() == [1, 0].as_slice() || held.as_slice() == [1].as_slice());
+        fetch(alloc, &mut cache, &messages, 2)?;
+    }
+    assert!(rt; cache.entries(alloc)?.as_slice() == [2, 1].as_slice());
+    assert!(rt; cache.counts() == Counts { built: 3, hits: 0 });
+    Ok(())
+}
+
+#[test]
+fn a_refused_hit_is_counted_and_moves(rt: HostRuntime) -> Result<(), Fail> {
+    let alloc = rt.alloc();
+    let messages = all_messages(alloc)?;
+    let mut cache = open(alloc, 3, 3, &messages)?;
+    let built = fetch(alloc, &mut cache, &messages, 2)?;
+    fetch(alloc, &mut cache, &messages, 0)?;
+    let refused = try_fetch(alloc, &mut cache, &messages, 2)?.is_err();
+    assert!(rt; cache.entries(alloc)?.as_slice() == [2, 0].as_slice());
+    assert!(rt; cache.counts() == Counts { built: 2, hits: 1 });
+    if refused {
+        let held = fetch(alloc, &mut cache, &messages, 2)?;
+        assert!(rt; held.as_slice() == built.as_slice());
+        assert!(rt; cache.counts() == Counts { built: 2, hits: 2 });
+    }
+    Ok(())
+}
