@@ -16,7 +16,7 @@ from vectors.pop_vectors import cases_of, wanted_of
 from vectors.smtp_vectors import MESSAGE_MAX
 
 OLDER = "imap-first.txt"
-FILES = [OLDER, "imap.txt", "imap-full.txt"]
+FILES = [OLDER, "imap.txt", "imap-full.txt", "imap-cache.txt"]
 TOO_LARGE, NOT_BUILT = b" NO too large\r\n", b" NO not built\r\n"
 
 

@@ -1,7 +1,7 @@
 """Sessions and hostile journals that an independent reference wrote.
 
 A file has cases, with an empty line behind each; a line is a word and its value, octets in hexadecimal. `message_max` isn't
-looked at: no reply of POP3 depends on it.
+looked at, nor are the `limits` of the cache and what it holds behind the session: no reply of POP3 depends on them.
 
 Three of the files are older than the reading of all records, and two of them than the rewriting of all fields and than trees of
 entities: they say of a journal with such a record or message that it isn't built (status 10). There a name was that of an account
@@ -18,7 +18,7 @@ from support.harness import differs, in_lanes
 from support.talk import all_cuts, answer_faults, joined
 
 OLDER = ["pop-first.txt", "journal-first.txt", "pop-trees.txt"]
-FILES = [*OLDER, "journal.txt", "pop.txt"]
+FILES = [*OLDER, "journal.txt", "pop.txt", "pop-cache.txt"]
 NOT_BUILT = 10
 LATER = {b"CAPA", b"UIDL", b"TOP", b"DELE", b"RSET", b"NOOP"}
 
