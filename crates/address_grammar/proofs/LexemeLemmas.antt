@@ -1,57 +1,57 @@
 -- Tokens, and where they are cut.
-use Rattle.std.proofs.Common.{◌≡◌, ◌≢◌, ℕ, ◌+◌, ◌<◌, true, false, not, inl, inr, List, [], ◌∷◌, ◌++◌, length, get_or, take, drop, Some, None, refl, sym, ap, ◌∙◌, position}
+use Rattle.std.proofs.Common.{◌≡◌, ◌≢◌, ℕ, ◌-◌, ◌<◌, true, false, not, inl, inr, List, [], ◌∷◌, ◌++◌, length, take, refl, sym, ap, ◌∙◌, arith}
 use Rattle.std.specs.Str.{bytes_eq}
-use Rattle.std.specs.List.{list_all}
 use Rattle.std.proofs.lemmas.Bool.{and_parts, and_from, not-true, both_ways, cases_Bool}
-use Rattle.std.proofs.lemmas.List.{map-append}
-use Rattle.std.proofs.lemmas.List.Elements.{filter-append}
-use Rattle.std.proofs.lemmas.List.Folds.{list_all-map}
+use Rattle.std.proofs.lemmas.List.{append_assoc, append-nil, length-append, take_at}
+use Rattle.std.proofs.lemmas.List.Folds.{list_all-append}
 use Rattle.std.proofs.lemmas.Slice.Eq.{bytes_eq-Decides}
 use Rattle.field_tokens.specs.declared.TokenKind.{TokenKind}
 use Rattle.field_tokens.specs.declared.TokenKind.TheVariants.{Atom, Quoted, Literal, Special, Gap, Comment}
 use Rattle.field_tokens.specs.Tokens.{TokenValue}
 use Rattle.field_tokens.specs.Squeezed.{is_blank, is_special_kind, words_of}
-use Rattle.address_grammar.specs.declared.lexemes.Lexeme.{Lexeme}
 use Rattle.address_grammar.specs.private.Lexemes.{is_blank_token, are_blank, is_special_of, lacks_special, SplitsAt}
-use Rattle.address_grammar.specs.private.Views.{value_of, values_of}
-use Rattle.address_grammar.proofs.Positions.{IsFound, position_found, position_missing}
 
-pub split_found : (mark : ℕ) (ls : List Lexeme) (i : ℕ) → position (λ l. is_special_of mark (value_of l)) ls ≡ Some i
-    → SplitsAt mark (values_of ls) (values_of (take i ls)) (values_of (drop (i + 1) ls))
-split_found mark [] i e = cc e
-split_found mark (x ∷ xs) i e = by (position_found (λ l. is_special_of mark (value_of l)) (x ∷ xs) i x e)
-  where
-    by : IsFound (λ l. is_special_of mark (value_of l)) (x ∷ xs) i x → SplitsAt mark (values_of (x ∷ xs)) (values_of (take i (x ∷ xs))) (values_of (drop (i + 1) (x ∷ xs)))
-    by found = record {
-      at = value_of (get_or (x ∷ xs) i x);
-      whole = ap values_of found.whole ∙ map-append value_of (take i (x ∷ xs)) (get_or (x ∷ xs) i x ∷ drop (i + 1) (x ∷ xs));
-      is_at = found.passes;
-      first = list_all-map (λ t. not (is_special_of mark t)) value_of (take i (x ∷ xs)) ∙ found.first;
-    }
+-- what stands before the first mark, as far as it was looked at
+pub record BeforeMark (mark : ℕ) (all rest : List TokenValue) : Type 0 where
+  pub front : List TokenValue
+  pub whole : all ≡ front ++ rest
+  pub lacks : lacks_special mark front ≡ true
 
-pub split_missing : (mark : ℕ) (ls : List Lexeme) → position (λ l. is_special_of mark (value_of l)) ls ≡ None → lacks_special mark (values_of ls) ≡ true
-split_missing mark ls e = list_all-map (λ t. not (is_special_of mark t)) value_of ls ∙ position_missing (λ l. is_special_of mark (value_of l)) ls e
+pub mark_start : (mark : ℕ) (ts : List TokenValue) → BeforeMark mark ts ts
+mark_start mark ts = record { front = []; whole = refl; lacks = refl }
 
--- tokens of which none is a word
-not_words : (ts : List TokenValue) → list_all (λ t. not (not (is_blank_token t))) ts ≡ true → words_of ts ≡ []
-not_words [] h = refl
-not_words (t ∷ ts) h =
-    let parts = and_parts (not (not (is_blank_token t))) (list_all (λ t. not (not (is_blank_token t))) ts) h in
-    rw (not-true (not (is_blank_token t)) parts.0) (not_words ts parts.1)
+pub mark_turn : (mark : ℕ) (all rest behind : List TokenValue) (t : TokenValue) → BeforeMark mark all rest → rest ≡ t ∷ behind → is_special_of mark t ≡ false → BeforeMark mark all behind
+mark_turn mark all rest behind t b e other = record {
+  front = b.front ++ t ∷ [];
+  whole = b.whole ∙ ap (λ r. b.front ++ r) e ∙ sym (append_assoc b.front (t ∷ []) behind);
+  lacks = list_all-append (λ u. not (is_special_of mark u)) b.front (t ∷ []) ∙ rw (b.lacks, other) refl;
+}
 
-pub word_found : (ls : List Lexeme) (i : ℕ) (d : Lexeme) → position (λ l. not (is_blank_token (value_of l))) ls ≡ Some i
-    → (i < length ls) × (words_of (values_of ls) ≡ value_of (get_or ls i d) ∷ words_of (values_of (drop (i + 1) ls)))
-word_found ls i d e =
-    let found = position_found (λ l. not (is_blank_token (value_of l))) ls i d e in
-    let whole : values_of ls ≡ values_of (take i ls) ++ value_of (get_or ls i d) ∷ values_of (drop (i + 1) ls) =
-    ap values_of found.whole ∙ map-append value_of (take i ls) (get_or ls i d ∷ drop (i + 1) ls) in
-    let front : words_of (values_of (take i ls)) ≡ [] = not_words (values_of (take i ls)) (list_all-map (λ t. not (not (is_blank_token t))) value_of (take i ls) ∙ found.first) in (
-      found.within,
-      rw (whole, filter-append (λ t. not (is_blank_token t)) (values_of (take i ls)) (value_of (get_or ls i d) ∷ values_of (drop (i + 1) ls)), front, found.passes) refl,
-    )
+pub mark_found : (mark : ℕ) (all rest behind before : List TokenValue) (t : TokenValue) → BeforeMark mark all rest → rest ≡ t ∷ behind → is_special_of mark t ≡ true
+    → ((front : List TokenValue) → all ≡ front ++ rest → before ≡ front) → SplitsAt mark all before behind
+mark_found mark all rest behind before t b e is front_is =
+    let front : before ≡ b.front = front_is b.front b.whole in
+    record { at = t; whole = b.whole ∙ ap (λ r. b.front ++ r) e ∙ ap (λ r. r ++ t ∷ behind) (sym front); is_at = is; first = ap (lacks_special mark) front ∙ b.lacks }
 
-pub word_missing : (ls : List Lexeme) → position (λ l. not (is_blank_token (value_of l))) ls ≡ None → words_of (values_of ls) ≡ []
-word_missing ls e = not_words (values_of ls) (list_all-map (λ t. not (not (is_blank_token t))) value_of ls ∙ position_missing (λ l. not (is_blank_token (value_of l))) ls e)
+pub mark_shorter : (mark : ℕ) (all rest behind : List TokenValue) (t : TokenValue) → BeforeMark mark all rest → rest ≡ t ∷ behind → length behind < length all
+mark_shorter mark all rest behind t b e = omega (arith, ap length b.whole, length-append b.front rest, ap length e)
+
+pub mark_missing : (mark : ℕ) (all rest : List TokenValue) → BeforeMark mark all rest → rest ≡ [] → lacks_special mark all ≡ true
+mark_missing mark all rest b e = ap (lacks_special mark) (b.whole ∙ ap (λ r. b.front ++ r) e ∙ append-nil b.front) ∙ b.lacks
+
+-- fewer tokens stand behind the first one
+pub less_behind : (rest behind : List TokenValue) (t : TokenValue) → rest ≡ t ∷ behind → length behind < length rest
+less_behind rest behind t e = omega (arith, ap length e)
+
+-- what is taken before the tokens at the end
+pub front_taken : (all front rest : List TokenValue) → all ≡ front ++ rest → take (length all - length rest) all ≡ front
+front_taken all front rest e = ap (take (length all - length rest)) e ∙ take_at front rest (length all - length rest) (omega (arith, ap length e, length-append front rest))
+
+pub word_turn : (rest behind : List TokenValue) (t : TokenValue) → rest ≡ t ∷ behind → is_blank_token t ≡ true → words_of rest ≡ words_of behind
+word_turn rest behind t e blank = ap words_of e ∙ rw blank refl
+
+pub word_here : (rest behind : List TokenValue) (t : TokenValue) → rest ≡ t ∷ behind → is_blank_token t ≡ false → words_of rest ≡ t ∷ words_of behind
+word_here rest behind t e word = ap words_of e ∙ rw word refl
 
 -- ---- marks
 
@@ -124,6 +124,8 @@ cut_once m (h ∷ a) (k ∷ b) s t x y la lb is it e =
     let front : a ≡ b = r.front in
     record { front = cc; mark = r.mark; rest = r.rest }
 
-pub split_within : (mark : ℕ) (ls : List Lexeme) (i : ℕ) → position (λ l. is_special_of mark (value_of l)) ls ≡ Some i → i < length ls
-split_within mark [] i e = cc e
-split_within mark (x ∷ xs) i e = (position_found (λ l. is_special_of mark (value_of l)) (x ∷ xs) i x e).within
+pub mark_in : (mark : ℕ) (ts before behind : List TokenValue) → SplitsAt mark ts before behind → false ≡ lacks_special mark ts
+mark_in mark ts before behind s = elim (cases_Bool (lacks_special mark ts)) [
+  | inl lacks ↦ absurd (not_lacking mark before behind s.at s.is_at (rw (s.whole) at lacks))
+  | inr other ↦ sym other
+]

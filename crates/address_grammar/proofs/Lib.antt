@@ -1,4 +1,3 @@
-pub mod Positions
 pub mod LexemeLemmas
 pub mod DottedLemmas
 pub mod ContentLemmas

@@ -176,7 +176,7 @@ members_not_blank ts ms d h = by d.parts d.divided d.say
     by (p ∷ []) div say = one_not_blank p say.0 say.3 (rw (div) at h)
     by (p ∷ n ∷ parts) div say = not_lacking 44 p div.1 div.0 div.3 (rw (div.2) at (blank_lacks 44 ts h))
 
-members_once : (ts : List TokenValue) (ms ns : List MailboxValue) → AreMembers ts ms → AreMembers ts ns → ms ≡ ns
+pub members_once : (ts : List TokenValue) (ms ns : List MailboxValue) → AreMembers ts ms → AreMembers ts ns → ms ≡ ns
 members_once ts ms ns (inl p) (inl q) = p.1 ∙ sym q.1
 members_once ts ms ns (inl p) (inr q) = absurd (members_not_blank ts ns q p.0)
 members_once ts ms ns (inr p) (inl q) = absurd (members_not_blank ts ms p q.0)

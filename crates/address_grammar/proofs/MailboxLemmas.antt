@@ -1,20 +1,21 @@
 -- A mailbox is read in one way.
-use Rattle.std.proofs.Common.{◌≡◌, ◌≢◌, ℕ, ◌<◌, Bool, true, false, not, ◌||◌, ◌⊎◌, inl, inr, List, [], ◌∷◌, length, get_or, refl, sym, ap, ◌∙◌, arith}
+use Rattle.std.proofs.Common.{◌≡◌, ◌≢◌, ℕ, ◌<◌, Bool, true, false, not, ◌||◌, ◌⊎◌, inl, inr, List, [], ◌∷◌, ◌++◌, refl, sym, ap, ◌∙◌, subst, arith}
 use Rattle.std.proofs.lemmas.Bool.{and_parts, and_from, both_ways}
-use Rattle.std.proofs.lemmas.List.Folds.{list_all-map}
-use Rattle.std.proofs.lemmas.List.Sums.{AllPass-from_list_all}
 use Rattle.std.specs.List.{AllByRecursion, list_all}
 use Rattle.encoded_words.specs.Words.{UnitValue}
+use Rattle.encoded_words.specs.PhraseUnits.{HasPhraseUnits}
+use Rattle.encoded_words.proofs.AllUnits.{HasPhraseUnits-some}
+use Rattle.encoded_words.proofs.PhraseLemmas.{HasPhraseUnits-once}
 use Rattle.field_tokens.specs.declared.TokenKind.{TokenKind}
 use Rattle.field_tokens.specs.declared.TokenKind.TheVariants.{Atom, Quoted, Literal, Special, Gap, Comment}
 use Rattle.field_tokens.specs.Tokens.{TokenValue}
 use Rattle.address_grammar.specs.declared.Address.{Address}
-use Rattle.address_grammar.specs.declared.lexemes.Lexeme.{Lexeme}
+use Rattle.address_grammar.specs.declared.FoundMailbox.{FoundMailbox}
+use Rattle.address_grammar.specs.Found.{found_value, SaysSomePhrase, IsFoundBy}
 use Rattle.address_grammar.specs.private.Lexemes.{is_blank_token, are_blank, is_word_kind, is_special_of, lacks_special, SplitsAt}
-use Rattle.address_grammar.specs.private.Views.{value_of, values_of}
 use Rattle.address_grammar.specs.Addresses.{is_domain, IsAddress}
 use Rattle.address_grammar.specs.Paths.{IsFirstAngled}
-use Rattle.address_grammar.specs.Phrases.{may_stand_in_phrase, IsPhrase, SaysPhrase}
+use Rattle.address_grammar.specs.Phrases.{may_stand_in_phrase, IsPhrase, phrase_items, SaysPhrase, SaysNothing}
 use Rattle.address_grammar.specs.AddressLists.{Divided, IsHop, IsRoute, MailboxValue, IsBare, IsRoutedOrNot, IsNamedBy, IsNamed, IsMailbox}
 use Rattle.address_grammar.proofs.LexemeLemmas.{no_mark, other_mark, blank_lacks, cut_once, not_lacking}
 use Rattle.address_grammar.proofs.AddressLemmas.{domain_lacks, lacks-append, address_lacks}
@@ -22,9 +23,6 @@ use Rattle.address_grammar.proofs.PathLemmas.{angles_once}
 use Rattle.field_tokens.specs.Squeezed.{is_special_kind}
 
 -- ---- phrases
-
-pub stands_at : (p : TokenValue → Bool) (ls : List Lexeme) (i : ℕ) (d : Lexeme) → list_all p (values_of ls) ≡ true → i < length ls → p (value_of (get_or ls i d)) ≡ true
-stands_at p ls i d h l = AllPass-from_list_all (λ x. p (value_of x)) ls (sym (list_all-map p value_of ls) ∙ h) i d l
 
 blank_or_word : (k : TokenKind) (b : Bool) → (is_blank_token (record { kind = k; octets = [] }) || (is_word_kind k || b)) ≡ true → (is_special_kind k ≡ false) ⊎ (b ≡ true)
 blank_or_word Atom b h = inl refl
@@ -197,3 +195,56 @@ only_named ts m l (inr is) = is
 
 pub named_made : (ts before inner : List TokenValue) (m : MailboxValue) → IsFirstAngled ts before inner → IsNamedBy before inner m → IsMailbox ts m
 named_made ts before inner m first named = inr (record { before = before; inner = inner; angled = first.angled; named = named })
+
+-- ---- what the phrase says
+
+-- what stands before angle brackets is a phrase that says these units
+pub named_phrase : (ts before behind : List TokenValue) (m : MailboxValue) → SplitsAt 60 ts before behind → IsNamed ts m → m.phrase ≡ true → IsPhrase before × HasPhraseUnits (phrase_items before) m.display
+named_phrase ts before behind m s is phrase =
+    let a = is.angled in
+    let cut = cut_once 60 before is.before s.at a.open_mark behind (is.inner ++ a.close_mark ∷ a.after) s.first (named_angles ts m is).first_open s.is_at a.opens (sym s.whole ∙ a.whole) in
+    rw (cut.front) (by m.phrase phrase is.named.says)
+  where
+    by : (b : Bool) → b ≡ true → SaysPhrase is.before b m.display → IsPhrase is.before × HasPhraseUnits (phrase_items is.before) m.display
+    by true h says = says
+    by false h says = cc h
+
+pub is_named : (ts : List TokenValue) (m : MailboxValue) → m.phrase ≡ true → IsMailbox ts m → IsNamed ts m
+is_named ts m h (inl is) = absurd (both_ways m.phrase is.phrase h)
+is_named ts m h (inr is) = is
+
+pub not_open : (ts : List TokenValue) (m : MailboxValue) → IsNamed ts m → lacks_special 60 ts ≡ true → ⊥
+not_open ts m is l = not_lacking 60 is.before _ is.angled.open_mark is.angled.opens (rw (is.angled.whole) at l)
+
+-- a mailbox without a phrase says no units
+pub nothing_said : (ts : List TokenValue) (m : MailboxValue) → m.phrase ≡ false → IsMailbox ts m → m.display ≡ []
+nothing_said ts m h (inl is) = is.display
+nothing_said ts m h (inr is) = by m.phrase h is.named.says
+  where
+    by : (b : Bool) → b ≡ false → SaysPhrase is.before b m.display → m.display ≡ []
+    by true h says = cc h
+    by false h says = says.1
+
+-- units that were read of the phrase are those of the mailbox
+pub display_read : (ts before behind : List TokenValue) (m : FoundMailbox) (display units : List UnitValue) → SplitsAt 60 ts before behind → m.phrase ≡ true → IsMailbox ts (found_value m display)
+    → HasPhraseUnits (phrase_items before) units → IsMailbox ts (found_value m units)
+display_read ts before behind m display units s phrase is has =
+    let said = named_phrase ts before behind (found_value m display) s (is_named ts (found_value m display) phrase is) phrase in
+    subst (λ r. IsMailbox ts (found_value m r)) (HasPhraseUnits-once (phrase_items before) display units said.1 has) is
+
+pub display_none : (ts : List TokenValue) (m : FoundMailbox) (display units : List UnitValue) → m.phrase ≡ false → units ≡ [] → IsMailbox ts (found_value m display) → IsMailbox ts (found_value m units)
+display_none ts m display units bare none is = subst (λ r. IsMailbox ts (found_value m r)) (nothing_said ts (found_value m display) bare is ∙ sym none) is
+
+-- a phrase says something
+pub some_phrase : (ts : List TokenValue) → IsPhrase ts → SaysSomePhrase ts true
+some_phrase ts is = let units = HasPhraseUnits-some (phrase_items ts) in (units.0, (is, units.1))
+
+pub found_by : (before inner : List TokenValue) (m : FoundMailbox) → SaysSomePhrase before m.phrase → IsRoutedOrNot inner m.address → m.angle ≡ true → IsFoundBy before inner m
+found_by before inner m says address angle = (says.0, record { says = says.1; address = address; angle = angle })
+
+pub no_phrase : (ts : List TokenValue) → are_blank ts ≡ true → SaysSomePhrase ts false
+no_phrase ts blank = ([], (blank, refl))
+
+pub nothing_says : (ts : List TokenValue) → are_blank ts ≡ false → (IsPhrase ts → ⊥) → SaysNothing ts
+nothing_says ts some none true units says = none says.0
+nothing_says ts some none false units says = both_ways (are_blank ts) some says.0

@@ -1,12 +1,10 @@
 -- Places of a list end at one comma.
-use Rattle.std.proofs.Common.{◌≡◌, ℕ, ◌+◌, ◌<◌, ◌≤◌, true, inl, inr, List, [], ◌∷◌, ◌++◌, length, get_or, take, drop, Option, Some, None, refl, sym, ap, ◌∙◌}
+use Rattle.std.proofs.Common.{◌≡◌, ℕ, ◌<◌, true, inl, inr, List, [], ◌∷◌, ◌++◌, length, Option, Some, None, refl, sym, ap, ◌∙◌, arith}
 use Rattle.std.proofs.lemmas.Bool.{cases_Bool}
-use Rattle.std.proofs.lemmas.List.{take-append-drop, drop_more, map-append, take_all, take_more}
+use Rattle.std.proofs.lemmas.List.{append_assoc, append-nil, length-append}
 use Rattle.field_tokens.specs.Tokens.{TokenValue}
-use Rattle.address_grammar.specs.declared.lexemes.Lexeme.{Lexeme}
 use Rattle.address_grammar.specs.private.Lexemes.{is_special_of}
-use Rattle.address_grammar.specs.private.Views.{value_of, values_of}
-use Rattle.address_grammar.specs.private.Walks.{awaited_behind, and_then, walk, IsLastPlace, EndsAt}
+use Rattle.address_grammar.specs.private.Walks.{awaited_behind, and_then, walk, SplitsPlace, IsLastPlace}
 
 pub walk-append : (a b : List TokenValue) (awaited : Option ℕ) → walk awaited (a ++ b) ≡ and_then (walk awaited a) (λ next. walk next b)
 walk-append [] b awaited = refl
@@ -38,30 +36,41 @@ ends_here None t e = elim (cases_Bool (is_special_of 44 t)) [
   ]
 ]
 
-values_more : (ls : List Lexeme) (i : ℕ) (d : Lexeme) → i < length ls → values_of ls ≡ values_of (take i ls) ++ value_of (get_or ls i d) ∷ values_of (drop (i + 1) ls)
-values_more ls i d h = ap values_of (sym (take-append-drop i ls) ∙ ap (λ r. take i ls ++ r) (drop_more ls i d h)) ∙ map-append value_of (take i ls) (get_or ls i d ∷ drop (i + 1) ls)
+-- what is awaited behind the tokens that were looked at
+pub record WalksTo (all : List TokenValue) (awaited : Option ℕ) (rest : List TokenValue) : Type 0 where
+  pub front : List TokenValue
+  pub whole : all ≡ front ++ rest
+  pub walked : walk None front ≡ Some awaited
 
-pub place_ends : (ls : List Lexeme) (i : ℕ) (d : Lexeme) (awaited : Option ℕ) → i < length ls → walk None (values_of (take i ls)) ≡ Some awaited → awaited_behind awaited (value_of (get_or ls i d)) ≡ None → EndsAt ls i
-place_ends ls i d awaited h walked e =
-    let is = ends_here awaited (value_of (get_or ls i d)) e in
+pub walks_start : (ts : List TokenValue) → WalksTo ts None ts
+walks_start ts = record { front = []; whole = refl; walked = refl }
+
+pub walks_turn : (all rest behind : List TokenValue) (t : TokenValue) (awaited next : Option ℕ) → WalksTo all awaited rest → rest ≡ t ∷ behind → awaited_behind awaited t ≡ Some next → WalksTo all next behind
+walks_turn all rest behind t awaited next w e is = record {
+  front = w.front ++ t ∷ [];
+  whole = w.whole ∙ ap (λ r. w.front ++ r) e ∙ sym (append_assoc w.front (t ∷ []) behind);
+  walked = rw (walk-append w.front (t ∷ []) None, w.walked, is) refl;
+}
+
+pub place_ends : (all rest behind place : List TokenValue) (t : TokenValue) (awaited : Option ℕ) → WalksTo all awaited rest → rest ≡ t ∷ behind → awaited_behind awaited t ≡ None
+    → ((front : List TokenValue) → all ≡ front ++ rest → place ≡ front) → SplitsPlace all place behind
+place_ends all rest behind place t awaited w e is front_is =
+    let front : place ≡ w.front = front_is w.front w.whole in
+    let end = ends_here awaited t is in
     record {
-      within = h;
-      splits = record {
-        comma = value_of (get_or ls i d);
-        whole = values_more ls i d h;
-        is_comma = is.comma;
-        walked = walked ∙ ap Some is.nothing;
-      };
+      comma = t;
+      whole = w.whole ∙ ap (λ r. w.front ++ r) e ∙ ap (λ r. r ++ t ∷ behind) (sym front);
+      is_comma = end.comma;
+      walked = ap (walk None) front ∙ w.walked ∙ ap Some end.nothing;
     }
 
-pub walks_on : (ls : List Lexeme) (i : ℕ) (d : Lexeme) (awaited next : Option ℕ) → i < length ls → walk None (values_of (take i ls)) ≡ Some awaited → awaited_behind awaited (value_of (get_or ls i d)) ≡ Some next
-    → walk None (values_of (take (i + 1) ls)) ≡ Some next
-walks_on ls i d awaited next h walked e =
-    let front : values_of (take (i + 1) ls) ≡ values_of (take i ls) ++ value_of (get_or ls i d) ∷ [] = ap values_of (take_more ls i d h) ∙ map-append value_of (take i ls) (get_or ls i d ∷ []) in
-    rw (front, walk-append (values_of (take i ls)) (value_of (get_or ls i d) ∷ []) None, walked, e) refl
+pub place_shorter : (all rest behind : List TokenValue) (t : TokenValue) (awaited : Option ℕ) → WalksTo all awaited rest → rest ≡ t ∷ behind → length behind < length all
+place_shorter all rest behind t awaited w e = omega (arith, ap length w.whole, length-append w.front rest, ap length e)
 
-pub last_place : (ls : List Lexeme) (i : ℕ) (awaited : Option ℕ) → length ls ≤ i → walk None (values_of (take i ls)) ≡ Some awaited → IsLastPlace (values_of ls)
-last_place ls i awaited h walked e = cc (sym (rw (take_all i ls h) at walked) ∙ e)
+pub last_place : (all rest : List TokenValue) (awaited : Option ℕ) → WalksTo all awaited rest → rest ≡ [] → IsLastPlace all
+last_place all rest awaited w e =
+    let walked : walk None all ≡ Some awaited = ap (walk None) (w.whole ∙ ap (λ r. w.front ++ r) e ∙ append-nil w.front) ∙ w.walked in
+    λ none. cc (sym walked ∙ none)
 
 pub walked_not : (a : List TokenValue) (c : TokenValue) (b : List TokenValue) → walk None a ≡ Some None → is_special_of 44 c ≡ true → walk None (a ++ c ∷ b) ≡ None
 walked_not a c b walked is = rw (walk-append a (c ∷ b) None, walked, is) refl

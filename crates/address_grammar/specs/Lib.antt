@@ -2,4 +2,5 @@ pub mod Addresses
 pub mod Paths
 pub mod Phrases
 pub mod AddressLists
+pub mod Found
 pub mod private

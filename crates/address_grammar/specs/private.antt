@@ -1,6 +1,5 @@
 -- What private functions answer.
 pub mod Lexemes
-pub mod Views
 pub mod Walks
 pub mod ListViews
 pub mod PhraseSteps

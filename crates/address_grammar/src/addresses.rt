@@ -1,16 +1,14 @@
 //! One address.
 ghost use Rattle.std.specs.Prelude.{◌≡◌, ◌<◌, length, IfOk, IfSome, IfNone};
 ghost use Rattle.address_grammar.specs.private.Lexemes.{is_special_of as is_mark_of, is_part as is_part_of, BeginsSo, BeginsOther, are_dotted as are_dotted_of};
-ghost use Rattle.address_grammar.specs.private.Views.{value_of, values_of};
+ghost use Rattle.field_tokens.specs.Lexemes.{value_of, values_of};
 ghost use Rattle.address_grammar.specs.Addresses.{is_one_literal as is_one_literal_of, is_domain as is_domain_of, IsAddress};
 ghost use Rattle.address_grammar.specs.declared.Address.{Address};
 ghost use Rattle.field_tokens.specs.Squeezed.{words_of};
 
-use crate::lexemes::{
-    Lexeme, are_blank, contents, first_word, is_atom, is_mark, is_word, split_at_mark,
-};
+use crate::lexemes::{are_blank, contents, first_word, is_atom, is_mark, is_word, split_at_mark};
 use crate::{Address, AddressFault};
-use field_tokens::TokenKind;
+use field_tokens::{Lexeme, Lexemes, TokenKind};
 use std::alloc::Global;
 
 // What may stand between dots: an atom, or where it is allowed a quoted string.
@@ -25,10 +23,10 @@ fn is_part(lexeme: Lexeme<'_>, allows_quoted: bool) -> bool
 }
 
 // What stands behind the first word, where that may stand between dots.
-fn part_rest<'a, 'b>(lexemes: &'b [Lexeme<'a>], allows_quoted: bool) -> Option<&'b [Lexeme<'a>]>
-    ensures found { IfSome result (λ rest. BeginsSo (is_part_of allows_quoted) (values_of lexemes.now) (values_of rest.now)) }
-    ensures shorter { IfSome result (λ rest. length rest.now < length lexemes.now) }
-    ensures none { IfNone result (BeginsOther (is_part_of allows_quoted) (values_of lexemes.now)) }
+fn part_rest<'a, 'b>(lexemes: Lexemes<'a, 'b>, allows_quoted: bool) -> Option<Lexemes<'a, 'b>>
+    ensures found { IfSome result (λ rest. BeginsSo (is_part_of allows_quoted) (values_of lexemes.entry) (values_of rest)) }
+    ensures shorter { IfSome result (λ rest. length (values_of rest) < length (values_of lexemes.entry)) }
+    ensures none { IfNone result (BeginsOther (is_part_of allows_quoted) (values_of lexemes.entry)) }
 {
     let Some((word, rest)) = first_word(lexemes) else {
         return None;
@@ -41,10 +39,10 @@ fn part_rest<'a, 'b>(lexemes: &'b [Lexeme<'a>], allows_quoted: bool) -> Option<&
 }
 
 // What stands behind the first word, where that is a dot.
-fn dot_rest<'a, 'b>(lexemes: &'b [Lexeme<'a>]) -> Option<&'b [Lexeme<'a>]>
-    ensures found { IfSome result (λ rest. BeginsSo (is_mark_of 46) (values_of lexemes.now) (values_of rest.now)) }
-    ensures shorter { IfSome result (λ rest. length rest.now < length lexemes.now) }
-    ensures none { IfNone result (BeginsOther (is_mark_of 46) (values_of lexemes.now)) }
+fn dot_rest<'a, 'b>(lexemes: Lexemes<'a, 'b>) -> Option<Lexemes<'a, 'b>>
+    ensures found { IfSome result (λ rest. BeginsSo (is_mark_of 46) (values_of lexemes.entry) (values_of rest)) }
+    ensures shorter { IfSome result (λ rest. length (values_of rest) < length (values_of lexemes.entry)) }
+    ensures none { IfNone result (BeginsOther (is_mark_of 46) (values_of lexemes.entry)) }
 {
     let Some((word, rest)) = first_word(lexemes) else {
         return None;
@@ -56,8 +54,8 @@ fn dot_rest<'a, 'b>(lexemes: &'b [Lexeme<'a>]) -> Option<&'b [Lexeme<'a>]>
     }
 }
 
-fn are_dotted(lexemes: &[Lexeme<'_>], allows_quoted: bool) -> bool
-    ensures { result ≡ are_dotted_of (is_part_of allows_quoted) (words_of (values_of lexemes.now)) }
+fn are_dotted(lexemes: Lexemes<'_, '_>, allows_quoted: bool) -> bool
+    ensures { result ≡ are_dotted_of (is_part_of allows_quoted) (words_of (values_of lexemes.entry)) }
 {
     let Some(mut rest) = part_rest(lexemes, allows_quoted) else {
         return false;
@@ -71,8 +69,8 @@ fn are_dotted(lexemes: &[Lexeme<'_>], allows_quoted: bool) -> bool
     are_blank(rest)
 }
 
-fn is_one_literal(lexemes: &[Lexeme<'_>]) -> bool
-    ensures { result ≡ is_one_literal_of (words_of (values_of lexemes.now)) }
+fn is_one_literal(lexemes: Lexemes<'_, '_>) -> bool
+    ensures { result ≡ is_one_literal_of (words_of (values_of lexemes.entry)) }
 {
     let Some((word, after)) = first_word(lexemes) else {
         return false;
@@ -80,16 +78,16 @@ fn is_one_literal(lexemes: &[Lexeme<'_>]) -> bool
     matches!(word.kind, TokenKind::Literal) && first_word(after).is_none()
 }
 
-pub fn is_domain(lexemes: &[Lexeme<'_>]) -> bool
-    ensures { result ≡ is_domain_of (values_of lexemes.now) }
+pub fn is_domain(lexemes: Lexemes<'_, '_>) -> bool
+    ensures { result ≡ is_domain_of (values_of lexemes.entry) }
 {
     are_dotted(lexemes, false) || is_one_literal(lexemes)
 }
 
 /// The address that tokens are.
-pub fn read_address(alloc: Global, lexemes: &[Lexeme<'_>]) -> Result<Address, AddressFault>
-    ensures ok { IfOk result (IsAddress (values_of lexemes.now)) }
-    ensures malformed { result ≡ Err AddressFault.Malformed → (address : Address) → ¬ IsAddress (values_of lexemes.now) address }
+pub fn read_address(alloc: Global, lexemes: Lexemes<'_, '_>) -> Result<Address, AddressFault>
+    ensures ok { IfOk result (IsAddress (values_of lexemes.entry)) }
+    ensures malformed { result ≡ Err AddressFault.Malformed → (address : Address) → ¬ IsAddress (values_of lexemes.entry) address }
 {
     let Some((local, domain)) = split_at_mark(lexemes, b'@') else {
         return Err(AddressFault::Malformed);

@@ -1,23 +1,15 @@
-//! The tokens of a text, by their octets.
-ghost use Rattle.std.specs.Prelude.{◌≡◌, ◌<◌, ◌++◌, ◌∷◌, [], ℕ, true, not, false, Bool, List, length, position, IfOk, IfSome, IfNone, OnOk};
-ghost use Rattle.std.specs.List.{list_all};
+//! What the grammar of addresses asks of the tokens of a text.
+ghost use Rattle.std.specs.Prelude.{◌≡◌, ◌<◌, ◌++◌, ◌∷◌, [], ℕ, true, false, List, length, IfOk, IfSome, IfNone, OnOk};
 ghost use Rattle.field_tokens.specs.Tokens.{TokenValue, HasTokens};
+ghost use Rattle.field_tokens.specs.Lexemes.{value_of, values_of, lexemes_in};
 ghost use Rattle.field_tokens.specs.declared.Style.TheVariants.{Mail};
 ghost use Rattle.address_grammar.specs.private.Lexemes.{HasMailTokens, is_blank_token, are_blank as are_blank_of, is_special_of as is_mark_of, lacks_special, is_atom as is_atom_of, is_word as is_word_of, unquoted, content as content_of, contents as contents_of, inner_octets as inner_octets_of, SplitsAt};
-ghost use Rattle.address_grammar.specs.private.Views.{value_of, values_of};
 ghost use Rattle.field_tokens.specs.Squeezed.{words_of};
 
 use crate::AddressFault;
-use field_tokens::{Style, Token, TokenKind, read_tokens};
+use field_tokens::{Lexeme, Lexemes, Mark, Style, Token, TokenKind, read_marks, read_tokens};
 use mail_wire::{Memory, Octets};
 use std::alloc::Global;
-
-/// A token by its kind and its octets.
-#[derive(Clone, Copy)]
-pub struct Lexeme<'a> {
-    pub kind: TokenKind,
-    pub octets: &'a [u8],
-}
 
 /// A gap or a comment.
 pub fn is_blank(lexeme: Lexeme<'_>) -> bool
@@ -46,68 +38,70 @@ pub fn is_mark(lexeme: Lexeme<'_>, mark: u8) -> bool
     matches!(lexeme.kind, TokenKind::Special) && lexeme.octets == [mark].as_slice()
 }
 
-fn all_blank(lexemes: &[Lexeme<'_>]) -> bool
-    ensures { result ≡ list_all (λ l. is_blank_token (value_of l)) lexemes.now }
+pub fn are_blank(lexemes: Lexemes<'_, '_>) -> bool
+    ensures { result ≡ are_blank_of (values_of lexemes.entry) }
 {
-    lexemes.iter().all(|lexeme| is_blank(*lexeme))
-}
-
-pub fn are_blank(lexemes: &[Lexeme<'_>]) -> bool
-    ensures { result ≡ are_blank_of (values_of lexemes.now) }
-{
-    all_blank(lexemes)
-}
-
-pub fn find_mark(lexemes: &[Lexeme<'_>], mark: u8) -> Option<usize>
-    ensures { result ≡ position (λ l. is_mark_of mark (value_of l)) lexemes.now }
-{
-    lexemes.iter().position(|lexeme| is_mark(*lexeme, mark))
-}
-
-fn find_word(lexemes: &[Lexeme<'_>]) -> Option<usize>
-    ensures { result ≡ position (λ l. not (is_blank_token (value_of l))) lexemes.now }
-{
-    lexemes.iter().position(|lexeme| !is_blank(*lexeme))
+    let mut rest = lexemes;
+    while let Some((lexeme, behind)) = rest.split_first() {
+        if !is_blank(lexeme) {
+            return false;
+        }
+        rest = behind;
+    }
+    true
 }
 
 /// The first token that is neither gap nor comment, and what stands behind it.
-pub fn first_word<'a, 'b>(lexemes: &'b [Lexeme<'a>]) -> Option<(Lexeme<'a>, &'b [Lexeme<'a>])>
-    ensures found { IfSome result (λ x. words_of (values_of lexemes.now) ≡ value_of x.0 ∷ words_of (values_of x.1.now)) }
-    ensures shorter { IfSome result (λ x. length x.1.now < length lexemes.now) }
-    ensures none { IfNone result (words_of (values_of lexemes.now) ≡ []) }
+pub fn first_word<'a, 'b>(lexemes: Lexemes<'a, 'b>) -> Option<(Lexeme<'a>, Lexemes<'a, 'b>)>
+    ensures found { IfSome result (λ x. words_of (values_of lexemes.entry) ≡ value_of x.0 ∷ words_of (values_of x.1)) }
+    ensures shorter { IfSome result (λ x. length (values_of x.1) < length (values_of lexemes.entry)) }
+    ensures none { IfNone result (words_of (values_of lexemes.entry) ≡ []) }
 {
-    let Some(at) = find_word(lexemes) else {
-        return None;
-    };
-    Some((lexemes[at], &lexemes[at + 1..]))
+    let mut rest = lexemes;
+    while let Some((lexeme, behind)) = rest.split_first() {
+        if !is_blank(lexeme) {
+            return Some((lexeme, behind));
+        }
+        rest = behind;
+    }
+    None
+}
+
+/// What stands before the tokens at the end.
+pub fn front_before<'a, 'b>(lexemes: Lexemes<'a, 'b>, rest: Lexemes<'a, 'b>) -> Lexemes<'a, 'b>
+    ensures { (front : List TokenValue) → values_of lexemes.entry ≡ front ++ values_of rest.entry → values_of result ≡ front }
+{
+    let (front, _) = lexemes.split_at(lexemes.len().saturating_sub(rest.len()));
+    front
 }
 
 /// What stands before the first special of this octet, and what stands behind it.
 pub fn split_at_mark<'a, 'b>(
-    lexemes: &'b [Lexeme<'a>],
+    lexemes: Lexemes<'a, 'b>,
     mark: u8,
-) -> Option<(&'b [Lexeme<'a>], &'b [Lexeme<'a>])>
-    ensures found { IfSome result (λ x. SplitsAt mark (values_of lexemes.now) (values_of x.0.now) (values_of x.1.now)) }
-    ensures shorter { IfSome result (λ x. length x.1.now < length lexemes.now) }
-    ensures none { IfNone result (lacks_special mark (values_of lexemes.now) ≡ true) }
+) -> Option<(Lexemes<'a, 'b>, Lexemes<'a, 'b>)>
+    ensures found { IfSome result (λ x. SplitsAt mark (values_of lexemes.entry) (values_of x.0) (values_of x.1)) }
+    ensures shorter { IfSome result (λ x. length (values_of x.1) < length (values_of lexemes.entry)) }
+    ensures none { IfNone result (lacks_special mark (values_of lexemes.entry) ≡ true) }
 {
-    let Some(at) = find_mark(lexemes, mark) else {
-        return None;
-    };
-    Some((&lexemes[..at], &lexemes[at + 1..]))
-}
-
-fn all_other(lexemes: &[Lexeme<'_>], mark: u8) -> bool
-    ensures { result ≡ list_all (λ l. not (is_mark_of mark (value_of l))) lexemes.now }
-{
-    lexemes.iter().all(|lexeme| !is_mark(*lexeme, mark))
+    let mut rest = lexemes;
+    while let Some((lexeme, behind)) = rest.split_first() {
+        if is_mark(lexeme, mark) {
+            return Some((front_before(lexemes, rest), behind));
+        }
+        rest = behind;
+    }
+    None
 }
 
 /// Whether none of the tokens is the special of this octet.
-pub fn lacks_mark(lexemes: &[Lexeme<'_>], mark: u8) -> bool
-    ensures { result ≡ lacks_special mark (values_of lexemes.now) }
+pub fn lacks_mark(lexemes: Lexemes<'_, '_>, mark: u8) -> bool
+    ensures { result ≡ lacks_special mark (values_of lexemes.entry) }
 {
-    all_other(lexemes, mark)
+    match split_at_mark(lexemes, mark) {
+        Some(_) => false,
+        None => true,
+    }
 }
 
 /// The tokens of a text, by their places.
@@ -122,40 +116,16 @@ pub fn mail_tokens(alloc: Global, text: &[u8]) -> Result<Vec<Token>, AddressFaul
     }
 }
 
-/// Tokens by their octets.
-pub fn lexemes_of<'a>(
-    alloc: Global,
-    text: &'a [u8],
-    tokens: &[Token],
-) -> Result<Vec<Lexeme<'a>>, Memory>
-    requires { HasTokens Mail text.now tokens.now }
-    ensures { IfOk result (λ lexemes. HasMailTokens text.now (values_of lexemes.items)) }
-{
-    let mut lexemes = Vec::with_capacity(alloc, tokens.len())?;
-    let mut left = tokens;
-    let mut rest = text;
-    while let Some((token, more)) = left.split_first() {
-        let (octets, after) = rest.split_at(token.span.len);
-        lexemes.push(Lexeme {
-            kind: token.kind,
-            octets,
-        })?;
-        left = more;
-        rest = after;
-    }
-    Ok(lexemes)
-}
-
-/// The tokens of a text, by their octets.
-pub fn read_lexemes<'a>(alloc: Global, text: &'a [u8]) -> Result<Vec<Lexeme<'a>>, AddressFault>
-    ensures ok { IfOk result (λ lexemes. HasMailTokens text.now (values_of lexemes.items)) }
+/// The tokens of a text, by their marks.
+pub fn mail_marks(alloc: Global, text: &[u8]) -> Result<Vec<Mark>, AddressFault>
+    ensures ok { IfOk result (λ marks. HasMailTokens text.now (lexemes_in text.now marks.items)) }
     ensures malformed { result ≡ Err AddressFault.Malformed → (tokens : List TokenValue) → ¬ HasMailTokens text.now tokens }
 {
-    let found = mail_tokens(alloc, text)?;
-    let Ok(lexemes) = lexemes_of(alloc, text, &found) else {
-        return Err(AddressFault::Memory);
-    };
-    Ok(lexemes)
+    match read_marks(alloc, Style::Mail, text) {
+        Ok(Some(found)) => Ok(found),
+        Ok(None) => Err(AddressFault::Malformed),
+        Err(_) => Err(AddressFault::Memory),
+    }
 }
 
 // What stands between the first octet and the last one.
@@ -203,13 +173,15 @@ pub fn push_content(made: &mut Octets, lexeme: Lexeme<'_>) -> Result<(), Memory>
     }
 }
 
-/// No octets, and room for those of tokens and one more, as a comma behind them.
-pub fn room_for(alloc: Global, lexemes: &[Lexeme<'_>]) -> Result<Octets, Memory>
+// No octets, and room for those of tokens.
+fn room_for(alloc: Global, lexemes: Lexemes<'_, '_>) -> Result<Octets, Memory>
     ensures { IfOk result (λ made. made ≡ []) }
 {
-    let mut room = 1usize;
-    for lexeme in lexemes {
+    let mut room = 0usize;
+    let mut rest = lexemes;
+    while let Some((lexeme, behind)) = rest.split_first() {
         room = room.saturating_add(lexeme.octets.len());
+        rest = behind;
     }
     Ok(Octets::from_vec(Vec::with_capacity(alloc, room)?))
 }
@@ -224,12 +196,14 @@ pub fn content(alloc: Global, lexeme: Lexeme<'_>) -> Result<Octets, Memory>
 }
 
 /// What tokens say, one behind another.
-pub fn contents(alloc: Global, lexemes: &[Lexeme<'_>]) -> Result<Octets, Memory>
-    ensures { IfOk result (λ made. made ≡ contents_of (values_of lexemes.now)) }
+pub fn contents(alloc: Global, lexemes: Lexemes<'_, '_>) -> Result<Octets, Memory>
+    ensures { IfOk result (λ made. made ≡ contents_of (values_of lexemes.entry)) }
 {
     let mut made = room_for(alloc, lexemes)?;
-    for lexeme in lexemes {
-        push_content(&mut made, *lexeme)?;
+    let mut rest = lexemes;
+    while let Some((lexeme, behind)) = rest.split_first() {
+        push_content(&mut made, lexeme)?;
+        rest = behind;
     }
     Ok(made)
 }

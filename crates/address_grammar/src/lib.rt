@@ -12,14 +12,14 @@ mod places;
 use encoded_words::Unit;
 use field_tokens::Comment;
 pub use lexemes::{
-    Lexeme, are_blank, is_blank, is_mark, push_content, read_lexemes, room_for, split_at_mark,
+    are_blank, front_before, is_blank, is_mark, mail_marks, push_content, split_at_mark,
 };
-pub use lists::{read_element, read_list};
+pub use lists::{read_element, read_list, split_name};
 use mail_wire::{Items, Octets};
-pub use mailboxes::read_mailbox;
-pub use paths::{push_address, push_quoted_string, read_path, room_for_address, write_address};
-pub use phrases::{is_phrase, read_phrase};
-pub use places::find_comma;
+pub use mailboxes::{find_mailbox, read_mailbox};
+pub use paths::{push_address, push_quoted_string, read_path, write_address};
+pub use phrases::{PhraseReader, is_phrase, read_phrase};
+pub use places::split_place;
 
 /// What a phrase says.
 pub type Units = Items<Unit>;
@@ -42,6 +42,14 @@ pub struct Address {
 pub struct Mailbox {
     pub phrase: bool,
     pub display: Units,
+    pub angle: bool,
+    pub address: Address,
+}
+
+/// A mailbox without what its phrase says.
+#[derive(Drop)]
+pub struct FoundMailbox {
+    pub phrase: bool,
     pub angle: bool,
     pub address: Address,
 }

@@ -5,25 +5,25 @@ ghost use Rattle.field_tokens.specs.Tokens.{TokenValue, HasTokens, IsTokenOf};
 ghost use Rattle.field_tokens.specs.Trees.{Tree};
 ghost use Rattle.address_grammar.specs.AddressLists.{MailboxValue, ElementValue, IsMailbox, AreDivided, IsOneMailbox, AreMembers, IsElement, SaysPlace, HaveTrees, comment_tokens, HasAddresses};
 ghost use Rattle.address_grammar.specs.private.ListSteps.{AddsMailbox, AddsPlace, AddsTree, SplitsName, SaysGroup, SaysSingle, IsListOf};
-ghost use Rattle.address_grammar.specs.private.Views.{values_of};
+ghost use Rattle.field_tokens.specs.Lexemes.{values_of};
 ghost use Rattle.address_grammar.specs.private.ListViews.{mailbox_values, element_value, element_values, trees_of};
 
-use crate::lexemes::{Lexeme, are_blank, lacks_mark, lexemes_of, mail_tokens, split_at_mark};
+use crate::lexemes::{are_blank, lacks_mark, mail_marks, mail_tokens, split_at_mark};
 use crate::mailboxes::read_mailbox;
 use crate::phrases::{is_phrase, read_phrase};
-use crate::places::find_comma;
+use crate::places::split_place;
 use crate::{AddressFault, AddressList, Element, Elements, Mailbox, Mailboxes, Units};
-use field_tokens::{Comment, Token, TokenKind, comment_tree};
+use field_tokens::{Comment, Lexemes, Token, TokenKind, comment_tree};
 use mail_wire::Memory;
 use std::alloc::Global;
 
 fn push_mailbox(
     alloc: Global,
     made: &mut Vec<Mailbox>,
-    lexemes: &[Lexeme<'_>],
+    lexemes: Lexemes<'_, '_>,
 ) -> Result<(), AddressFault>
-    ensures ok { OnOk result (AddsMailbox (values_of lexemes.now) made.old.items made.new.items) }
-    ensures malformed { result ≡ Err AddressFault.Malformed → (ms : List MailboxValue) → ¬ IsOneMailbox (values_of lexemes.now) ms }
+    ensures ok { OnOk result (AddsMailbox (values_of lexemes.entry) made.old.items made.new.items) }
+    ensures malformed { result ≡ Err AddressFault.Malformed → (ms : List MailboxValue) → ¬ IsOneMailbox (values_of lexemes.entry) ms }
 {
     let mailbox = read_mailbox(alloc, lexemes)?;
     let Ok(()) = made.push(mailbox) else {
@@ -33,28 +33,24 @@ fn push_mailbox(
 }
 
 // Mailboxes divided by commas.
-fn read_mailboxes(alloc: Global, lexemes: &[Lexeme<'_>]) -> Result<Vec<Mailbox>, AddressFault>
-    ensures ok { IfOk result (λ made. AreDivided IsOneMailbox (values_of lexemes.now) (mailbox_values made.items)) }
-    ensures malformed { result ≡ Err AddressFault.Malformed → (ms : List MailboxValue) → ¬ AreDivided IsOneMailbox (values_of lexemes.now) ms }
+fn read_mailboxes(alloc: Global, lexemes: Lexemes<'_, '_>) -> Result<Vec<Mailbox>, AddressFault>
+    ensures ok { IfOk result (λ made. AreDivided IsOneMailbox (values_of lexemes.entry) (mailbox_values made.items)) }
+    ensures malformed { result ≡ Err AddressFault.Malformed → (ms : List MailboxValue) → ¬ AreDivided IsOneMailbox (values_of lexemes.entry) ms }
 {
     let mut made = Vec::new(alloc);
-    let mut start = 0;
-    loop {
-        let rest = &lexemes[start..];
-        let Some(at) = find_comma(rest) else {
-            push_mailbox(alloc, &mut made, rest)?;
-            return Ok(made);
-        };
-        let (part, _) = rest.split_at(at);
+    let mut rest = lexemes;
+    while let Some((part, behind)) = split_place(rest) {
         push_mailbox(alloc, &mut made, part)?;
-        start += at + 1;
+        rest = behind;
     }
+    push_mailbox(alloc, &mut made, rest)?;
+    Ok(made)
 }
 
 // The members of a group.
-fn read_members(alloc: Global, lexemes: &[Lexeme<'_>]) -> Result<Mailboxes, AddressFault>
-    ensures ok { IfOk result (λ made. AreMembers (values_of lexemes.now) (mailbox_values made)) }
-    ensures malformed { result ≡ Err AddressFault.Malformed → (ms : List MailboxValue) → ¬ AreMembers (values_of lexemes.now) ms }
+fn read_members(alloc: Global, lexemes: Lexemes<'_, '_>) -> Result<Mailboxes, AddressFault>
+    ensures ok { IfOk result (λ made. AreMembers (values_of lexemes.entry) (mailbox_values made)) }
+    ensures malformed { result ≡ Err AddressFault.Malformed → (ms : List MailboxValue) → ¬ AreMembers (values_of lexemes.entry) ms }
 {
     if are_blank(lexemes) {
         return Ok(Mailboxes::from_vec(Vec::new(alloc)));
@@ -63,11 +59,11 @@ fn read_members(alloc: Global, lexemes: &[Lexeme<'_>]) -> Result<Mailboxes, Addr
     Ok(Mailboxes::from_vec(members))
 }
 
-// What stands before the first colon, and what stands behind it, where no angle bracket opens before it: a group's name,
-// and its members.
-fn split_name<'a, 'b>(lexemes: &'b [Lexeme<'a>]) -> Option<(&'b [Lexeme<'a>], &'b [Lexeme<'a>])>
-    ensures found { IfSome result (λ x. SplitsName (values_of lexemes.now) (values_of x.0.now) (values_of x.1.now)) }
-    ensures none { IfNone result ((before behind : List TokenValue) → ¬ SplitsName (values_of lexemes.now) before behind) }
+/// What stands before the first colon, and what stands behind it, where no angle bracket opens before it: a group's name,
+/// and its members.
+pub fn split_name<'a, 'b>(lexemes: Lexemes<'a, 'b>) -> Option<(Lexemes<'a, 'b>, Lexemes<'a, 'b>)>
+    ensures found { IfSome result (λ x. SplitsName (values_of lexemes.entry) (values_of x.0) (values_of x.1)) }
+    ensures none { IfNone result ((before behind : List TokenValue) → ¬ SplitsName (values_of lexemes.entry) before behind) }
 {
     let Some((before, behind)) = split_at_mark(lexemes, b':') else {
         return None;
@@ -82,11 +78,11 @@ fn split_name<'a, 'b>(lexemes: &'b [Lexeme<'a>]) -> Option<(&'b [Lexeme<'a>], &'
 // The group of this name, of what stands behind its colon.
 fn read_group(
     alloc: Global,
-    name: &[Lexeme<'_>],
-    behind: &[Lexeme<'_>],
+    name: Lexemes<'_, '_>,
+    behind: Lexemes<'_, '_>,
 ) -> Result<Element, AddressFault>
-    ensures ok { IfOk result (λ e. SaysGroup (values_of name.now) (values_of behind.now) (element_value e)) }
-    ensures malformed { result ≡ Err AddressFault.Malformed → (e : ElementValue) → ¬ SaysGroup (values_of name.now) (values_of behind.now) e }
+    ensures ok { IfOk result (λ e. SaysGroup (values_of name.entry) (values_of behind.entry) (element_value e)) }
+    ensures malformed { result ≡ Err AddressFault.Malformed → (e : ElementValue) → ¬ SaysGroup (values_of name.entry) (values_of behind.entry) e }
 {
     let Some((inner, after)) = split_at_mark(behind, b';') else {
         return Err(AddressFault::Malformed);
@@ -107,17 +103,17 @@ fn read_group(
     })
 }
 
-fn read_single(alloc: Global, lexemes: &[Lexeme<'_>]) -> Result<Element, AddressFault>
-    ensures ok { IfOk result (λ e. SaysSingle (values_of lexemes.now) (element_value e)) }
-    ensures malformed { result ≡ Err AddressFault.Malformed → (m : MailboxValue) → ¬ IsMailbox (values_of lexemes.now) m }
+fn read_single(alloc: Global, lexemes: Lexemes<'_, '_>) -> Result<Element, AddressFault>
+    ensures ok { IfOk result (λ e. SaysSingle (values_of lexemes.entry) (element_value e)) }
+    ensures malformed { result ≡ Err AddressFault.Malformed → (m : MailboxValue) → ¬ IsMailbox (values_of lexemes.entry) m }
 {
     let mailbox = read_mailbox(alloc, lexemes)?;
     Ok(Element::Mailbox(mailbox))
 }
 
-pub fn read_element(alloc: Global, lexemes: &[Lexeme<'_>]) -> Result<Element, AddressFault>
-    ensures ok { IfOk result (λ e. IsElement (values_of lexemes.now) (element_value e)) }
-    ensures malformed { result ≡ Err AddressFault.Malformed → (e : ElementValue) → ¬ IsElement (values_of lexemes.now) e }
+pub fn read_element(alloc: Global, lexemes: Lexemes<'_, '_>) -> Result<Element, AddressFault>
+    ensures ok { IfOk result (λ e. IsElement (values_of lexemes.entry) (element_value e)) }
+    ensures malformed { result ≡ Err AddressFault.Malformed → (e : ElementValue) → ¬ IsElement (values_of lexemes.entry) e }
 {
     match split_name(lexemes) {
         Some((name, behind)) => read_group(alloc, name, behind),
@@ -129,10 +125,10 @@ pub fn read_element(alloc: Global, lexemes: &[Lexeme<'_>]) -> Result<Element, Ad
 fn push_place(
     alloc: Global,
     made: &mut Vec<Element>,
-    lexemes: &[Lexeme<'_>],
+    lexemes: Lexemes<'_, '_>,
 ) -> Result<(), AddressFault>
-    ensures ok { OnOk result (AddsPlace (values_of lexemes.now) made.old.items made.new.items) }
-    ensures malformed { result ≡ Err AddressFault.Malformed → (es : List ElementValue) → ¬ SaysPlace (values_of lexemes.now) es }
+    ensures ok { OnOk result (AddsPlace (values_of lexemes.entry) made.old.items made.new.items) }
+    ensures malformed { result ≡ Err AddressFault.Malformed → (es : List ElementValue) → ¬ SaysPlace (values_of lexemes.entry) es }
 {
     if are_blank(lexemes) {
         return Ok(());
@@ -145,22 +141,18 @@ fn push_place(
 }
 
 // Places divided by commas.
-fn read_elements(alloc: Global, lexemes: &[Lexeme<'_>]) -> Result<Vec<Element>, AddressFault>
-    ensures ok { IfOk result (λ made. AreDivided SaysPlace (values_of lexemes.now) (element_values made.items)) }
-    ensures malformed { result ≡ Err AddressFault.Malformed → (es : List ElementValue) → ¬ AreDivided SaysPlace (values_of lexemes.now) es }
+fn read_elements(alloc: Global, lexemes: Lexemes<'_, '_>) -> Result<Vec<Element>, AddressFault>
+    ensures ok { IfOk result (λ made. AreDivided SaysPlace (values_of lexemes.entry) (element_values made.items)) }
+    ensures malformed { result ≡ Err AddressFault.Malformed → (es : List ElementValue) → ¬ AreDivided SaysPlace (values_of lexemes.entry) es }
 {
     let mut made = Vec::new(alloc);
-    let mut start = 0;
-    loop {
-        let rest = &lexemes[start..];
-        let Some(at) = find_comma(rest) else {
-            push_place(alloc, &mut made, rest)?;
-            return Ok(made);
-        };
-        let (place, _) = rest.split_at(at);
+    let mut rest = lexemes;
+    while let Some((place, behind)) = split_place(rest) {
         push_place(alloc, &mut made, place)?;
-        start += at + 1;
+        rest = behind;
     }
+    push_place(alloc, &mut made, rest)?;
+    Ok(made)
 }
 
 fn push_comment(
@@ -206,10 +198,8 @@ pub fn read_list(alloc: Global, text: &[u8]) -> Result<AddressList, AddressFault
         → MatchResult result (IsListOf elements comments) (λ fault. fault ≡ AddressFault.Memory) }
 {
     let found = mail_tokens(alloc, text)?;
-    let Ok(lexemes) = lexemes_of(alloc, text, &found) else {
-        return Err(AddressFault::Memory);
-    };
-    let elements = read_elements(alloc, &lexemes)?;
+    let marks = mail_marks(alloc, text)?;
+    let elements = read_elements(alloc, Lexemes::new(text, &marks))?;
     let Ok(comments) = read_comments(alloc, text, &found) else {
         return Err(AddressFault::Memory);
     };

@@ -6,24 +6,22 @@ ghost use Rattle.field_tokens.specs.TokenOctets.{is_atom_octet as is_atom_octet_
 ghost use Rattle.field_tokens.specs.declared.Style.TheVariants.{Mail};
 ghost use Rattle.address_grammar.specs.private.Lexemes.{are_blank as are_blank_of};
 ghost use Rattle.address_grammar.specs.private.PlainPaths.{IsPlainPath};
-ghost use Rattle.address_grammar.specs.private.Views.{values_of};
+ghost use Rattle.field_tokens.specs.Lexemes.{values_of};
 ghost use Rattle.address_grammar.specs.Addresses.{is_some_atom as is_some_atom_of, is_dot_atom as is_dot_atom_of, quoted_octet, quoted_string, local_text, address_text};
 ghost use Rattle.address_grammar.specs.Paths.{IsFirstAngled, HasPath, ComesInPath, in_angles};
 ghost use Rattle.address_grammar.specs.declared.Address.{Address};
 
 use crate::addresses::read_address;
-use crate::lexemes::{Lexeme, are_blank, read_lexemes, split_at_mark};
+use crate::lexemes::{are_blank, mail_marks, split_at_mark};
 use crate::{Address, AddressFault};
-use field_tokens::{Style, is_atom_octet};
+use field_tokens::{Lexemes, Style, is_atom_octet};
 use mail_wire::{Memory, Octets, is_ascii, is_utf8};
 use std::alloc::Global;
 
 /// What stands before and within angle brackets, the first of each kind, behind which nothing but gaps and comments stands.
-pub fn split_angled<'a, 'b>(
-    lexemes: &'b [Lexeme<'a>],
-) -> Option<(&'b [Lexeme<'a>], &'b [Lexeme<'a>])>
-    ensures found { IfSome result (λ x. IsFirstAngled (values_of lexemes.now) (values_of x.0.now) (values_of x.1.now)) }
-    ensures none { IfNone result ((before inner : List TokenValue) → ¬ IsFirstAngled (values_of lexemes.now) before inner) }
+pub fn split_angled<'a, 'b>(lexemes: Lexemes<'a, 'b>) -> Option<(Lexemes<'a, 'b>, Lexemes<'a, 'b>)>
+    ensures found { IfSome result (λ x. IsFirstAngled (values_of lexemes.entry) (values_of x.0) (values_of x.1)) }
+    ensures none { IfNone result ((before inner : List TokenValue) → ¬ IsFirstAngled (values_of lexemes.entry) before inner) }
 {
     let Some((before, behind)) = split_at_mark(lexemes, b'<') else {
         return None;
@@ -44,8 +42,8 @@ fn read_any_path(alloc: Global, text: &[u8]) -> Result<Option<Address>, AddressF
     ensures exact { (answer : Option Address) → HasPath text.now answer
         → MatchResult result (λ found. found ≡ answer) (λ fault. fault ≡ AddressFault.Memory) }
 {
-    let lexemes = read_lexemes(alloc, text)?;
-    let Some((before, inner)) = split_angled(&lexemes) else {
+    let marks = mail_marks(alloc, text)?;
+    let Some((before, inner)) = split_angled(Lexemes::new(text, &marks)) else {
         return Err(AddressFault::Malformed);
     };
     if !are_blank(before) {
@@ -188,14 +186,6 @@ pub fn push_address(made: &mut Octets, address: &Address) -> Result<(), Memory>
     made.push_slice(address.domain.as_slice())
 }
 
-/// No octets, and room for the text of an address in angle brackets and one more, as a comma behind it.
-pub fn room_for_address(alloc: Global, address: &Address) -> Result<Octets, Memory>
-    ensures { IfOk result (λ made. made ≡ []) }
-{
-    let room = address.local.len().saturating_add(address.domain.len());
-    Ok(Octets::from_vec(Vec::with_capacity(alloc, room.saturating_add(4))?))
-}
-
 /// The text of an address: its local part, in quotes where it isn't atoms divided by dots, `@` and its domain.
 pub fn write_address(alloc: Global, address: &Address) -> Result<Octets, Memory>
     requires { ComesInPath address.now }
@@ -203,7 +193,8 @@ pub fn write_address(alloc: Global, address: &Address) -> Result<Octets, Memory>
     // In angle brackets it is read back.
     ensures read_back { IfOk result (λ made. HasPath (in_angles made) (Some address.now)) }
 {
-    let mut made = room_for_address(alloc, address)?;
+    let room = address.local.len().saturating_add(address.domain.len());
+    let mut made = Octets::from_vec(Vec::with_capacity(alloc, room.saturating_add(1))?);
     push_address(&mut made, address)?;
     Ok(made)
 }

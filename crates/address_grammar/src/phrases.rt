@@ -5,12 +5,13 @@ ghost use Rattle.encoded_words.specs.private.Merging.{all_units_then};
 ghost use Rattle.encoded_words.specs.PhraseUnits.{HasPhraseUnits, begins_free as begins_free_of};
 ghost use Rattle.address_grammar.specs.private.Lexemes.{is_atom as is_atom_of, content as content_of};
 ghost use Rattle.address_grammar.specs.Phrases.{may_stand_in_phrase as may_stand_of, IsPhrase, phrase_items};
-ghost use Rattle.address_grammar.specs.private.PhraseSteps.{TakesPart, IsFreshReader, TakesToken};
-ghost use Rattle.address_grammar.specs.private.Views.{value_of, values_of};
+ghost use Rattle.address_grammar.specs.private.PhraseSteps.{TakesPart, IsFreshReader, TakesToken, ReadsToken};
+ghost use Rattle.field_tokens.specs.Lexemes.{value_of, values_of};
 ghost use Rattle.address_grammar.specs.private.ListViews.{unit_values};
 
-use crate::lexemes::{Lexeme, are_blank, content, is_atom, is_blank, is_mark, is_word};
+use crate::lexemes::{are_blank, content, is_atom, is_blank, is_mark, is_word};
 use encoded_words::{Merging, Unit};
+use field_tokens::{Lexeme, Lexemes};
 use mail_wire::Memory;
 use std::alloc::Global;
 
@@ -21,14 +22,21 @@ fn may_stand_in_phrase(lexeme: Lexeme<'_>) -> bool
     is_blank(lexeme) || is_word(lexeme) || is_mark(lexeme, b'.')
 }
 
-fn all_stand_in_phrase(lexemes: &[Lexeme<'_>]) -> bool
-    ensures { result ≡ list_all (λ l. may_stand_of (value_of l)) lexemes.now }
+fn all_stand_in_phrase(lexemes: Lexemes<'_, '_>) -> bool
+    ensures { result ≡ list_all may_stand_of (values_of lexemes.entry) }
 {
-    lexemes.iter().all(|lexeme| may_stand_in_phrase(*lexeme))
+    let mut rest = lexemes;
+    while let Some((lexeme, behind)) = rest.split_first() {
+        if !may_stand_in_phrase(lexeme) {
+            return false;
+        }
+        rest = behind;
+    }
+    true
 }
 
-pub fn is_phrase(lexemes: &[Lexeme<'_>]) -> bool
-    ensures { IsTrue result ↔ IsPhrase (values_of lexemes.now) }
+pub fn is_phrase(lexemes: Lexemes<'_, '_>) -> bool
+    ensures { IsTrue result ↔ IsPhrase (values_of lexemes.entry) }
 {
     !are_blank(lexemes) && all_stand_in_phrase(lexemes)
 }
@@ -91,10 +99,10 @@ fn push_said(
     )
 }
 
-// The reader of the units of a phrase: whether a separator stands behind the last word, or nothing was read, and whether
-// that word was an encoded word.
+/// The reader of the units of a phrase: whether a separator stands behind the last word, or nothing was read, and whether
+/// that word was an encoded word.
 #[derive(Drop)]
-struct PhraseReader {
+pub struct PhraseReader {
     units: Merging,
     is_first: bool,
     is_free: bool,
@@ -102,7 +110,7 @@ struct PhraseReader {
 }
 
 impl PhraseReader {
-    fn new(alloc: Global) -> Self
+    pub fn new(alloc: Global) -> Self
         ensures { IsFreshReader result }
     {
         PhraseReader {
@@ -151,8 +159,22 @@ impl PhraseReader {
         Ok(())
     }
 
-    // The units that were read.
-    fn finish(self, alloc: Global) -> Result<Vec<Unit>, Memory>
+    /// Takes the next token, behind which these stand, and gives the units that are done by it.
+    pub fn read(
+        &mut self,
+        alloc: Global,
+        lexeme: Lexeme<'_>,
+        behind: Lexemes<'_, '_>,
+    ) -> Result<Vec<Unit>, Memory>
+        requires { may_stand_of (value_of lexeme) ≡ true }
+        ensures { IfOk result (λ said. ReadsToken self.old self.new (value_of lexeme.entry) (values_of behind.entry) (unit_values said.items)) }
+    {
+        self.take(alloc, lexeme, begins_free(behind))?;
+        Ok(self.units.take_done(alloc))
+    }
+
+    /// The units that are left.
+    pub fn finish(self, alloc: Global) -> Result<Vec<Unit>, Memory>
         ensures { IfOk result (λ made. unit_values made.items ≡ all_units_then self.units []) }
     {
         let mut units = self.units;
@@ -162,23 +184,25 @@ impl PhraseReader {
 }
 
 // Whether the tokens begin with a gap or a comment, or there are none.
-fn begins_free(lexemes: &[Lexeme<'_>]) -> bool
-    ensures { result ≡ begins_free_of (phrase_items (values_of lexemes.now)) }
+fn begins_free(lexemes: Lexemes<'_, '_>) -> bool
+    ensures { result ≡ begins_free_of (phrase_items (values_of lexemes.entry)) }
 {
-    match lexemes {
-        [lexeme, ..] => is_blank(*lexeme),
-        [] => true,
+    match lexemes.split_first() {
+        Some((lexeme, _)) => is_blank(lexeme),
+        None => true,
     }
 }
 
 /// What a phrase says.
-pub fn read_phrase(alloc: Global, lexemes: &[Lexeme<'_>]) -> Result<Vec<Unit>, Memory>
-    requires { IsPhrase (values_of lexemes.now) }
-    ensures { IfOk result (λ units. HasPhraseUnits (phrase_items (values_of lexemes.now)) (unit_values units.items)) }
+pub fn read_phrase(alloc: Global, lexemes: Lexemes<'_, '_>) -> Result<Vec<Unit>, Memory>
+    requires { IsPhrase (values_of lexemes) }
+    ensures { IfOk result (λ units. HasPhraseUnits (phrase_items (values_of lexemes.entry)) (unit_values units.items)) }
 {
     let mut reader = PhraseReader::new(alloc);
-    for (at, lexeme) in lexemes.iter().enumerate() {
-        reader.take(alloc, *lexeme, begins_free(&lexemes[at + 1..]))?;
+    let mut rest = lexemes;
+    while let Some((lexeme, behind)) = rest.split_first() {
+        reader.take(alloc, lexeme, begins_free(behind))?;
+        rest = behind;
     }
     reader.finish(alloc)
 }

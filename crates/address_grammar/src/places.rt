@@ -1,9 +1,10 @@
 //! Where the places of a list end.
-ghost use Rattle.std.specs.Prelude.{◌≡◌, IfSome, IfNone};
-ghost use Rattle.address_grammar.specs.private.Walks.{awaited_behind as awaited_behind_of, IsLastPlace, EndsAt};
-ghost use Rattle.address_grammar.specs.private.Views.{value_of, values_of};
+ghost use Rattle.std.specs.Prelude.{◌≡◌, ◌<◌, length, IfSome, IfNone};
+ghost use Rattle.field_tokens.specs.Lexemes.{value_of, values_of};
+ghost use Rattle.address_grammar.specs.private.Walks.{awaited_behind as awaited_behind_of, SplitsPlace, IsLastPlace};
 
-use crate::lexemes::{Lexeme, is_mark};
+use crate::lexemes::{front_before, is_mark};
+use field_tokens::{Lexeme, Lexemes};
 
 // What is awaited behind a token: where nothing is, `>` behind `<` and `;` behind `:`. A comma that ends the place gives
 // nothing.
@@ -32,17 +33,20 @@ fn awaited_behind(awaited: Option<u8>, lexeme: Lexeme<'_>) -> Option<Option<u8>>
     }
 }
 
-/// Where the comma stands that ends the first place of a list.
-pub fn find_comma(lexemes: &[Lexeme<'_>]) -> Option<usize>
-    ensures found { IfSome result (EndsAt lexemes.now) }
-    ensures none { IfNone result (IsLastPlace (values_of lexemes.now)) }
+/// The first place of a list, and what stands behind the comma that ends it.
+pub fn split_place<'a, 'b>(lexemes: Lexemes<'a, 'b>) -> Option<(Lexemes<'a, 'b>, Lexemes<'a, 'b>)>
+    ensures found { IfSome result (λ x. SplitsPlace (values_of lexemes.entry) (values_of x.0) (values_of x.1)) }
+    ensures shorter { IfSome result (λ x. length (values_of x.1) < length (values_of lexemes.entry)) }
+    ensures none { IfNone result (IsLastPlace (values_of lexemes.entry)) }
 {
     let mut awaited = None;
-    for (at, lexeme) in lexemes.iter().enumerate() {
-        let Some(next) = awaited_behind(awaited, *lexeme) else {
-            return Some(at);
+    let mut rest = lexemes;
+    while let Some((lexeme, behind)) = rest.split_first() {
+        let Some(next) = awaited_behind(awaited, lexeme) else {
+            return Some((front_before(lexemes, rest), behind));
         };
         awaited = next;
+        rest = behind;
     }
     None
 }

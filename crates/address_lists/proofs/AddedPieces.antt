@@ -1,38 +1,48 @@
 -- Pieces that are put last, and a comma behind the last one.
-use Rattle.std.proofs.Common.{◌≡◌, ◌≢◌, ℕ, ◌+◌, ◌<◌, List, [], ◌∷◌, ◌++◌, length, map, get_or, take, drop, Option, Some, None, refl, sym, ap, ◌∙◌, subst}
+use Rattle.std.proofs.Common.{◌≡◌, ◌≢◌, ℕ, ◌+◌, ◌<◌, List, [], ◌∷◌, ◌++◌, length, map, get_or, take, drop, refl, sym, ap, ◌∙◌, subst}
 use Rattle.std.proofs.lemmas.List.{append_assoc, append-nil, map-append, take-append-drop, drop_more, take_more}
 use Rattle.std.specs.List.{AllByRecursion}
-use Rattle.std.specs.Option.{option_to_list}
+use Rattle.mail_wire.specs.Lines.{crlf}
 use Rattle.mail_wire.proofs.AllLemmas.{all-back}
-use Rattle.encoded_words.specs.Words.{UnitValue}
-use Rattle.encoded_words.specs.Written.{AddsUnits}
+use Rattle.encoded_words.specs.Folding.{lines_of, AddsLines}
+use Rattle.encoded_words.proofs.LineLemmas.{adds_both}
 use Rattle.field_tokens.specs.Tokens.{TokenValue}
 use Rattle.field_tokens.specs.Squeezed.{comments_of}
-use Rattle.field_tokens.specs.Comments.{CommentsPieces, AddsPieces}
+use Rattle.field_tokens.specs.Comments.{CommentsPieces}
 use Rattle.address_lists.specs.ListPieces.{no_members, with_comma}
-use Rattle.address_lists.specs.private.ListWriting.{EmptiedPieces}
+use Rattle.address_lists.specs.private.Emptied.{NoMembersPieces}
 
-pub weaker_pieces : (P Q : List (List ℕ) → Type 0) (old new : List (List ℕ)) → ((p : List (List ℕ)) → P p → Q p) → AddsPieces P old new → AddsPieces Q old new
-weaker_pieces P Q old new f a = record { pieces = a.pieces; holds = f a.pieces a.holds; added = a.added }
+-- one piece
+abbrev pub IsPiece : List ℕ → List (List ℕ) → Type 0
+IsPiece piece pieces = pieces ≡ piece ∷ []
+
+pub adds_piece : (piece old new : List ℕ) → new ≡ old ++ lines_of (piece ∷ []) → AddsLines (IsPiece piece) old new
+adds_piece piece old new e = record { pieces = piece ∷ []; holds = refl; added = e }
+
+-- a line that goes on
+line_onward : (front more : List ℕ) → lines_of (front ∷ []) ++ more ≡ lines_of ((front ++ more) ∷ [])
+line_onward front more = ap (λ r. r ++ more) (append-nil (crlf ++ 32 ∷ front)) ∙ append_assoc crlf (32 ∷ front) more ∙ sym (append-nil (crlf ++ 32 ∷ (front ++ more)))
+
+pub line_grows : (front more old mid new : List ℕ) → mid ≡ old ++ lines_of (front ∷ []) → new ≡ mid ++ more → new ≡ old ++ lines_of ((front ++ more) ∷ [])
+line_grows front more old mid new e f = f ∙ ap (λ r. r ++ more) e ∙ append_assoc old (lines_of (front ∷ [])) more ∙ ap (λ r. old ++ r) (line_onward front more)
 
 -- a comma behind the last piece
-comma_last : (xs : List (List ℕ)) (x : List ℕ) → with_comma (xs ++ x ∷ []) ≡ xs ++ (x ++ 44 ∷ []) ∷ []
-comma_last [] x = refl
-comma_last (y ∷ []) x = refl
-comma_last (y ∷ z ∷ xs) x = ap (λ r. y ∷ r) (comma_last (z ∷ xs) x)
+comma_behind : (ps : List (List ℕ)) → ps ≢ [] → lines_of ps ++ 44 ∷ [] ≡ lines_of (with_comma ps)
+comma_behind [] some = absurd (some refl)
+comma_behind (p ∷ []) some = line_onward p (44 ∷ [])
+comma_behind (p ∷ q ∷ ps) some = append_assoc (crlf ++ 32 ∷ p) (lines_of (q ∷ ps)) (44 ∷ []) ∙ ap (λ r. (crlf ++ 32 ∷ p) ++ r) (comma_behind (q ∷ ps) (λ e. cc e))
 
-pub comma_popped : (all rest : List (List ℕ)) (o : Option (List ℕ)) (last : List ℕ) → all ≡ rest ++ option_to_list o → o ≡ Some last → rest ++ (last ++ 44 ∷ []) ∷ [] ≡ with_comma all
-comma_popped all rest o last e is = sym (ap with_comma (e ∙ ap (λ r. rest ++ option_to_list r) is) ∙ comma_last rest last)
+pub adds_comma : {P Q : List (List ℕ) → Type 0} → {old mid new : List ℕ} → ((ps : List (List ℕ)) → P ps → ps ≢ []) → ((ps : List (List ℕ)) → P ps → Q (with_comma ps)) → AddsLines P old mid → new ≡ mid ++ 44 ∷ [] → AddsLines Q old new
+adds_comma {old = old} some turn a e = record {
+  pieces = with_comma a.pieces;
+  holds = turn a.pieces a.holds;
+  added =
+      e ∙ ap (λ r. r ++ 44 ∷ []) a.added ∙ append_assoc old (lines_of a.pieces) (44 ∷ []) ∙ ap (λ r. old ++ r) (comma_behind a.pieces (some a.pieces a.holds));
+}
 
-pub comma_none : (all rest : List (List ℕ)) (o : Option (List ℕ)) → all ≡ rest ++ option_to_list o → o ≡ None → 0 ≡ length all → rest ≡ with_comma all
-comma_none [] rest o e is none = sym (e ∙ ap (λ r. rest ++ option_to_list r) is ∙ append-nil rest)
-comma_none (x ∷ all) rest o e is none = cc none
-
-pub comma_behind : (old ps : List (List ℕ)) → ps ≢ [] → with_comma (old ++ ps) ≡ old ++ with_comma ps
-comma_behind [] ps some = refl
-comma_behind (o ∷ []) [] some = absurd (some refl)
-comma_behind (o ∷ []) (p ∷ ps) some = refl
-comma_behind (o ∷ n ∷ old) ps some = ap (λ r. o ∷ r) (comma_behind (n ∷ old) ps some)
+-- what was put behind the old octets
+pub more_added : {P : List (List ℕ) → Type 0} → {old mid new : List ℕ} → AddsLines P old mid → new ≡ mid → (more : List ℕ) × (new ≡ old ++ more)
+more_added a e = (lines_of a.pieces, e ∙ a.added)
 
 pub some_behind : (a b : List (List ℕ)) (x : List ℕ) → a ++ x ∷ b ≢ []
 some_behind [] b x = λ e. cc e
@@ -53,11 +63,5 @@ items_more f xs i x e h = ap (map f) (take_more xs i x h) ∙ map-append f (take
 
 -- ---- what stands in place of addresses that can't be served
 
-pub emptied_adds : (units : List UnitValue) (ts : List TokenValue) (old a b new : List (List ℕ)) → AddsUnits units old a → b ≡ a ++ no_members ∷ [] → AddsPieces (CommentsPieces (comments_of ts)) b new
-    → AddsPieces (EmptiedPieces units ts) old new
-emptied_adds units ts old a b new u e c = record {
-  pieces = u.pieces ++ no_members ∷ c.pieces;
-  holds = record { words = u.pieces; comments = c.pieces; write = u.write; comments_are = c.holds; pieces_are = refl };
-  added =
-      c.added ∙ ap (λ r. r ++ c.pieces) (e ∙ ap (λ r. r ++ no_members ∷ []) u.added) ∙ append_assoc (old ++ u.pieces) (no_members ∷ []) c.pieces ∙ append_assoc old u.pieces (no_members ∷ c.pieces);
-}
+pub no_members_adds : (ts : List TokenValue) (old mid new : List ℕ) → mid ≡ old ++ lines_of (no_members ∷ []) → AddsLines (CommentsPieces (comments_of ts)) mid new → AddsLines (NoMembersPieces ts) old new
+no_members_adds ts old mid new e c = adds_both (λ xs comments is are. (comments, are, ap (λ r. r ++ comments) is)) (adds_piece no_members old mid e) c

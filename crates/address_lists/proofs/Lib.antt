@@ -1,4 +1,5 @@
 pub mod PhraseWriting
+pub mod UnitStream
 pub mod SoundPhrases
 pub mod WrittenPhrases
 pub mod PlaceTokens
@@ -10,6 +11,7 @@ pub mod PhraseListsAgain
 pub mod AddedPieces
 pub mod TextLemmas
 pub mod UnitsOnto
+pub mod ServedLists
 pub mod WritableTokens
 pub mod ServedMailboxes
 pub mod KeptGroups

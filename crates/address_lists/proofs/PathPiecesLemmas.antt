@@ -2,10 +2,12 @@
 use Rattle.std.proofs.Common.{◌≡◌, ℕ, true, false, ◌⊎◌, inl, inr, List, [], ◌∷◌, ◌++◌, Option, Some, None, IfNone, refl, sym, ap, ◌∙◌}
 use Rattle.std.proofs.lemmas.Bool.{both_ways, cases_Bool}
 use Rattle.std.specs.Str.{IsUtf8}
+use Rattle.encoded_words.specs.Folding.{lines_of, AddsLines}
+use Rattle.encoded_words.proofs.LineLemmas.{adds_both}
 use Rattle.field_tokens.specs.declared.Style.TheVariants.{Mail}
 use Rattle.field_tokens.specs.Tokens.{TokenValue}
 use Rattle.field_tokens.specs.Squeezed.{comments_of}
-use Rattle.field_tokens.specs.Comments.{CommentValue, CommentsPieces, AddsPieces}
+use Rattle.field_tokens.specs.Comments.{CommentValue, CommentsPieces}
 use Rattle.field_tokens.proofs.CommentValues.{CommentsSay-once, CommentsSay-some, CommentsPieces-once, CommentsPieces-some}
 use Rattle.field_tokens.proofs.DecideTokens.{decide_tokens}
 use Rattle.address_grammar.specs.declared.Address.{Address}
@@ -16,6 +18,7 @@ use Rattle.address_grammar.specs.AddressLists.{MailboxValue}
 use Rattle.address_lists.specs.ListPieces.{served_address}
 use Rattle.address_lists.specs.PathPieces.{SaysPath, PathPieces, ServesPath}
 use Rattle.address_grammar.proofs.PathLemmas.{HasTokenValues-once, HasPath-once, IsPath-once, angled_made, angles_once, no_open, no_close, something_behind, path_angles, path_of_tokens, KnownPath, no_address_path}
+use Rattle.address_lists.proofs.AddedPieces.{adds_piece}
 use Rattle.address_lists.proofs.SoundPhrases.{text_comments}
 use Rattle.address_lists.proofs.WritableTokens.{text_can, front_can, behind_can, address_parts, mailbox_writable}
 use Rattle.address_lists.proofs.DecideAddresses.{Found, splits_or_lacks, decide_address}
@@ -157,19 +160,20 @@ null_not_served text path served serves =
     let both : None ≡ Some serves.address = HasPath-once text None (Some serves.address) path serves.has_path in
     cc both
 
-pub PathPieces-made : (text : List ℕ) (ts : List TokenValue) (served : Address) (old mid new : List (List ℕ)) → ServesPath text served → HasMailTokens text ts → old ≡ []
-    → mid ≡ old ++ in_angles (address_text served) ∷ [] → AddsPieces (CommentsPieces (comments_of ts)) mid new → PathPieces text new
-PathPieces-made text ts served old mid new serves has none e adds = record {
-  tokens = ts;
-  has = has;
-  address = serves.address;
-  served = served;
-  is_path = path_of_tokens text ts (Some serves.address) has serves.has_path;
-  is_served = serves.is_served;
-  comments = adds.pieces;
-  comments_are = adds.holds;
-  pieces_are = adds.added ∙ ap (λ ps. ps ++ adds.pieces) (e ∙ ap (λ ps. ps ++ in_angles (address_text served) ∷ []) none);
-}
+pub path_adds : (text : List ℕ) (ts : List TokenValue) (served : Address) (old mid new : List ℕ) → ServesPath text served → HasMailTokens text ts → mid ≡ old ++ lines_of (in_angles (address_text served) ∷ [])
+    → AddsLines (CommentsPieces (comments_of ts)) mid new → AddsLines (PathPieces text) old new
+path_adds text ts served old mid new serves has e adds = adds_both
+    (λ xs comments is are. record {
+      tokens = ts;
+      has = has;
+      address = serves.address;
+      served = served;
+      is_path = path_of_tokens text ts (Some serves.address) has serves.has_path;
+      is_served = serves.is_served;
+      comments = comments;
+      comments_are = are;
+      pieces_are = ap (λ ps. ps ++ comments) is;
+    }) (adds_piece (in_angles (address_text served)) old mid e) adds
 
 pub not_served_no_pieces : (text : List ℕ) → ((served : Address) → ServesPath text served → ⊥) → (pieces : List (List ℕ)) → PathPieces text pieces → ⊥
 not_served_no_pieces text none pieces p = none p.served (record { address = p.address; has_path = record { tokens = p.tokens; has_tokens = p.has; is_path = p.is_path }; is_served = p.is_served })

@@ -3,9 +3,11 @@ use Rattle.std.proofs.Common.{◌≡◌, ℕ, List, [], ◌∷◌, ◌++◌, Som
 use Rattle.std.proofs.lemmas.List.{append_assoc, append-nil, flat_map_more}
 use Rattle.std.specs.List.{AllByRecursion, flat_map}
 use Rattle.mail_wire.proofs.AllLemmas.{all-front, all-back}
+use Rattle.encoded_words.specs.Folding.{lines_of, AddsLines}
 use Rattle.encoded_words.specs.Words.{UnitValue}
 use Rattle.encoded_words.specs.PhraseUnits.{IsUtf8Item}
 use Rattle.encoded_words.proofs.AllUnits.{HasPhraseUnits-some}
+use Rattle.encoded_words.proofs.LineLemmas.{adds_both}
 use Rattle.encoded_words.proofs.PhraseLemmas.{HasPhraseUnits-once}
 use Rattle.field_tokens.specs.Tokens.{TokenValue}
 use Rattle.field_tokens.specs.Squeezed.{comments_of}
@@ -15,13 +17,14 @@ use Rattle.field_tokens.proofs.Parts.{comments_of-append}
 use Rattle.address_grammar.specs.private.Lexemes.{HasMailTokens}
 use Rattle.address_grammar.specs.Phrases.{IsPhrase, phrase_items}
 use Rattle.address_lists.specs.PhraseLists.{IsOnePhrase, SaysPhrases, GivesOnePhrase, with_commas, PhrasesPieces}
-use Rattle.address_lists.specs.private.PhraseListSteps.{AddsPhrase, GivesPhrases}
+use Rattle.address_lists.specs.private.PhraseListSteps.{GivesPhrase, GivesPhrases}
 use Rattle.address_grammar.specs.AddressLists.{AreDivided}
 use Rattle.address_grammar.specs.private.Walks.{walk, SplitsPlace, IsLastPlace}
 use Rattle.address_grammar.proofs.PathLemmas.{HasTokenValues-once}
 use Rattle.address_grammar.proofs.MailboxLemmas.{phrase_lacks}
 use Rattle.address_grammar.proofs.DividedLemmas.{Walked, SaysOnce, ReadsParts, parts_start, parts_turn, parts_end, parts_stuck, parts_stuck_last, divided_once}
 use Rattle.address_grammar.proofs.ListLemmas.{walk_plain}
+use Rattle.address_lists.proofs.AddedPieces.{adds_piece}
 use Rattle.address_lists.proofs.WrittenPhrases.{PlacePieces-once}
 use Rattle.address_lists.proofs.PhraseWriting.{phrase_items-append, writable_front, writable_rest}
 
@@ -91,13 +94,13 @@ pub record WritesPhrases (ts : List TokenValue) (pieces : List (List ℕ)) (rest
   pub pieces_are : pieces ≡ commas_behind places
   pub can : CanWrite rest
 
-pub phrases_start : (ts : List TokenValue) (pieces : List (List ℕ)) → pieces ≡ [] → CanWrite ts → WritesPhrases ts pieces ts
-phrases_start ts pieces none can = record {
+pub phrases_start : (ts : List TokenValue) → CanWrite ts → WritesPhrases ts [] ts
+phrases_start ts can = record {
   places = [];
   phrases = [];
   gives = parts_start GivesOnePhrase ts [] refl;
   says = parts_start IsOnePhrase ts [] refl;
-  pieces_are = none;
+  pieces_are = refl;
   can = can;
 }
 
@@ -107,30 +110,32 @@ place_can ts rest place after pieces w s = can_front place (s.comma ∷ after) (
 after_can : (ts rest place after : List TokenValue) (pieces : List (List ℕ)) → WritesPhrases ts pieces rest → SplitsPlace rest place after → CanWrite after
 after_can ts rest place after pieces w s = can_rest (s.comma ∷ []) after (can_rest place (s.comma ∷ after) (subst CanWrite s.whole w.can))
 
-pub phrases_turn : (ts rest place after : List TokenValue) (old mid new : List (List ℕ)) → WritesPhrases ts old rest → SplitsPlace rest place after → AddsPhrase place old mid → new ≡ mid ++ (44 ∷ []) ∷ []
-    → WritesPhrases ts new after
-phrases_turn ts rest place after old mid new w s a comma =
-    let first : List (List ℕ) = a.adds.pieces in
+pub phrases_turn : (ts rest place after : List TokenValue) (xs ys : List (List ℕ)) → SplitsPlace rest place after → WritesPhrases ts xs rest → GivesPhrase place ys → WritesPhrases ts (xs ++ (ys ++ (44 ∷ []) ∷ [])) after
+phrases_turn ts rest place after xs ys s w g =
     let units = HasPhraseUnits-some (phrase_items place) in
     record {
-      places = w.places ++ first ∷ [];
+      places = w.places ++ ys ∷ [];
       phrases = w.phrases ++ units.0 ∷ [];
-      gives = parts_turn GivesOnePhrase gives_phrase_walked ts rest place after w.places (first ∷ []) (w.places ++ first ∷ []) w.gives s (a.is_phrase, a.adds.holds) refl;
-      says = parts_turn IsOnePhrase says_phrase_walked ts rest place after w.phrases (units.0 ∷ []) (w.phrases ++ units.0 ∷ []) w.says s (a.is_phrase, units.1) refl;
-      pieces_are =
-          comma ∙ ap (λ r. r ++ (44 ∷ []) ∷ []) (a.adds.added ∙ ap (λ r. r ++ first) w.pieces_are) ∙ append_assoc (commas_behind w.places) first ((44 ∷ []) ∷ [])
-          ∙ flat_map_more (λ pieces. pieces ++ (44 ∷ []) ∷ []) [] w.places first;
-      can = after_can ts rest place after old w s;
+      gives = parts_turn GivesOnePhrase gives_phrase_walked ts rest place after w.places (ys ∷ []) (w.places ++ ys ∷ []) w.gives s (g.is_phrase, g.gives) refl;
+      says = parts_turn IsOnePhrase says_phrase_walked ts rest place after w.phrases (units.0 ∷ []) (w.phrases ++ units.0 ∷ []) w.says s (g.is_phrase, units.1) refl;
+      pieces_are = ap (λ r. r ++ (ys ++ (44 ∷ []) ∷ [])) w.pieces_are ∙ flat_map_more (λ pieces. pieces ++ (44 ∷ []) ∷ []) [] w.places ys;
+      can = after_can ts rest place after xs w s;
     }
 
-pub phrases_end : (ts rest : List TokenValue) (old new : List (List ℕ)) → WritesPhrases ts old rest → AddsPhrase rest old new → GivesPhrases ts new
-phrases_end ts rest old new w a =
-    let last : List (List ℕ) = a.adds.pieces in
-    record {
-      places = w.places ++ last ∷ [];
-      divided = parts_end GivesOnePhrase ts rest w.places (last ∷ []) (w.places ++ last ∷ []) w.gives (a.is_phrase, a.adds.holds) refl;
-      pieces_are = a.adds.added ∙ ap (λ r. r ++ last) w.pieces_are ∙ sym (with_commas-last w.places last);
-    }
+pub phrases_adds : (ts rest place after : List TokenValue) (old mid put new : List ℕ) → SplitsPlace rest place after → AddsLines (λ xs. WritesPhrases ts xs rest) old mid → AddsLines (GivesPhrase place) mid put
+    → new ≡ put ++ lines_of ((44 ∷ []) ∷ []) → AddsLines (λ xs. WritesPhrases ts xs after) old new
+phrases_adds ts rest place after old mid put new s w a comma = adds_both {Q = Followed} (λ xs ys p q. subst (λ r. WritesPhrases ts (xs ++ r) after) (sym q.2) (phrases_turn ts rest place after xs q.0 s p q.1)) w
+    (adds_both {R = Followed} (λ xs ys p q. (xs, p, ap (λ r. xs ++ r) q)) a (adds_piece (44 ∷ []) put new comma))
+  where
+    Followed : List (List ℕ) → Type 0
+    Followed xs = (first : List (List ℕ)) × GivesPhrase place first × (xs ≡ first ++ (44 ∷ []) ∷ [])
+
+pub phrases_end : (ts rest : List TokenValue) (xs ys : List (List ℕ)) → WritesPhrases ts xs rest → GivesPhrase rest ys → GivesPhrases ts (xs ++ ys)
+phrases_end ts rest xs ys w g = record {
+  places = w.places ++ ys ∷ [];
+  divided = parts_end GivesOnePhrase ts rest w.places (ys ∷ []) (w.places ++ ys ∷ []) w.gives (g.is_phrase, g.gives) refl;
+  pieces_are = ap (λ r. r ++ ys) w.pieces_are ∙ sym (with_commas-last w.places ys);
+}
 
 pub phrases_stuck : (ts rest place after : List TokenValue) (pieces : List (List ℕ)) → WritesPhrases ts pieces rest → SplitsPlace rest place after → (IsPhrase place → ⊥)
     → (phrases : List (List UnitValue)) → AreDivided IsOnePhrase ts phrases → ⊥
@@ -141,6 +146,9 @@ pub phrases_stuck_last : (ts rest : List TokenValue) (pieces : List (List ℕ)) 
 phrases_stuck_last ts rest pieces w last none = parts_stuck_last IsOnePhrase says_phrase_walked ts rest w.phrases w.says last (no_phrase rest none)
 
 -- ---- whole texts
+
+pub phrases_pieces : (text : List ℕ) (ts : List TokenValue) (ps : List (List ℕ)) → HasMailTokens text ts → GivesPhrases ts ps → PhrasesPieces text ps
+phrases_pieces text ts ps has g = record { tokens = ts; has = has; places = g.places; divided = g.divided; pieces_are = g.pieces_are }
 
 pub phrases_of : (text : List ℕ) (ts : List TokenValue) (phrases : List (List UnitValue)) (comments : List CommentValue) → HasMailTokens text ts → SaysPhrases text phrases comments → AreDivided IsOnePhrase ts phrases
 phrases_of text ts phrases comments has says = rw (HasTokenValues-once text ts says.tokens has says.has) says.divided

@@ -1,100 +1,123 @@
 -- Phrases are written.
-use Rattle.std.proofs.Common.{◌≡◌, ◌≢◌, ℕ, ◌+◌, ◌-◌, ◌<◌, ◌≤◌, Bool, true, false, not, ◌&&◌, List, [], ◌∷◌, ◌++◌, length, get_or, take, drop, Some, None, refl, sym, ap, ◌∙◌, subst, arith, position}
-use Rattle.std.proofs.lemmas.Bool.{and_parts, and_from, both_ways, not-true}
-use Rattle.std.proofs.lemmas.List.{append_assoc, append-nil, map-append, take_more, take_all, drop_more, take-append-drop}
-use Rattle.std.proofs.lemmas.List.Folds.{list_all-map, list_all-append}
+use Rattle.std.proofs.Common.{◌≡◌, ◌≢◌, ℕ, Bool, true, false, not, ◌&&◌, List, [], ◌∷◌, ◌++◌, refl, sym, ap, ◌∙◌, subst}
+use Rattle.std.proofs.lemmas.Bool.{and_parts, and_from, both_ways}
+use Rattle.std.proofs.lemmas.List.{append_assoc, append-nil}
+use Rattle.std.proofs.lemmas.List.Folds.{list_all-append}
 use Rattle.std.specs.List.{AllByRecursion, list_all}
 use Rattle.mail_wire.specs.Octets.{is_ascii}
-use Rattle.encoded_words.specs.Words.{UnitValue}
-use Rattle.encoded_words.specs.PhraseUnits.{PhraseItem, IsUtf8Item, HasPhraseUnits}
-use Rattle.encoded_words.specs.Written.{AddsUnits}
+use Rattle.encoded_words.specs.Folding.{AddsLines}
+use Rattle.encoded_words.specs.PhraseUnits.{PhraseItem, IsUtf8Item}
+use Rattle.encoded_words.proofs.LineLemmas.{adds_none, adds_both, adds_as}
 use Rattle.field_tokens.specs.declared.TokenKind.{TokenKind}
 use Rattle.field_tokens.specs.declared.TokenKind.TheVariants.{Atom, Quoted, Literal, Special, Gap, Comment}
 use Rattle.field_tokens.specs.Tokens.{TokenValue}
 use Rattle.field_tokens.specs.Squeezed.{is_gap, is_comment, octets_of, comments_of}
-use Rattle.field_tokens.specs.Comments.{AreWritableComments, CommentPieces, CommentsPieces, AddsPieces}
+use Rattle.field_tokens.specs.Comments.{AreWritableComments, CommentPieces, CommentsPieces}
 use Rattle.field_tokens.proofs.Parts.{comments_of-append}
-use Rattle.address_grammar.specs.declared.lexemes.Lexeme.{Lexeme}
 use Rattle.address_grammar.specs.private.Lexemes.{is_blank_token, are_blank}
 use Rattle.address_grammar.specs.Phrases.{may_stand_in_phrase, IsPhrase, phrase_items}
-use Rattle.address_lists.specs.PhrasePieces.{UnitsPieces, PhrasePieces, HasCore, PlacePieces}
+use Rattle.address_lists.specs.PhrasePieces.{PhrasePieces, HasCore, PlacePieces}
+use Rattle.address_lists.specs.private.Emptied.{GivesUnits}
 use Rattle.address_grammar.specs.private.PhraseSteps.{BeginsNoGap, EndsNoBlank, SkipsGaps, SplitsTrail}
-use Rattle.address_grammar.specs.private.Views.{value_of, values_of}
-use Rattle.address_grammar.proofs.Positions.{position_found, position_missing}
 
 -- ---- gaps in front
 
-pub not_not : (b : Bool) → not (not b) ≡ true → b ≡ true
-not_not true h = refl
-not_not false h = h
+-- gaps were passed over
+pub record PassesGaps (all rest : List TokenValue) : Type 0 where
+  pub lead : List TokenValue
+  pub whole : all ≡ lead ++ rest
+  pub gaps : list_all (λ t. is_gap t.kind) lead ≡ true
 
-gaps_all : (ts : List TokenValue) → list_all (λ t. not (not (is_gap t.kind))) ts ≡ true → list_all (λ t. is_gap t.kind) ts ≡ true
-gaps_all [] h = refl
-gaps_all (t ∷ ts) h =
-    let parts = and_parts (not (not (is_gap t.kind))) (list_all (λ u. not (not (is_gap u.kind))) ts) h in
-    and_from (is_gap t.kind) (list_all (λ u. is_gap u.kind) ts) (not_not (is_gap t.kind) parts.0) (gaps_all ts parts.1)
+pub gaps_start : (ts : List TokenValue) → PassesGaps ts ts
+gaps_start ts = record { lead = []; whole = refl; gaps = refl }
 
-pub skips_all : (ls : List Lexeme) → position (λ l. not (is_gap (value_of l).kind)) ls ≡ None → SkipsGaps (values_of ls) []
-skips_all ls e = record {
-  lead = values_of ls;
-  gaps = gaps_all (values_of ls) (list_all-map (λ t. not (not (is_gap t.kind))) value_of ls ∙ position_missing (λ l. not (is_gap (value_of l).kind)) ls e);
-  whole = sym (append-nil (values_of ls));
-  begins = tt;
+-- tokens with one behind them
+one_behind : (front rest behind : List TokenValue) (t : TokenValue) → rest ≡ t ∷ behind → front ++ rest ≡ (front ++ t ∷ []) ++ behind
+one_behind front rest behind t e = ap (λ r. front ++ r) e ∙ sym (append_assoc front (t ∷ []) behind)
+
+pub all_more : (p : TokenValue → Bool) (front : List TokenValue) (t : TokenValue) → list_all p front ≡ true → p t ≡ true → list_all p (front ++ t ∷ []) ≡ true
+all_more p front t all is = list_all-append p front (t ∷ []) ∙ and_from (list_all p front) (list_all p (t ∷ [])) all (and_from (p t) true is refl)
+
+pub gaps_turn : (all rest behind : List TokenValue) (t : TokenValue) → PassesGaps all rest → rest ≡ t ∷ behind → is_gap t.kind ≡ true → PassesGaps all behind
+gaps_turn all rest behind t p e gap = record {
+  lead = p.lead ++ t ∷ [];
+  whole = p.whole ∙ one_behind p.lead rest behind t e;
+  gaps = all_more (λ u. is_gap u.kind) p.lead t p.gaps gap;
 }
 
-pub skips_some : (ls : List Lexeme) (i : ℕ) → position (λ l. not (is_gap (value_of l).kind)) ls ≡ Some i → SkipsGaps (values_of ls) (values_of (drop i ls))
-skips_some [] i e = cc e
-skips_some (x ∷ xs) i e =
-    let ls : List Lexeme = x ∷ xs in
-    let found = position_found (λ l. not (is_gap (value_of l).kind)) ls i x e in
+pub gaps_end : (all rest behind : List TokenValue) (t : TokenValue) → PassesGaps all rest → rest ≡ t ∷ behind → is_gap t.kind ≡ false → SkipsGaps all rest
+gaps_end all rest behind t p e other = record { lead = p.lead; gaps = p.gaps; whole = p.whole; begins = subst BeginsNoGap (sym e) other }
+
+pub gaps_only : (all rest : List TokenValue) → PassesGaps all rest → rest ≡ [] → SkipsGaps all rest
+gaps_only all rest p e = record { lead = p.lead; gaps = p.gaps; whole = p.whole; begins = subst BeginsNoGap (sym e) tt }
+
+-- ---- what doesn't count at the end
+
+-- the last token, if there is one, doesn't pass
+abbrev pub EndsNo : (TokenValue → Bool) → List TokenValue → Type 0
+EndsNo p [] = Unit {0}
+EndsNo p (t ∷ []) = p t ≡ false
+EndsNo p (t ∷ next ∷ tokens) = EndsNo p (next ∷ tokens)
+
+ends_so : (p : TokenValue → Bool) (ts : List TokenValue) (t : TokenValue) → p t ≡ false → EndsNo p (ts ++ t ∷ [])
+ends_so p [] t h = h
+ends_so p (u ∷ []) t h = h
+ends_so p (u ∷ v ∷ ts) t h = ends_so p (v ∷ ts) t h
+
+-- behind the last token that doesn't pass stand these, as far as they were looked at
+pub record TrailSoFar (p : TokenValue → Bool) (all trail rest : List TokenValue) : Type 0 where
+  pub front : List TokenValue
+  pub whole : all ≡ front ++ trail
+  pub ends : EndsNo p front
+  pub passed : List TokenValue
+  pub trail_is : trail ≡ passed ++ rest
+  pub pass : list_all p passed ≡ true
+
+pub trail_start : (p : TokenValue → Bool) (ts : List TokenValue) → TrailSoFar p ts ts ts
+trail_start p ts = record { front = []; whole = refl; ends = tt; passed = []; trail_is = refl; pass = refl }
+
+pub trail_anew : (p : TokenValue → Bool) (all trail rest behind : List TokenValue) (t : TokenValue) → TrailSoFar p all trail rest → rest ≡ t ∷ behind → p t ≡ false → TrailSoFar p all behind behind
+trail_anew p all trail rest behind t s e other = record {
+  front = (s.front ++ s.passed) ++ t ∷ [];
+  whole = s.whole ∙ ap (λ r. s.front ++ r) s.trail_is ∙ sym (append_assoc s.front s.passed rest) ∙ one_behind (s.front ++ s.passed) rest behind t e;
+  ends = ends_so p (s.front ++ s.passed) t other;
+  passed = [];
+  trail_is = refl;
+  pass = refl;
+}
+
+pub trail_onward : (p : TokenValue → Bool) (all trail rest behind : List TokenValue) (t : TokenValue) → TrailSoFar p all trail rest → rest ≡ t ∷ behind → p t ≡ true → TrailSoFar p all trail behind
+trail_onward p all trail rest behind t s e is = record {
+  front = s.front;
+  whole = s.whole;
+  ends = s.ends;
+  passed = s.passed ++ t ∷ [];
+  trail_is = s.trail_is ∙ one_behind s.passed rest behind t e;
+  pass = all_more p s.passed t s.pass is;
+}
+
+-- what stands before the tokens at the end that pass
+pub record CutsTrail (p : TokenValue → Bool) (all front trail : List TokenValue) : Type 0 where
+  pub whole : all ≡ front ++ trail
+  pub ends : EndsNo p front
+  pub pass : list_all p trail ≡ true
+
+pub trail_end : (p : TokenValue → Bool) (all trail rest front : List TokenValue) → TrailSoFar p all trail rest → rest ≡ [] → ((before : List TokenValue) → all ≡ before ++ trail → front ≡ before) → CutsTrail p all front trail
+trail_end p all trail rest front s e front_is =
+    let same : front ≡ s.front = front_is s.front s.whole in
     record {
-      lead = values_of (take i ls);
-      gaps = gaps_all (values_of (take i ls)) (list_all-map (λ t. not (not (is_gap t.kind))) value_of (take i ls) ∙ found.first);
-      whole = ap values_of (sym (take-append-drop i ls)) ∙ map-append value_of (take i ls) (drop i ls);
-      begins = subst (λ r. BeginsNoGap (values_of r)) (sym (drop_more ls i x found.within)) (not-true (is_gap (value_of (get_or ls i x)).kind) found.passes);
+      whole = s.whole ∙ ap (λ r. r ++ trail) (sym same);
+      ends = subst (EndsNo p) (sym same) s.ends;
+      pass = ap (list_all p) (s.trail_is ∙ ap (λ r. s.passed ++ r) e ∙ append-nil s.passed) ∙ s.pass;
     }
 
--- ---- gaps and comments behind
+ends_blank : (ts : List TokenValue) → EndsNo is_blank_token ts → EndsNoBlank ts
+ends_blank [] e = e
+ends_blank (t ∷ []) e = e
+ends_blank (t ∷ u ∷ ts) e = ends_blank (u ∷ ts) e
 
-pub record TrailFrom (ls : List Lexeme) (end : ℕ) : Type 0 where
-  pub within : end ≤ length ls
-  pub blank : are_blank (values_of (drop end ls)) ≡ true
-
-pub trail_turn : (ls : List Lexeme) (end : ℕ) (d : Lexeme) → 0 < end → TrailFrom ls end → is_blank_token (value_of (get_or ls (end - 1) d)) ≡ true → TrailFrom ls (end - 1)
-trail_turn ls end d some t blank =
-    let next : end - 1 + 1 ≡ end = omega (arith, some) in
-    let whole : drop (end - 1) ls ≡ get_or ls (end - 1) d ∷ drop end ls
-    = drop_more ls (end - 1) d (omega (arith, some, t.within)) ∙ ap (λ k. get_or ls (end - 1) d ∷ drop k ls) next in
-    record {
-      within = omega (arith, t.within);
-      blank = rw (whole) (and_from (is_blank_token (value_of (get_or ls (end - 1) d))) (are_blank (values_of (drop end ls))) blank t.blank);
-    }
-
-ends_so : (ts : List TokenValue) (t : TokenValue) → is_blank_token t ≡ false → EndsNoBlank (ts ++ t ∷ [])
-ends_so [] t h = h
-ends_so (u ∷ []) t h = h
-ends_so (u ∷ v ∷ ts) t h = ends_so (v ∷ ts) t h
-
-pub trail_whole : (ls : List Lexeme) (end : ℕ) → values_of ls ≡ values_of (take end ls) ++ values_of (drop end ls)
-trail_whole ls end = ap values_of (sym (take-append-drop end ls)) ∙ map-append value_of (take end ls) (drop end ls)
-
-pub trail_none : (ls : List Lexeme) (end : ℕ) → end ≤ 0 → TrailFrom ls end → SplitsTrail (values_of ls) (values_of (take end ls)) (values_of (drop end ls))
-trail_none ls end none t = record { whole = trail_whole ls end; ends = by end none; blank = t.blank }
-  where
-    by : (k : ℕ) → k ≤ 0 → EndsNoBlank (values_of (take k ls))
-    by k h = let zero_is : k ≡ 0 = omega (arith, h) in rw (zero_is) tt
-
-pub trail_some : (ls : List Lexeme) (end : ℕ) (d : Lexeme) → 0 < end → TrailFrom ls end → is_blank_token (value_of (get_or ls (end - 1) d)) ≡ false
-    → SplitsTrail (values_of ls) (values_of (take end ls)) (values_of (drop end ls))
-trail_some ls end d some t word =
-    let next : end - 1 + 1 ≡ end = omega (arith, some) in
-    let front : take end ls ≡ take (end - 1) ls ++ get_or ls (end - 1) d ∷ []
-    = ap (λ k. take k ls) (sym next) ∙ take_more ls (end - 1) d (omega (arith, some, t.within)) in
-    record {
-      whole = trail_whole ls end;
-      ends = rw (front, map-append value_of (take (end - 1) ls) (get_or ls (end - 1) d ∷ [])) (ends_so (values_of (take (end - 1) ls)) (value_of (get_or ls (end - 1) d)) word);
-      blank = t.blank;
-    }
+pub blank_trail : (all front trail : List TokenValue) → CutsTrail is_blank_token all front trail → SplitsTrail all front trail
+blank_trail all front trail c = record { whole = c.whole; ends = ends_blank front c.ends; blank = c.pass }
 
 -- ---- the core
 
@@ -210,79 +233,68 @@ CommentsPieces-append [] ds ps qs a b = rw (a) b
 CommentsPieces-append (c ∷ cs) ds ps qs a b =
     (a.0, a.1 ++ qs, ap (λ r. r ++ qs) a.2 ∙ append_assoc a.0 a.1 qs, a.3, CommentsPieces-append cs ds a.1 qs a.4 b)
 
--- the comments of these tokens were written, and those that are left can be
-pub record WritesComments (ls : List Lexeme) (i : ℕ) (old new : List (List ℕ)) : Type 0 where
-  pub adds : AddsPieces (CommentsPieces (comments_of (values_of (take i ls)))) old new
-  pub can : AreWritableComments (comments_of (values_of (drop i ls)))
+-- some comments were written, and those of the rest can be
+pub record WritesComments (all : List TokenValue) (old new : List ℕ) (rest : List TokenValue) : Type 0 where
+  pub done : List (List ℕ)
+  pub whole : comments_of all ≡ done ++ comments_of rest
+  pub adds : AddsLines (CommentsPieces done) old new
+  pub can : AreWritableComments (comments_of rest)
 
-pub comments_start : (ls : List Lexeme) (old : List (List ℕ)) → AreWritableComments (comments_of (values_of ls)) → WritesComments ls 0 old old
-comments_start ls old can = record { adds = record { pieces = []; holds = refl; added = sym (append-nil old) }; can = can }
-
-taken_comments : (ls : List Lexeme) (i : ℕ) (d : Lexeme) → i < length ls → comments_of (values_of (take (i + 1) ls)) ≡ comments_of (values_of (take i ls)) ++ comments_of (value_of (get_or ls i d) ∷ [])
-taken_comments ls i d h =
-    ap (λ r. comments_of (values_of r)) (take_more ls i d h) ∙ ap comments_of (map-append value_of (take i ls) (get_or ls i d ∷ [])) ∙ comments_of-append (values_of (take i ls)) (value_of (get_or ls i d) ∷ [])
-
-left_comments : (ls : List Lexeme) (i : ℕ) (d : Lexeme) → i < length ls → comments_of (values_of (drop i ls)) ≡ comments_of (value_of (get_or ls i d) ∷ []) ++ comments_of (values_of (drop (i + 1) ls))
-left_comments ls i d h = ap (λ r. comments_of (values_of r)) (drop_more ls i d h) ∙ comments_of-append (value_of (get_or ls i d) ∷ []) (values_of (drop (i + 1) ls))
-
-comments_turn : (ls : List Lexeme) (i : ℕ) (d : Lexeme) (old mid new : List (List ℕ)) → i < length ls → WritesComments ls i old mid → AddsPieces (CommentsPieces (comments_of (value_of (get_or ls i d) ∷ []))) mid new
-    → WritesComments ls (i + 1) old new
-comments_turn ls i d old mid new h w a = record {
-  adds = record {
-    pieces = w.adds.pieces ++ a.pieces;
-    holds = rw (taken_comments ls i d h) (CommentsPieces-append (comments_of (values_of (take i ls))) (comments_of (value_of (get_or ls i d) ∷ [])) w.adds.pieces a.pieces w.adds.holds a.holds);
-    added = a.added ∙ ap (λ r. r ++ a.pieces) w.adds.added ∙ append_assoc old w.adds.pieces a.pieces;
-  };
-  can = writable_rest (comments_of (value_of (get_or ls i d) ∷ [])) (comments_of (values_of (drop (i + 1) ls))) (subst AreWritableComments (left_comments ls i d h) w.can);
-}
-
-one_comment : (t : TokenValue) → is_comment t.kind ≡ true → comments_of (t ∷ []) ≡ t.octets ∷ []
-one_comment t h = rw h refl
+pub comments_start : (ts : List TokenValue) (old : List ℕ) → AreWritableComments (comments_of ts) → WritesComments ts old old ts
+comments_start ts old can = record { done = []; whole = refl; adds = adds_none old refl; can = can }
 
 pub no_comment : (t : TokenValue) → is_comment t.kind ≡ false → comments_of (t ∷ []) ≡ []
 no_comment t h = rw h refl
 
-pub next_comment : (ls : List Lexeme) (i : ℕ) (d : Lexeme) (old new : List (List ℕ)) → i < length ls → is_comment (value_of (get_or ls i d)).kind ≡ true → WritesComments ls i old new
-    → AreWritableComments ((value_of (get_or ls i d)).octets ∷ [])
-next_comment ls i d old new h is w =
-    subst AreWritableComments (one_comment (value_of (get_or ls i d)) is) (writable_front (comments_of (value_of (get_or ls i d) ∷ [])) (comments_of (values_of (drop (i + 1) ls))) (subst AreWritableComments (left_comments ls i d h) w.can))
+first_comment : (rest behind : List TokenValue) (t : TokenValue) → rest ≡ t ∷ behind → is_comment t.kind ≡ true → comments_of rest ≡ t.octets ∷ comments_of behind
+first_comment rest behind t e is = ap comments_of e ∙ rw is refl
 
-pub comment_turn : (ls : List Lexeme) (i : ℕ) (d : Lexeme) (old mid new : List (List ℕ)) → i < length ls → is_comment (value_of (get_or ls i d)).kind ≡ true → WritesComments ls i old mid
-    → AddsPieces (CommentPieces (value_of (get_or ls i d)).octets) mid new → WritesComments ls (i + 1) old new
-comment_turn ls i d old mid new h is w a = comments_turn ls i d old mid new h w (record {
-  pieces = a.pieces;
-  holds = rw (one_comment (value_of (get_or ls i d)) is) ((a.pieces, [], sym (append-nil a.pieces), a.holds, refl));
-  added = a.added;
-})
+other_first : (rest behind : List TokenValue) (t : TokenValue) → rest ≡ t ∷ behind → is_comment t.kind ≡ false → comments_of rest ≡ comments_of behind
+other_first rest behind t e other = ap comments_of e ∙ rw other refl
 
-pub other_turn : (ls : List Lexeme) (i : ℕ) (d : Lexeme) (old mid : List (List ℕ)) → i < length ls → is_comment (value_of (get_or ls i d)).kind ≡ false → WritesComments ls i old mid → WritesComments ls (i + 1) old mid
-other_turn ls i d old mid h other w = comments_turn ls i d old mid mid h w (record {
-  pieces = [];
-  holds = rw (no_comment (value_of (get_or ls i d)) other) refl;
-  added = sym (append-nil mid);
-})
+pub next_comment : (all : List TokenValue) (old mid : List ℕ) (rest behind : List TokenValue) (t : TokenValue) → WritesComments all old mid rest → rest ≡ t ∷ behind → is_comment t.kind ≡ true → AreWritableComments (t.octets ∷ [])
+next_comment all old mid rest behind t w e is = writable_front (t.octets ∷ []) (comments_of behind) (subst AreWritableComments (first_comment rest behind t e is) w.can)
 
-pub comments_all : (ls : List Lexeme) (i : ℕ) (old new : List (List ℕ)) → length ls ≤ i → WritesComments ls i old new → AddsPieces (CommentsPieces (comments_of (values_of ls))) old new
-comments_all ls i old new h w = rw (take_all i ls h) at w.adds
+pub comment_turn : (all : List TokenValue) (old mid new : List ℕ) (rest behind : List TokenValue) (t : TokenValue) → WritesComments all old mid rest → rest ≡ t ∷ behind → is_comment t.kind ≡ true → AddsLines (CommentPieces t.octets) mid new
+    → WritesComments all old new behind
+comment_turn all old mid new rest behind t w e is a =
+    let first = first_comment rest behind t e is in
+    record {
+      done = w.done ++ t.octets ∷ [];
+      whole = w.whole ∙ ap (λ r. w.done ++ r) first ∙ sym (append_assoc w.done (t.octets ∷ []) (comments_of behind));
+      adds = adds_both (λ xs ys p q. CommentsPieces-append w.done (t.octets ∷ []) xs ys p (ys, [], sym (append-nil ys), q, refl)) w.adds a;
+      can = writable_rest (t.octets ∷ []) (comments_of behind) (subst AreWritableComments first w.can);
+    }
+
+pub other_turn : (all : List TokenValue) (old mid : List ℕ) (rest behind : List TokenValue) (t : TokenValue) → WritesComments all old mid rest → rest ≡ t ∷ behind → is_comment t.kind ≡ false → WritesComments all old mid behind
+other_turn all old mid rest behind t w e other =
+    let same = other_first rest behind t e other in
+    record { done = w.done; whole = w.whole ∙ ap (λ r. w.done ++ r) same; adds = w.adds; can = subst AreWritableComments same w.can }
+
+pub comments_all : (all : List TokenValue) (old new : List ℕ) (rest : List TokenValue) → WritesComments all old new rest → rest ≡ [] → AddsLines (CommentsPieces (comments_of all)) old new
+comments_all all old new rest w e = adds_as (λ xs p. subst (λ r. CommentsPieces r xs) (sym (w.whole ∙ ap (λ r. w.done ++ comments_of r) e ∙ append-nil w.done)) p) w.adds
+
+-- ---- octets
+
+pub octets_turn : (all rest behind : List TokenValue) (t : TokenValue) (start old new : List ℕ) → old ++ octets_of rest ≡ start ++ octets_of all → rest ≡ t ∷ behind → new ≡ old ++ t.octets → new ++ octets_of behind ≡ start ++ octets_of all
+octets_turn all rest behind t start old new so e put = ap (λ r. r ++ octets_of behind) put ∙ append_assoc old t.octets (octets_of behind) ∙ ap (λ r. old ++ octets_of r) (sym e) ∙ so
+
+pub octets_end : (all rest : List TokenValue) (start made : List ℕ) → made ++ octets_of rest ≡ start ++ octets_of all → rest ≡ [] → made ≡ start ++ octets_of all
+octets_end all rest start made so e = sym (append-nil made) ∙ ap (λ r. made ++ octets_of r) (sym e) ∙ so
 
 -- ---- all pieces
 
-pub units_adds : (us : List UnitValue) (old new : List (List ℕ)) → us ≢ [] → AddsUnits us old new → AddsPieces (UnitsPieces us) old new
-units_adds [] old new some a = absurd (some refl)
-units_adds (u ∷ us) old new some a = record { pieces = a.pieces; holds = a.write; added = a.added }
+pub said_adds : (tokens : List TokenValue) (old mid new : List ℕ) → AddsLines (GivesUnits tokens) old mid → AddsLines (CommentsPieces (comments_of tokens)) mid new → AddsLines (PhrasePieces false tokens) old new
+said_adds tokens old mid new a b = adds_both (λ xs ys p q. (p.0, xs, ys, p.1, p.2, q, refl)) a b
 
-pub said_adds : (tokens : List TokenValue) (us : List UnitValue) (old mid new : List (List ℕ)) → HasPhraseUnits (phrase_items tokens) us → AddsPieces (UnitsPieces us) old mid
-    → AddsPieces (CommentsPieces (comments_of tokens)) mid new → AddsPieces (PhrasePieces false tokens) old new
-said_adds tokens us old mid new has a b = record {
-  pieces = a.pieces ++ b.pieces;
-  holds = (us, a.pieces, b.pieces, has, a.holds, b.holds, refl);
-  added = b.added ∙ ap (λ r. r ++ b.pieces) a.added ∙ append_assoc old a.pieces b.pieces;
-}
+pub place_adds : (tokens core trail : List TokenValue) (old mid new : List ℕ) → HasCore tokens core trail → AddsLines (PhrasePieces (list_all is_ascii (octets_of core)) core) old mid
+    → AddsLines (CommentsPieces (comments_of trail)) mid new → AddsLines (PlacePieces tokens) old new
+place_adds tokens core trail old mid new has a b = adds_both
+    (λ xs ys p q. record { core = core; trail = trail; has_core = has; first = xs; more = ys; phrase = p; comments = q; pieces_are = refl }) a b
 
-pub place_adds : (tokens core trail : List TokenValue) (old mid new : List (List ℕ)) → HasCore tokens core trail → AddsPieces (PhrasePieces (list_all is_ascii (octets_of core)) core) old mid
-    → AddsPieces (CommentsPieces (comments_of trail)) mid new → AddsPieces (PlacePieces tokens) old new
-place_adds tokens core trail old mid new has a b = record {
-  pieces = a.pieces ++ b.pieces;
-  holds = record { core = core; trail = trail; has_core = has; first = a.pieces; more = b.pieces; phrase = a.holds; comments = b.holds; pieces_are = refl };
-  added = b.added ∙ ap (λ r. r ++ b.pieces) a.added ∙ append_assoc old a.pieces b.pieces;
-}
+pub joined_core : (tokens : List TokenValue) (old new : List ℕ) → list_all is_ascii (octets_of tokens) ≡ true → AddsLines (PhrasePieces true tokens) old new → AddsLines (PhrasePieces (list_all is_ascii (octets_of tokens)) tokens) old new
+joined_core tokens old new h a = rw (h) a
+
+pub said_core : (tokens : List TokenValue) (old mid new : List ℕ) → list_all is_ascii (octets_of tokens) ≡ false → AddsLines (GivesUnits tokens) old mid → AddsLines (CommentsPieces (comments_of tokens)) mid new
+    → AddsLines (PhrasePieces (list_all is_ascii (octets_of tokens)) tokens) old new
+said_core tokens old mid new h a b = rw (h) (said_adds tokens old mid new a b)

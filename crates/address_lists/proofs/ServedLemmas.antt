@@ -33,7 +33,7 @@ served_same domain served e = elim (cases_Bool (list_all is_ascii domain)) [
 
 -- ---- the parts of an address that is served
 
-pub record IsServed (a served : Address) : Type 0 where
+pub record TellsServed (a served : Address) : Type 0 where
   pub ascii : list_all is_ascii a.local ≡ true
   pub local : served.local ≡ a.local
   pub domain : served_domain a.domain ≡ Some served.domain
@@ -44,7 +44,7 @@ with_domain_parts local (Some domain) served e =
     let same : record { local = local; domain = domain } ≡ served = cc e in
     (sym (ap (λ (a : Address). a.local) same), ap (λ (a : Address). Some a.domain) same)
 
-pub served_parts : (a served : Address) → served_address a ≡ Some served → IsServed a served
+pub served_parts : (a served : Address) → served_address a ≡ Some served → TellsServed a served
 served_parts a served e = elim (cases_Bool (list_all is_ascii a.local)) [
   | inl ascii ↦ let parts = with_domain_parts a.local (served_domain a.domain) served (rw (ascii) at e) in record { ascii = ascii; local = parts.0; domain = parts.1 }
   | inr other ↦ cc (rw (other) at e)

@@ -1,62 +1,41 @@
 -- Texts that stay as they are.
-use Rattle.std.proofs.Common.{◌≡◌, ℕ, ◌+◌, ◌-◌, ◌<◌, ◌≤◌, true, false, ◌&&◌, List, [], ◌∷◌, ◌++◌, length, get_or, take, drop, refl, sym, ap, ◌∙◌, arith}
-use Rattle.std.proofs.lemmas.Bool.{and_from, both_ways}
-use Rattle.std.proofs.lemmas.List.{map-append, take_more, drop_more}
+use Rattle.std.proofs.Common.{◌≡◌, Bool, true, false, ◌&&◌, List, [], ◌∷◌, ◌++◌, refl, sym, ap, ◌∙◌}
+use Rattle.std.proofs.lemmas.Bool.{both_ways}
 use Rattle.std.proofs.lemmas.List.Folds.{list_all-append}
 use Rattle.std.specs.List.{list_all}
 use Rattle.mail_wire.specs.Octets.{is_ascii}
 use Rattle.field_tokens.specs.Tokens.{TokenValue}
 use Rattle.field_tokens.specs.Squeezed.{is_gap, octets_of}
-use Rattle.address_grammar.specs.declared.lexemes.Lexeme.{Lexeme}
 use Rattle.address_grammar.specs.private.Lexemes.{are_blank}
 use Rattle.address_grammar.specs.private.PhraseSteps.{SkipsGaps}
 use Rattle.address_lists.specs.ListPieces.{HasText}
 use Rattle.address_lists.specs.private.ListWriting.{EndsNoGap, SplitsGaps}
-use Rattle.address_grammar.specs.private.Views.{value_of, values_of}
-use Rattle.address_lists.proofs.PhraseWriting.{gaps_blank, blank-append, trail_whole}
+use Rattle.address_lists.proofs.PhraseWriting.{gaps_blank, blank-append, EndsNo, CutsTrail}
 
-pub all_ascii_octets : (ls : List Lexeme) → list_all (λ l. list_all is_ascii l.octets.now) ls ≡ list_all is_ascii (octets_of (values_of ls))
-all_ascii_octets [] = refl
-all_ascii_octets (l ∷ ls) = ap (λ r. list_all is_ascii l.octets.now && r) (all_ascii_octets ls) ∙ sym (list_all-append is_ascii l.octets.now (octets_of (values_of ls)))
+-- tokens are ASCII where the first one is and the others are
+first_ascii : (rest behind : List TokenValue) (t : TokenValue) → rest ≡ t ∷ behind → list_all is_ascii (octets_of rest) ≡ (list_all is_ascii t.octets && list_all is_ascii (octets_of behind))
+first_ascii rest behind t e = ap (λ r. list_all is_ascii (octets_of r)) e ∙ list_all-append is_ascii t.octets (octets_of behind)
+
+pub ascii_turn : (all rest behind : List TokenValue) (t : TokenValue) → list_all is_ascii (octets_of all) ≡ list_all is_ascii (octets_of rest) → rest ≡ t ∷ behind → list_all is_ascii t.octets ≡ true
+    → list_all is_ascii (octets_of all) ≡ list_all is_ascii (octets_of behind)
+ascii_turn all rest behind t so e is = so ∙ first_ascii rest behind t e ∙ ap (λ r. r && list_all is_ascii (octets_of behind)) is
+
+pub ascii_stop : (all rest behind : List TokenValue) (t : TokenValue) → list_all is_ascii (octets_of all) ≡ list_all is_ascii (octets_of rest) → rest ≡ t ∷ behind → list_all is_ascii t.octets ≡ false
+    → false ≡ list_all is_ascii (octets_of all)
+ascii_stop all rest behind t so e other = sym (so ∙ first_ascii rest behind t e ∙ ap (λ r. r && list_all is_ascii (octets_of behind)) other)
+
+pub ascii_end : (all rest : List TokenValue) → list_all is_ascii (octets_of all) ≡ list_all is_ascii (octets_of rest) → rest ≡ [] → true ≡ list_all is_ascii (octets_of all)
+ascii_end all rest so e = sym (so ∙ ap (λ r. list_all is_ascii (octets_of r)) e)
 
 -- ---- gaps behind
 
-pub record GapsFrom (ls : List Lexeme) (end : ℕ) : Type 0 where
-  pub within : end ≤ length ls
-  pub gaps : list_all (λ t. is_gap t.kind) (values_of (drop end ls)) ≡ true
+ends_gap : (ts : List TokenValue) → EndsNo (λ t. is_gap t.kind) ts → EndsNoGap ts
+ends_gap [] e = e
+ends_gap (t ∷ []) e = e
+ends_gap (t ∷ u ∷ ts) e = ends_gap (u ∷ ts) e
 
-pub gaps_turn : (ls : List Lexeme) (end : ℕ) (d : Lexeme) → 0 < end → GapsFrom ls end → is_gap (value_of (get_or ls (end - 1) d)).kind ≡ true → GapsFrom ls (end - 1)
-gaps_turn ls end d some g gap =
-    let next : end - 1 + 1 ≡ end = omega (arith, some) in
-    let whole : drop (end - 1) ls ≡ get_or ls (end - 1) d ∷ drop end ls
-    = drop_more ls (end - 1) d (omega (arith, some, g.within)) ∙ ap (λ k. get_or ls (end - 1) d ∷ drop k ls) next in
-    record {
-      within = omega (arith, g.within);
-      gaps = rw (whole) (and_from (is_gap (value_of (get_or ls (end - 1) d)).kind) (list_all (λ t. is_gap t.kind) (values_of (drop end ls))) gap g.gaps);
-    }
-
-ends_so : (ts : List TokenValue) (t : TokenValue) → is_gap t.kind ≡ false → EndsNoGap (ts ++ t ∷ [])
-ends_so [] t h = h
-ends_so (u ∷ []) t h = h
-ends_so (u ∷ v ∷ ts) t h = ends_so (v ∷ ts) t h
-
-pub gaps_none : (ls : List Lexeme) (end : ℕ) → end ≤ 0 → GapsFrom ls end → SplitsGaps (values_of ls) (values_of (take end ls))
-gaps_none ls end none g = record { trail = values_of (drop end ls); whole = trail_whole ls end; ends = by end none; gaps = g.gaps }
-  where
-    by : (k : ℕ) → k ≤ 0 → EndsNoGap (values_of (take k ls))
-    by k h = let zero_is : k ≡ 0 = omega (arith, h) in rw (zero_is) tt
-
-pub gaps_some : (ls : List Lexeme) (end : ℕ) (d : Lexeme) → 0 < end → GapsFrom ls end → is_gap (value_of (get_or ls (end - 1) d)).kind ≡ false → SplitsGaps (values_of ls) (values_of (take end ls))
-gaps_some ls end d some g other =
-    let next : end - 1 + 1 ≡ end = omega (arith, some) in
-    let front : take end ls ≡ take (end - 1) ls ++ get_or ls (end - 1) d ∷ []
-    = ap (λ k. take k ls) (sym next) ∙ take_more ls (end - 1) d (omega (arith, some, g.within)) in
-    record {
-      trail = values_of (drop end ls);
-      whole = trail_whole ls end;
-      ends = rw (front, map-append value_of (take (end - 1) ls) (get_or ls (end - 1) d ∷ [])) (ends_so (values_of (take (end - 1) ls)) (value_of (get_or ls (end - 1) d)) other);
-      gaps = g.gaps;
-    }
+pub gap_trail : (all front trail : List TokenValue) → CutsTrail (λ t. is_gap t.kind) all front trail → SplitsGaps all front
+gap_trail all front trail c = record { trail = trail; whole = c.whole; ends = ends_gap front c.ends; gaps = c.pass }
 
 -- ---- the text between gaps
 

@@ -126,7 +126,7 @@ parts_writable (p ∷ []) ts ms can d say =
 parts_writable (p ∷ n ∷ parts) ts ms can d say =
     rw (say.2) (all_append say.0 say.1 (one_writable p say.0 (before_can ts p d.1 d.0 d.2 can) say.3) (parts_writable (n ∷ parts) d.1 say.1 (behind_can ts p d.1 d.0 d.2 can) d.4 say.4))
 
-members_writable : (ts : List TokenValue) (ms : List MailboxValue) → CanBeWritten ts → AreMembers ts ms → AreWritableMailboxes ms
+pub members_writable : (ts : List TokenValue) (ms : List MailboxValue) → CanBeWritten ts → AreMembers ts ms → AreWritableMailboxes ms
 members_writable ts ms can (inl none) = rw (none.1) tt
 members_writable ts ms can (inr d) = parts_writable d.parts ts ms can d.divided d.say
 

@@ -2,3 +2,4 @@
 pub mod PhraseReadBack
 pub mod PhraseListSteps
 pub mod ListWriting
+pub mod Emptied

@@ -1,72 +1,59 @@
 //! Texts that stay as they are.
-ghost use Rattle.std.specs.Prelude.{◌≡◌, ℕ, false, List, OnOk};
+ghost use Rattle.std.specs.Prelude.{◌≡◌, false, OnOk};
 ghost use Rattle.std.specs.List.{list_all};
 ghost use Rattle.mail_wire.specs.Octets.{is_ascii as is_ascii_octet};
-ghost use Rattle.field_tokens.specs.Comments.{AddsPieces};
+ghost use Rattle.encoded_words.specs.Folding.{AddsLines};
+ghost use Rattle.field_tokens.specs.Lexemes.{values_of};
 ghost use Rattle.field_tokens.specs.Squeezed.{octets_of};
 ghost use Rattle.address_grammar.specs.private.Lexemes.{are_blank};
-ghost use Rattle.address_lists.specs.ListPieces.{HasText, with_comma};
+ghost use Rattle.address_lists.specs.ListPieces.{HasText};
 ghost use Rattle.address_lists.specs.private.ListWriting.{SplitsGaps, AsciiPieces};
-ghost use Rattle.address_grammar.specs.private.Views.{values_of};
 
-use crate::writing::{behind_gaps, is_gap, joined};
-use address_grammar::Lexeme;
+use crate::writing::{behind_gaps, is_gap, push_joined};
+use address_grammar::front_before;
+use field_tokens::Lexemes;
 use mail_wire::{Memory, Octets, is_ascii};
-use std::alloc::Global;
 
-fn all_ascii(lexemes: &[Lexeme<'_>]) -> bool
-    ensures { result ≡ list_all (λ l. list_all is_ascii_octet l.octets.now) lexemes.now }
+pub fn are_ascii(lexemes: Lexemes<'_, '_>) -> bool
+    ensures { result ≡ list_all is_ascii_octet (octets_of (values_of lexemes.entry)) }
 {
-    lexemes.iter().all(|lexeme| is_ascii(lexeme.octets))
-}
-
-pub fn are_ascii(lexemes: &[Lexeme<'_>]) -> bool
-    ensures { result ≡ list_all is_ascii_octet (octets_of (values_of lexemes.now)) }
-{
-    all_ascii(lexemes)
+    let mut rest = lexemes;
+    while let Some((lexeme, behind)) = rest.split_first() {
+        if !is_ascii(lexeme.octets) {
+            return false;
+        }
+        rest = behind;
+    }
+    true
 }
 
 // What goes to the last token that is no gap.
-fn before_gaps<'a, 'b>(lexemes: &'b [Lexeme<'a>]) -> &'b [Lexeme<'a>]
-    ensures { SplitsGaps (values_of lexemes.now) (values_of result.now) }
+fn before_gaps<'a, 'b>(lexemes: Lexemes<'a, 'b>) -> Lexemes<'a, 'b>
+    ensures { SplitsGaps (values_of lexemes.entry) (values_of result) }
 {
-    let mut end = lexemes.len();
-    while end > 0 && is_gap(lexemes[end - 1]) {
-        end -= 1;
+    let mut trail = lexemes;
+    let mut rest = lexemes;
+    while let Some((lexeme, behind)) = rest.split_first() {
+        if !is_gap(lexeme) {
+            trail = behind;
+        }
+        rest = behind;
     }
-    &lexemes[..end]
+    front_before(lexemes, trail)
 }
 
 // The tokens without the gaps at both ends.
-fn inner_text<'a, 'b>(lexemes: &'b [Lexeme<'a>]) -> &'b [Lexeme<'a>]
-    requires { are_blank (values_of lexemes.now) ≡ false }
-    ensures { HasText (values_of lexemes.now) (values_of result.now) }
+fn inner_text<'a, 'b>(lexemes: Lexemes<'a, 'b>) -> Lexemes<'a, 'b>
+    requires { are_blank (values_of lexemes) ≡ false }
+    ensures { HasText (values_of lexemes.entry) (values_of result) }
 {
     before_gaps(behind_gaps(lexemes))
 }
 
 /// Puts the tokens without the gaps at both ends last, as one piece.
-pub fn write_text(
-    alloc: Global,
-    lexemes: &[Lexeme<'_>],
-    pieces: &mut Vec<Octets>,
-) -> Result<(), Memory>
-    requires { are_blank (values_of lexemes.now) ≡ false }
-    ensures { OnOk result (AddsPieces (AsciiPieces (values_of lexemes.now)) pieces.old.items pieces.new.items) }
+pub fn write_text(lexemes: Lexemes<'_, '_>, made: &mut Octets) -> Result<(), Memory>
+    requires { are_blank (values_of lexemes) ≡ false }
+    ensures { OnOk result (AddsLines (AsciiPieces (values_of lexemes.entry)) made.old made.new) }
 {
-    let text = joined(alloc, inner_text(lexemes))?;
-    pieces.push(text)?;
-    Ok(())
-}
-
-/// Puts a comma behind the last piece.
-pub fn push_comma(pieces: &mut Vec<Octets>) -> Result<(), Memory>
-    ensures { OnOk result (pieces.new.items ≡ with_comma pieces.old.items) }
-{
-    let Some(mut last) = pieces.pop() else {
-        return Ok(());
-    };
-    last.push(b',')?;
-    pieces.push(last)?;
-    Ok(())
+    push_joined(inner_text(lexemes), made)
 }

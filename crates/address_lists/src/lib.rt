@@ -4,6 +4,7 @@
 mod ascii_texts;
 mod emptied;
 pub mod laws;
+mod members;
 mod phrase_lists;
 mod rewriting;
 mod served_paths;

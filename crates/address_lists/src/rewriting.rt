@@ -1,85 +1,114 @@
 //! The rewriting of lists of addresses.
-ghost use Rattle.std.specs.Prelude.{◌≡◌, ◌&&◌, not, List, IfOk, OnOk};
-ghost use Rattle.std.specs.List.{list_all, list_any};
-ghost use Rattle.mail_wire.specs.Octets.{is_ascii};
-ghost use Rattle.field_tokens.specs.Comments.{CommentValue, AddsPieces};
-ghost use Rattle.field_tokens.specs.Squeezed.{octets_of};
+ghost use Rattle.std.specs.Prelude.{◌≡◌, ◌≢◌, ◌&&◌, ◌++◌, ℕ, true, not, List, take, OnOk};
+ghost use Rattle.std.specs.List.{list_any};
+ghost use Rattle.encoded_words.specs.Folding.{AddsLines};
+ghost use Rattle.field_tokens.specs.Comments.{CommentValue};
+ghost use Rattle.field_tokens.specs.Lexemes.{values_of};
+ghost use Rattle.field_tokens.specs.Tokens.{TokenValue};
 ghost use Rattle.address_grammar.specs.private.Lexemes.{are_blank as are_blank_of};
+ghost use Rattle.address_grammar.specs.private.ListSteps.{SplitsName};
 ghost use Rattle.address_grammar.specs.AddressLists.{ElementValue, AreDivided, IsElement, SaysPlace};
-ghost use Rattle.address_lists.specs.ListPieces.{ElementPieces, SaysAddresses, AddressesPieces};
-ghost use Rattle.address_lists.specs.private.ListWriting.{CanBeWritten, is_element_token, GivesPlace, GivesFollowed, GivesPlaces};
-ghost use Rattle.address_grammar.specs.private.Views.{value_of, values_of};
-ghost use Rattle.address_grammar.specs.private.ListViews.{element_value};
+ghost use Rattle.address_lists.specs.ListPieces.{SaysAddresses, AddressesPieces};
+ghost use Rattle.address_lists.specs.private.ListWriting.{CanBeWritten, is_element_token, GivesElement, GivesPlace, GivesFollowed, GivesPlaces};
 
-use crate::ascii_texts::{are_ascii, push_comma, write_text};
 use crate::writing::write_comments;
-use crate::written_groups::write_group;
-use crate::written_mailboxes::write_mailbox;
+use crate::written_groups::{write_group, write_single};
 use address_grammar::{
-    AddressFault, Element, Lexeme, are_blank, find_comma, is_blank, is_mark, read_element,
-    read_lexemes,
+    AddressFault, are_blank, find_mailbox, is_blank, is_mark, mail_marks, split_name, split_place,
 };
+use field_tokens::Lexemes;
 use mail_wire::{Memory, Octets};
 use std::alloc::Global;
+use std::mem;
+
+// Puts the pieces of the mailbox last that tokens are without a group's name.
+fn write_unnamed(
+    alloc: Global,
+    lexemes: Lexemes<'_, '_>,
+    made: &mut Octets,
+) -> Result<(), AddressFault>
+    requires writable { CanBeWritten (values_of lexemes) }
+    requires unnamed { (before behind : List TokenValue) → ¬ SplitsName (values_of lexemes) before behind }
+    ensures ok { OnOk result (AddsLines (GivesElement (values_of lexemes.entry)) made.old made.new) }
+    ensures malformed { result ≡ Err AddressFault.Malformed → (e : ElementValue) → ¬ IsElement (values_of lexemes.entry) e }
+    ensures unchanged { result ≡ Err AddressFault.Malformed → made.new ≡ made.old }
+{
+    let mailbox = find_mailbox(alloc, lexemes)?;
+    let Ok(()) = write_single(alloc, lexemes, &mailbox, made) else {
+        return Err(AddressFault::Memory);
+    };
+    Ok(())
+}
 
 // Puts the pieces of an element last.
 fn write_element(
     alloc: Global,
-    lexemes: &[Lexeme<'_>],
-    element: &Element,
-    pieces: &mut Vec<Octets>,
-) -> Result<(), Memory>
-    requires writable { CanBeWritten (values_of lexemes.now) }
-    requires element { IsElement (values_of lexemes.now) (element_value element.now) }
-    ensures { OnOk result (AddsPieces (ElementPieces (list_all is_ascii (octets_of (values_of lexemes.now))) (values_of lexemes.now)) pieces.old.items pieces.new.items) }
+    lexemes: Lexemes<'_, '_>,
+    made: &mut Octets,
+) -> Result<(), AddressFault>
+    requires { CanBeWritten (values_of lexemes) }
+    ensures ok { OnOk result (AddsLines (GivesElement (values_of lexemes.entry)) made.old made.new) }
+    ensures malformed { result ≡ Err AddressFault.Malformed → (e : ElementValue) → ¬ IsElement (values_of lexemes.entry) e }
+    ensures unchanged { result ≡ Err AddressFault.Malformed → made.new ≡ made.old }
 {
-    if are_ascii(lexemes) {
-        return write_text(alloc, lexemes, pieces);
+    match split_name(lexemes) {
+        Some((name, behind)) => write_group(alloc, lexemes, name, behind, made),
+        None => write_unnamed(alloc, lexemes, made),
     }
-    match element {
-        Element::Mailbox(mailbox) => write_mailbox(alloc, lexemes, mailbox, pieces),
-        Element::Group { name, members } => {
-            write_group(alloc, lexemes, name.as_slice(), members.as_slice(), pieces)
-        }
+}
+
+// Puts the comments of an empty place last.
+fn write_empty(
+    alloc: Global,
+    lexemes: Lexemes<'_, '_>,
+    made: &mut Octets,
+) -> Result<(), AddressFault>
+    requires writable { CanBeWritten (values_of lexemes) }
+    requires blank { are_blank_of (values_of lexemes) ≡ true }
+    ensures ok { OnOk result (AddsLines (GivesPlace (values_of lexemes.entry)) made.old made.new) }
+    ensures err { result ≢ Err AddressFault.Malformed }
+{
+    match write_comments(alloc, lexemes, made) {
+        Ok(()) => Ok(()),
+        Err(_) => Err(AddressFault::Memory),
     }
 }
 
 // Puts the pieces of a place last: those of its element, or its comments.
 fn write_place(
     alloc: Global,
-    lexemes: &[Lexeme<'_>],
-    pieces: &mut Vec<Octets>,
+    lexemes: Lexemes<'_, '_>,
+    made: &mut Octets,
 ) -> Result<(), AddressFault>
-    requires { CanBeWritten (values_of lexemes.now) }
-    ensures ok { OnOk result (AddsPieces (GivesPlace (values_of lexemes.now)) pieces.old.items pieces.new.items) }
-    ensures malformed { result ≡ Err AddressFault.Malformed → (es : List ElementValue) → ¬ SaysPlace (values_of lexemes.now) es }
+    requires { CanBeWritten (values_of lexemes) }
+    ensures ok { OnOk result (AddsLines (GivesPlace (values_of lexemes.entry)) made.old made.new) }
+    ensures malformed { result ≡ Err AddressFault.Malformed → (es : List ElementValue) → ¬ SaysPlace (values_of lexemes.entry) es }
+    ensures unchanged { result ≡ Err AddressFault.Malformed → made.new ≡ made.old }
 {
     if are_blank(lexemes) {
-        let Ok(()) = write_comments(alloc, lexemes, pieces) else {
-            return Err(AddressFault::Memory);
-        };
-        return Ok(());
+        return write_empty(alloc, lexemes, made);
     }
-    let element = read_element(alloc, lexemes)?;
-    let Ok(()) = write_element(alloc, lexemes, &element, pieces) else {
-        return Err(AddressFault::Memory);
-    };
-    Ok(())
+    write_element(alloc, lexemes, made)
 }
 
 // Whether a token stands there that no empty place has.
-fn has_element(lexemes: &[Lexeme<'_>]) -> bool
-    ensures { result ≡ list_any (λ l. is_element_token (value_of l)) lexemes.now }
+fn has_element(lexemes: Lexemes<'_, '_>) -> bool
+    ensures { result ≡ list_any is_element_token (values_of lexemes.entry) }
 {
-    lexemes
-        .iter()
-        .any(|lexeme| !(is_blank(*lexeme) || is_mark(*lexeme, b',')))
+    let mut rest = lexemes;
+    while let Some((lexeme, behind)) = rest.split_first() {
+        if !(is_blank(lexeme) || is_mark(lexeme, b',')) {
+            return true;
+        }
+        rest = behind;
+    }
+    false
 }
 
 // Whether an element stands in a place, and another one behind it. The time over a whole list is linear: no token is looked
 // at for two elements.
-fn is_followed(place: &[Lexeme<'_>], behind: &[Lexeme<'_>]) -> bool
-    ensures { result ≡ (not (are_blank_of (values_of place.now)) && list_any is_element_token (values_of behind.now)) }
+fn is_followed(place: Lexemes<'_, '_>, behind: Lexemes<'_, '_>) -> bool
+    ensures { result ≡ (not (are_blank_of (values_of place.entry)) && list_any is_element_token (values_of behind.entry)) }
 {
     !are_blank(place) && has_element(behind)
 }
@@ -87,50 +116,69 @@ fn is_followed(place: &[Lexeme<'_>], behind: &[Lexeme<'_>]) -> bool
 // Puts the pieces of a place last that a comma ends, and puts a comma behind an element that another follows.
 fn write_followed(
     alloc: Global,
-    place: &[Lexeme<'_>],
-    behind: &[Lexeme<'_>],
-    pieces: &mut Vec<Octets>,
+    place: Lexemes<'_, '_>,
+    behind: Lexemes<'_, '_>,
+    made: &mut Octets,
 ) -> Result<(), AddressFault>
-    requires { CanBeWritten (values_of place.now) }
-    ensures ok { OnOk result (AddsPieces (GivesFollowed (values_of place.now) (values_of behind.now)) pieces.old.items pieces.new.items) }
-    ensures malformed { result ≡ Err AddressFault.Malformed → (es : List ElementValue) → ¬ SaysPlace (values_of place.now) es }
+    requires { CanBeWritten (values_of place) }
+    ensures ok { OnOk result (AddsLines (GivesFollowed (values_of place.entry) (values_of behind.entry)) made.old made.new) }
+    ensures malformed { result ≡ Err AddressFault.Malformed → (es : List ElementValue) → ¬ SaysPlace (values_of place.entry) es }
+    ensures unchanged { result ≡ Err AddressFault.Malformed → made.new ≡ made.old }
 {
-    write_place(alloc, place, pieces)?;
+    write_place(alloc, place, made)?;
     if !is_followed(place, behind) {
         return Ok(());
     }
-    let Ok(()) = push_comma(pieces) else {
+    let Ok(()) = made.push(b',') else {
         return Err(AddressFault::Memory);
     };
     Ok(())
 }
 
-// The pieces of places divided by commas.
-fn write_places(alloc: Global, lexemes: &[Lexeme<'_>]) -> Result<Vec<Octets>, AddressFault>
-    requires { CanBeWritten (values_of lexemes.now) }
-    ensures ok { IfOk result (λ pieces. GivesPlaces (values_of lexemes.now) pieces.items) }
-    ensures malformed { result ≡ Err AddressFault.Malformed → (es : List ElementValue) → ¬ AreDivided SaysPlace (values_of lexemes.now) es }
+// Puts the pieces of places divided by commas last.
+fn write_places(
+    alloc: Global,
+    lexemes: Lexemes<'_, '_>,
+    made: &mut Octets,
+) -> Result<(), AddressFault>
+    requires { CanBeWritten (values_of lexemes) }
+    ensures ok { OnOk result (AddsLines (GivesPlaces (values_of lexemes.entry)) made.old made.new) }
+    ensures malformed { result ≡ Err AddressFault.Malformed → (es : List ElementValue) → ¬ AreDivided SaysPlace (values_of lexemes.entry) es }
+    ensures more { result ≡ Err AddressFault.Malformed → (more : List ℕ) × (made.new ≡ made.old ++ more) }
 {
-    let mut pieces = Vec::new(alloc);
-    let mut start = 0;
-    loop {
-        let rest = &lexemes[start..];
-        let Some(at) = find_comma(rest) else {
-            write_place(alloc, rest, &mut pieces)?;
-            return Ok(pieces);
-        };
-        let (place, _) = rest.split_at(at);
-        write_followed(alloc, place, &rest[at + 1..], &mut pieces)?;
-        start += at + 1;
+    let mut rest = lexemes;
+    while let Some((place, behind)) = split_place(rest) {
+        write_followed(alloc, place, behind, made)?;
+        rest = behind;
     }
+    write_place(alloc, rest, made)
 }
 
-/// The pieces that a list of addresses is written in, each of them ASCII.
-pub fn rewrite_list(alloc: Global, text: &[u8]) -> Result<Vec<Octets>, AddressFault>
-    ensures layout { IfOk result (λ pieces. AddressesPieces text.now pieces.items) }
+/// Takes away what stands behind so many octets.
+pub(crate) fn cut_back(alloc: Global, made: &mut Octets, len: usize)
+    ensures { made.new ≡ take len made.old }
+{
+    let mut octets = mem::replace(made, Octets::new(alloc)).into_vec();
+    octets.truncate(len);
+    *made = Octets::from_vec(octets);
+}
+
+/// Puts the pieces last that a list of addresses is written in, each of them ASCII, on a line of its own. After want of memory
+/// a front of these lines may have been put.
+pub fn rewrite_list(alloc: Global, text: &[u8], made: &mut Octets) -> Result<(), AddressFault>
+    ensures layout { OnOk result (AddsLines (AddressesPieces text.now) made.old made.new) }
     ensures malformed { result ≡ Err AddressFault.Malformed → (elements : List ElementValue) (comments : List CommentValue)
         → ¬ SaysAddresses text.now elements comments }
+    ensures unchanged { result ≡ Err AddressFault.Malformed → made.new ≡ made.old }
 {
-    let lexemes = read_lexemes(alloc, text)?;
-    write_places(alloc, &lexemes)
+    let marks = mail_marks(alloc, text)?;
+    let len = made.len();
+    match write_places(alloc, Lexemes::new(text, &marks), made) {
+        Ok(()) => Ok(()),
+        Err(AddressFault::Malformed) => {
+            cut_back(alloc, made, len);
+            Err(AddressFault::Malformed)
+        }
+        Err(AddressFault::Memory) => Err(AddressFault::Memory),
+    }
 }

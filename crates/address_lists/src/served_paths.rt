@@ -1,14 +1,16 @@
 //! The rewriting of paths.
-ghost use Rattle.std.specs.Prelude.{ℕ, List, IfOk, IfSome, IfNone};
+ghost use Rattle.std.specs.Prelude.{◌≡◌, ℕ, true, false, List, IfOk, IfSome, IfNone, OnOk};
+ghost use Rattle.encoded_words.specs.Folding.{AddsLines};
 ghost use Rattle.address_grammar.specs.private.Lexemes.{HasMailTokens};
 ghost use Rattle.address_lists.specs.PathPieces.{PathPieces, ServesPath, HasSomeTokens};
-ghost use Rattle.address_grammar.specs.private.Views.{values_of};
+ghost use Rattle.field_tokens.specs.Lexemes.{lexemes_in};
 ghost use Rattle.address_grammar.specs.declared.Address.{Address};
 
 use crate::serving::served;
 use crate::writing::write_comments;
 use crate::written_mailboxes::push_angled;
-use address_grammar::{Address, AddressFault, Lexeme, read_lexemes, read_path};
+use address_grammar::{Address, AddressFault, mail_marks, read_path};
+use field_tokens::{Lexemes, Mark};
 use mail_wire::{Memory, Octets};
 use std::alloc::Global;
 
@@ -25,38 +27,38 @@ fn served_path(alloc: Global, text: &[u8]) -> Result<Option<Address>, Memory>
     }
 }
 
-// The tokens of a text that is known to have some, by their octets.
-fn known_lexemes<'a>(alloc: Global, text: &'a [u8]) -> Result<Vec<Lexeme<'a>>, Memory>
+// The marks of a text that is known to have tokens.
+fn known_marks(alloc: Global, text: &[u8]) -> Result<Vec<Mark>, Memory>
     requires { HasSomeTokens text.now }
-    ensures { IfOk result (λ lexemes. HasMailTokens text.now (values_of lexemes.items)) }
+    ensures { IfOk result (λ marks. HasMailTokens text.now (lexemes_in text.now marks.items)) }
 {
-    match read_lexemes(alloc, text) {
-        Ok(lexemes) => Ok(lexemes),
+    match mail_marks(alloc, text) {
+        Ok(marks) => Ok(marks),
         Err(AddressFault::Malformed) => unreachable!(),
         Err(AddressFault::Memory) => Err(Memory),
     }
 }
 
-// The pieces of a path whose address is served so.
-fn path_pieces(alloc: Global, text: &[u8], served: &Address) -> Result<Vec<Octets>, Memory>
+// Puts the pieces of a path last whose address is served so.
+fn write_path(alloc: Global, text: &[u8], served: &Address, made: &mut Octets) -> Result<(), Memory>
     requires { ServesPath text.now served.now }
-    ensures { IfOk result (λ pieces. PathPieces text.now pieces.items) }
+    ensures { OnOk result (AddsLines (PathPieces text.now) made.old made.new) }
 {
-    let lexemes = known_lexemes(alloc, text)?;
-    let mut pieces = Vec::new(alloc);
-    push_angled(alloc, served, &mut pieces)?;
-    write_comments(alloc, &lexemes, &mut pieces)?;
-    Ok(pieces)
+    let marks = known_marks(alloc, text)?;
+    push_angled(served, made)?;
+    write_comments(alloc, Lexemes::new(text, &marks), made)
 }
 
-/// The pieces of a path. The null path has none, nor has one whose address can't be served.
-pub fn rewrite_path(alloc: Global, text: &[u8]) -> Result<Option<Vec<Octets>>, Memory>
-    ensures some { IfOk result (λ o. IfSome o (λ pieces. PathPieces text.now pieces.items)) }
-    ensures none { IfOk result (λ o. IfNone o ((pieces : List (List ℕ)) → ¬ PathPieces text.now pieces)) }
+/// Puts the pieces of a path last, each on a line of its own, and answers whether there are some: the null path has none, nor
+/// has one whose address can't be served. After want of memory a front of these lines may have been put.
+pub fn rewrite_path(alloc: Global, text: &[u8], made: &mut Octets) -> Result<bool, Memory>
+    ensures some { IfOk result (λ is. is ≡ true → AddsLines (PathPieces text.now) made.old made.new) }
+    ensures none { IfOk result (λ is. is ≡ false → (pieces : List (List ℕ)) → ¬ PathPieces text.now pieces) }
+    ensures unchanged { IfOk result (λ is. is ≡ false → made.new ≡ made.old) }
 {
     let Some(address) = served_path(alloc, text)? else {
-        return Ok(None);
+        return Ok(false);
     };
-    let pieces = path_pieces(alloc, text, &address)?;
-    Ok(Some(pieces))
+    write_path(alloc, text, &address, made)?;
+    Ok(true)
 }

@@ -1,11 +1,8 @@
 //! Addresses as they are served.
-ghost use Rattle.std.specs.Prelude.{◌≡◌, IfOk, OnOk, IsUtf8};
-ghost use Rattle.std.specs.List.{list_all};
-ghost use Rattle.address_lists.specs.ListPieces.{served_domain as served_domain_of, served_address, has_served_address};
-ghost use Rattle.address_lists.specs.private.ListWriting.{AreWritableMailboxes};
-ghost use Rattle.address_grammar.specs.private.ListViews.{mailbox_values};
+ghost use Rattle.std.specs.Prelude.{◌≡◌, is_some, IfOk, IsUtf8};
+ghost use Rattle.address_lists.specs.ListPieces.{served_domain as served_domain_of, served_address};
 
-use address_grammar::{Address, Mailbox};
+use address_grammar::Address;
 use mail_wire::{Memory, Octets, is_ascii};
 use std::alloc::Global;
 
@@ -38,15 +35,18 @@ pub fn served(alloc: Global, address: &Address) -> Result<Option<Address>, Memor
     Ok(Some(Address { local, domain }))
 }
 
-/// Whether each of the addresses can be served.
-pub fn are_plain(alloc: Global, members: &[Mailbox]) -> Result<bool, Memory>
-    requires { AreWritableMailboxes (mailbox_values members.now) }
-    ensures { IfOk result (λ are. are ≡ list_all has_served_address (mailbox_values members.now)) }
+/// Whether an address can be served. The domain of most is ASCII, and then nothing is made to see it.
+pub fn can_be_served(alloc: Global, address: &Address) -> Result<bool, Memory>
+    requires { IsUtf8 address.now.domain }
+    ensures { IfOk result (λ can. can ≡ is_some (served_address address.now)) }
 {
-    for member in members {
-        if served(alloc, &member.address)?.is_none() {
-            return Ok(false);
-        }
+    let local = address.local.as_slice();
+    if !is_ascii(local) {
+        return Ok(false);
     }
-    Ok(true)
+    if is_ascii(address.domain.as_slice()) {
+        return Ok(true);
+    }
+    let domain = served_domain(alloc, address.domain.as_slice())?;
+    Ok(domain.is_some())
 }

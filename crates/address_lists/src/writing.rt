@@ -1,21 +1,22 @@
 //! The writer of phrases.
-ghost use Rattle.std.specs.Prelude.{◌≡◌, ◌++◌, ◌∷◌, [], ℕ, not, true, false, position, IfOk, OnOk};
+ghost use Rattle.std.specs.Prelude.{◌≡◌, ◌||◌, ◌++◌, true, OnOk};
 ghost use Rattle.std.specs.List.{AllByRecursion, list_all};
 ghost use Rattle.mail_wire.specs.Octets.{is_ascii as is_ascii_octet};
-ghost use Rattle.encoded_words.specs.PhraseUnits.{IsUtf8Item, HasPhraseUnits};
-ghost use Rattle.encoded_words.specs.Written.{AreWritable};
-ghost use Rattle.field_tokens.specs.Comments.{AreWritableComments, CommentsPieces, AddsPieces};
-ghost use Rattle.field_tokens.specs.Squeezed.{is_gap as is_gap_kind, octets_of, comments_of};
+ghost use Rattle.encoded_words.specs.Folding.{AddsLines};
+ghost use Rattle.encoded_words.specs.PhraseUnits.{IsUtf8Item};
+ghost use Rattle.field_tokens.specs.Comments.{AreWritableComments, CommentsPieces};
+ghost use Rattle.field_tokens.specs.Lexemes.{value_of, values_of};
+ghost use Rattle.field_tokens.specs.Squeezed.{is_gap as is_gap_kind, is_there, octets_of, comments_of};
 ghost use Rattle.address_grammar.specs.Phrases.{IsPhrase, phrase_items};
-ghost use Rattle.address_lists.specs.PhrasePieces.{UnitsPieces, PhrasePieces, HasCore, PlacePieces};
+ghost use Rattle.address_lists.specs.PhrasePieces.{PhrasePieces, HasCore, PlacePieces};
 ghost use Rattle.address_grammar.specs.private.PhraseSteps.{SkipsGaps, SplitsTrail};
-ghost use Rattle.address_grammar.specs.private.Views.{value_of, values_of};
 ghost use Rattle.address_grammar.specs.private.ListViews.{unit_values};
+ghost use Rattle.address_lists.specs.private.Emptied.{GivesUnits};
 
 use crate::ascii_texts::are_ascii;
-use address_grammar::{Lexeme, is_blank, read_phrase, room_for};
-use encoded_words::{Unit, write_units};
-use field_tokens::{TokenKind, is_comment, write_comment};
+use address_grammar::{PhraseReader, front_before, is_blank};
+use encoded_words::{Unit, push_line, write_units};
+use field_tokens::{Lexeme, Lexemes, TokenKind, is_comment, write_comment};
 use mail_wire::{Memory, Octets};
 use std::alloc::Global;
 
@@ -25,137 +26,146 @@ pub(crate) fn is_gap(lexeme: Lexeme<'_>) -> bool
     matches!(lexeme.kind, TokenKind::Gap)
 }
 
-fn find_start(lexemes: &[Lexeme<'_>]) -> Option<usize>
-    ensures { result ≡ position (λ l. not (is_gap_kind (value_of l).kind)) lexemes.now }
-{
-    lexemes.iter().position(|lexeme| !is_gap(*lexeme))
-}
-
 // What stands behind the gaps in front.
-pub(crate) fn behind_gaps<'a, 'b>(lexemes: &'b [Lexeme<'a>]) -> &'b [Lexeme<'a>]
-    ensures { SkipsGaps (values_of lexemes.now) (values_of result.now) }
+pub(crate) fn behind_gaps<'a, 'b>(lexemes: Lexemes<'a, 'b>) -> Lexemes<'a, 'b>
+    ensures { SkipsGaps (values_of lexemes.entry) (values_of result) }
 {
-    let Some(at) = find_start(lexemes) else {
-        return &[];
-    };
-    &lexemes[at..]
+    let mut rest = lexemes;
+    while let Some((lexeme, behind)) = rest.split_first() {
+        if !is_gap(lexeme) {
+            return rest;
+        }
+        rest = behind;
+    }
+    rest
 }
 
 // What goes to the last token that is neither gap nor comment, and what stands behind it.
-fn split_trail<'a, 'b>(lexemes: &'b [Lexeme<'a>]) -> (&'b [Lexeme<'a>], &'b [Lexeme<'a>])
-    ensures { SplitsTrail (values_of lexemes.now) (values_of result.0.now) (values_of result.1.now) }
+fn split_trail<'a, 'b>(lexemes: Lexemes<'a, 'b>) -> (Lexemes<'a, 'b>, Lexemes<'a, 'b>)
+    ensures { SplitsTrail (values_of lexemes.entry) (values_of result.0) (values_of result.1) }
 {
-    let mut end = lexemes.len();
-    while end > 0 && is_blank(lexemes[end - 1]) {
-        end -= 1;
+    let mut trail = lexemes;
+    let mut rest = lexemes;
+    while let Some((lexeme, behind)) = rest.split_first() {
+        if !is_blank(lexeme) {
+            trail = behind;
+        }
+        rest = behind;
     }
-    lexemes.split_at(end)
+    (front_before(lexemes, trail), trail)
 }
 
 // The phrase from its first token that is no gap to its last word, and the gaps and comments behind it.
-pub(crate) fn split_core<'a, 'b>(lexemes: &'b [Lexeme<'a>]) -> (&'b [Lexeme<'a>], &'b [Lexeme<'a>])
-    requires { IsPhrase (values_of lexemes.now) }
-    ensures { HasCore (values_of lexemes.now) (values_of result.0.now) (values_of result.1.now) }
+pub(crate) fn split_core<'a, 'b>(lexemes: Lexemes<'a, 'b>) -> (Lexemes<'a, 'b>, Lexemes<'a, 'b>)
+    requires { IsPhrase (values_of lexemes) }
+    ensures { HasCore (values_of lexemes.entry) (values_of result.0) (values_of result.1) }
 {
     split_trail(behind_gaps(lexemes))
 }
 
-// The octets of tokens, one behind another.
-pub(crate) fn joined(alloc: Global, lexemes: &[Lexeme<'_>]) -> Result<Octets, Memory>
-    ensures { IfOk result (λ made. made ≡ octets_of (values_of lexemes.now)) }
+// Puts the octets of tokens last.
+fn push_octets(lexemes: Lexemes<'_, '_>, made: &mut Octets) -> Result<(), Memory>
+    ensures { OnOk result (made.new ≡ made.old ++ octets_of (values_of lexemes.entry)) }
 {
-    let mut made = room_for(alloc, lexemes)?;
-    for lexeme in lexemes {
+    let mut rest = lexemes;
+    while let Some((lexeme, behind)) = rest.split_first() {
         made.push_slice(lexeme.octets)?;
+        rest = behind;
     }
-    Ok(made)
+    Ok(())
 }
 
-// Puts the pieces of units last, or an empty quoted string where there are none.
-fn push_units(alloc: Global, units: &[Unit], pieces: &mut Vec<Octets>) -> Result<(), Memory>
-    requires { AreWritable (unit_values units.now) }
-    ensures { OnOk result (AddsPieces (UnitsPieces (unit_values units.now)) pieces.old.items pieces.new.items) }
+// Puts tokens last as one piece.
+pub(crate) fn push_joined(lexemes: Lexemes<'_, '_>, made: &mut Octets) -> Result<(), Memory>
+    ensures { OnOk result (AddsLines (PhrasePieces true (values_of lexemes.entry)) made.old made.new) }
 {
-    if units.is_empty() {
-        let piece = Octets::from_slice(alloc, b"\"\"")?;
-        pieces.push(piece)?;
+    push_line(made, b"")?;
+    push_octets(lexemes, made)
+}
+
+// Whether there are units, here or before.
+fn has_units(before: bool, said: &[Unit]) -> bool
+    ensures { result ≡ (is_there (unit_values said.now) || before) }
+{
+    match said {
+        [_, ..] => true,
+        [] => before,
+    }
+}
+
+// Puts the pieces of what a phrase says last, token by token: no more of it is held than one unit. A phrase that says nothing
+// is an empty quoted string.
+fn write_said(alloc: Global, lexemes: Lexemes<'_, '_>, made: &mut Octets) -> Result<(), Memory>
+    requires phrase { IsPhrase (values_of lexemes) }
+    requires utf8 { AllByRecursion IsUtf8Item (phrase_items (values_of lexemes)) }
+    ensures { OnOk result (AddsLines (GivesUnits (values_of lexemes.entry)) made.old made.new) }
+{
+    let mut reader = PhraseReader::new(alloc);
+    let mut is_said = false;
+    let mut rest = lexemes;
+    while let Some((lexeme, behind)) = rest.split_first() {
+        let said = reader.read(alloc, lexeme, behind)?;
+        is_said = has_units(is_said, &said);
+        write_units(&said, made)?;
+        rest = behind;
+    }
+    let said = reader.finish(alloc)?;
+    write_units(&said, made)?;
+    if has_units(is_said, &said) {
         return Ok(());
     }
-    write_units(alloc, units, pieces)
+    push_line(made, b"\"\"")
 }
 
 // Puts the pieces of the comments among the tokens last.
 pub(crate) fn write_comments(
     alloc: Global,
-    lexemes: &[Lexeme<'_>],
-    pieces: &mut Vec<Octets>,
+    lexemes: Lexemes<'_, '_>,
+    made: &mut Octets,
 ) -> Result<(), Memory>
-    requires { AreWritableComments (comments_of (values_of lexemes.now)) }
-    ensures { OnOk result (AddsPieces (CommentsPieces (comments_of (values_of lexemes.now))) pieces.old.items pieces.new.items) }
+    requires { AreWritableComments (comments_of (values_of lexemes)) }
+    ensures { OnOk result (AddsLines (CommentsPieces (comments_of (values_of lexemes.entry))) made.old made.new) }
 {
-    for lexeme in lexemes {
+    let mut rest = lexemes;
+    while let Some((lexeme, behind)) = rest.split_first() {
         if is_comment(lexeme.kind) {
-            write_comment(alloc, lexeme.octets, pieces)?;
+            write_comment(alloc, lexeme.octets, made)?;
         }
+        rest = behind;
     }
-    Ok(())
-}
-
-// Puts the pieces of what a phrase says last, and those of the comments in it.
-pub(crate) fn push_said(
-    alloc: Global,
-    lexemes: &[Lexeme<'_>],
-    units: &[Unit],
-    pieces: &mut Vec<Octets>,
-) -> Result<(), Memory>
-    requires units { HasPhraseUnits (phrase_items (values_of lexemes.now)) (unit_values units.now) }
-    requires utf8 { AllByRecursion IsUtf8Item (phrase_items (values_of lexemes.now)) }
-    requires comments { AreWritableComments (comments_of (values_of lexemes.now)) }
-    ensures { OnOk result (AddsPieces (PhrasePieces false (values_of lexemes.now)) pieces.old.items pieces.new.items) }
-{
-    push_units(alloc, units, pieces)?;
-    write_comments(alloc, lexemes, pieces)
-}
-
-// Puts tokens last as one piece.
-pub(crate) fn push_joined(
-    alloc: Global,
-    lexemes: &[Lexeme<'_>],
-    pieces: &mut Vec<Octets>,
-) -> Result<(), Memory>
-    ensures { OnOk result (AddsPieces (PhrasePieces true (values_of lexemes.now)) pieces.old.items pieces.new.items) }
-{
-    let whole = joined(alloc, lexemes)?;
-    pieces.push(whole)?;
     Ok(())
 }
 
 // Puts the pieces of a phrase last that ends with its last word.
-fn push_core(alloc: Global, lexemes: &[Lexeme<'_>], pieces: &mut Vec<Octets>) -> Result<(), Memory>
-    requires phrase { IsPhrase (values_of lexemes.now) }
-    requires utf8 { AllByRecursion IsUtf8Item (phrase_items (values_of lexemes.now)) }
-    requires comments { AreWritableComments (comments_of (values_of lexemes.now)) }
-    ensures { OnOk result (AddsPieces (PhrasePieces (list_all is_ascii_octet (octets_of (values_of lexemes.now))) (values_of lexemes.now)) pieces.old.items pieces.new.items) }
+pub(crate) fn push_core(
+    alloc: Global,
+    lexemes: Lexemes<'_, '_>,
+    made: &mut Octets,
+) -> Result<(), Memory>
+    requires phrase { IsPhrase (values_of lexemes) }
+    requires utf8 { AllByRecursion IsUtf8Item (phrase_items (values_of lexemes)) }
+    requires comments { AreWritableComments (comments_of (values_of lexemes)) }
+    ensures { OnOk result (AddsLines (PhrasePieces (list_all is_ascii_octet (octets_of (values_of lexemes.entry))) (values_of lexemes.entry)) made.old made.new) }
 {
     if are_ascii(lexemes) {
-        return push_joined(alloc, lexemes, pieces);
+        return push_joined(lexemes, made);
     }
-    let units = read_phrase(alloc, lexemes)?;
-    push_said(alloc, lexemes, &units, pieces)
+    write_said(alloc, lexemes, made)?;
+    write_comments(alloc, lexemes, made)
 }
 
 /// Puts the pieces of a phrase last, and those of the comments behind it.
 pub fn write_phrase(
     alloc: Global,
-    lexemes: &[Lexeme<'_>],
-    pieces: &mut Vec<Octets>,
+    lexemes: Lexemes<'_, '_>,
+    made: &mut Octets,
 ) -> Result<(), Memory>
-    requires phrase { IsPhrase (values_of lexemes.now) }
-    requires utf8 { AllByRecursion IsUtf8Item (phrase_items (values_of lexemes.now)) }
-    requires comments { AreWritableComments (comments_of (values_of lexemes.now)) }
-    ensures { OnOk result (AddsPieces (PlacePieces (values_of lexemes.now)) pieces.old.items pieces.new.items) }
+    requires phrase { IsPhrase (values_of lexemes) }
+    requires utf8 { AllByRecursion IsUtf8Item (phrase_items (values_of lexemes)) }
+    requires comments { AreWritableComments (comments_of (values_of lexemes)) }
+    ensures { OnOk result (AddsLines (PlacePieces (values_of lexemes.entry)) made.old made.new) }
 {
     let (core, trail) = split_core(lexemes);
-    push_core(alloc, core, pieces)?;
-    write_comments(alloc, trail, pieces)
+    push_core(alloc, core, made)?;
+    write_comments(alloc, trail, made)
 }

@@ -1,106 +1,86 @@
 //! The writer of groups.
-ghost use Rattle.std.specs.Prelude.{◌≡◌, ◌∷◌, ◌++◌, [], IfOk, OnOk};
-ghost use Rattle.field_tokens.specs.Comments.{AddsPieces};
-ghost use Rattle.address_grammar.specs.AddressLists.{IsMailbox, IsGroup};
+ghost use Rattle.std.specs.Prelude.{◌≡◌, true, OnOk};
+ghost use Rattle.encoded_words.specs.Folding.{AddsLines};
+ghost use Rattle.field_tokens.specs.Lexemes.{values_of};
+ghost use Rattle.address_grammar.specs.AddressLists.{ElementValue, IsElement};
+ghost use Rattle.address_grammar.specs.Found.{IsFoundMailbox};
+ghost use Rattle.address_grammar.specs.private.ListSteps.{SplitsName};
 ghost use Rattle.address_lists.specs.ListPieces.{InnerPieces, GroupPieces};
-ghost use Rattle.address_lists.specs.private.ListWriting.{CanBeWritten, IsPlainGroup, IsSomeMailbox, AreSomeMailboxes, AreSomeMembers, GivesMember, GivesMembers};
-ghost use Rattle.address_grammar.specs.private.Views.{values_of};
-ghost use Rattle.address_grammar.specs.private.ListViews.{unit_values, mailbox_value, mailbox_values};
+ghost use Rattle.address_lists.specs.private.ListWriting.{CanBeWritten, IsServedGroup, IsSomeMailbox, AreSomeMailboxes, AreSomeMembers, GivesMember, GivesMembers, GivesElement};
 
-use crate::ascii_texts::{are_ascii, push_comma, write_text};
-use crate::emptied::{group_units, write_emptied};
-use crate::serving::are_plain;
+use crate::ascii_texts::{are_ascii, write_text};
+use crate::emptied::write_not_kept;
+use crate::members::{find_member, is_served_group};
 use crate::writing::{write_comments, write_phrase};
 use crate::written_mailboxes::write_mailbox;
-use address_grammar::{
-    AddressFault, Lexeme, Mailbox, are_blank, find_comma, read_mailbox, split_at_mark,
-};
-use encoded_words::Unit;
+use address_grammar::{AddressFault, FoundMailbox, are_blank, split_at_mark, split_place};
+use encoded_words::push_line;
+use field_tokens::Lexemes;
 use mail_wire::{Memory, Octets};
 use std::alloc::Global;
 
-// The mailbox that tokens are, which are known to be one.
-fn read_member(alloc: Global, lexemes: &[Lexeme<'_>]) -> Result<Mailbox, Memory>
-    requires { IsSomeMailbox (values_of lexemes.now) }
-    ensures { IfOk result (λ m. IsMailbox (values_of lexemes.now) (mailbox_value m)) }
+/// Puts the pieces of a mailbox last, or its text where that is ASCII.
+pub fn write_single(
+    alloc: Global,
+    lexemes: Lexemes<'_, '_>,
+    mailbox: &FoundMailbox,
+    made: &mut Octets,
+) -> Result<(), Memory>
+    requires writable { CanBeWritten (values_of lexemes) }
+    requires mailbox { IsFoundMailbox (values_of lexemes) mailbox.now }
+    ensures { OnOk result (AddsLines (GivesMember (values_of lexemes.entry)) made.old made.new) }
 {
-    match read_mailbox(alloc, lexemes) {
-        Ok(mailbox) => Ok(mailbox),
-        Err(AddressFault::Malformed) => unreachable!(),
-        Err(AddressFault::Memory) => Err(Memory),
+    if are_ascii(lexemes) {
+        return write_text(lexemes, made);
     }
+    write_mailbox(alloc, lexemes, mailbox, made)
 }
 
-// Puts the pieces of a member last.
-fn write_member(
-    alloc: Global,
-    lexemes: &[Lexeme<'_>],
-    pieces: &mut Vec<Octets>,
-) -> Result<(), Memory>
-    requires writable { CanBeWritten (values_of lexemes.now) }
-    requires member { IsSomeMailbox (values_of lexemes.now) }
-    ensures { OnOk result (AddsPieces (GivesMember (values_of lexemes.now)) pieces.old.items pieces.new.items) }
+// Puts the pieces of a member last. One that is ASCII isn't read again.
+fn write_member(alloc: Global, lexemes: Lexemes<'_, '_>, made: &mut Octets) -> Result<(), Memory>
+    requires writable { CanBeWritten (values_of lexemes) }
+    requires member { IsSomeMailbox (values_of lexemes) }
+    ensures { OnOk result (AddsLines (GivesMember (values_of lexemes.entry)) made.old made.new) }
 {
-    let mailbox = read_member(alloc, lexemes)?;
     if are_ascii(lexemes) {
-        return write_text(alloc, lexemes, pieces);
+        return write_text(lexemes, made);
     }
-    write_mailbox(alloc, lexemes, &mailbox, pieces)
+    let mailbox = find_member(alloc, lexemes)?;
+    write_mailbox(alloc, lexemes, &mailbox, made)
 }
 
 // Puts the pieces of members last, with a comma behind each but the last one.
-fn write_members(
-    alloc: Global,
-    lexemes: &[Lexeme<'_>],
-    pieces: &mut Vec<Octets>,
-) -> Result<(), Memory>
-    requires writable { CanBeWritten (values_of lexemes.now) }
-    requires members { AreSomeMailboxes (values_of lexemes.now) }
-    ensures { OnOk result (AddsPieces (GivesMembers (values_of lexemes.now)) pieces.old.items pieces.new.items) }
+fn write_members(alloc: Global, lexemes: Lexemes<'_, '_>, made: &mut Octets) -> Result<(), Memory>
+    requires writable { CanBeWritten (values_of lexemes) }
+    requires members { AreSomeMailboxes (values_of lexemes) }
+    ensures { OnOk result (AddsLines (GivesMembers (values_of lexemes.entry)) made.old made.new) }
 {
-    let mut start = 0;
-    loop {
-        let rest = &lexemes[start..];
-        let Some(at) = find_comma(rest) else {
-            return write_member(alloc, rest, pieces);
-        };
-        let (member, _) = rest.split_at(at);
-        write_member(alloc, member, pieces)?;
-        push_comma(pieces)?;
-        start += at + 1;
+    let mut rest = lexemes;
+    while let Some((member, behind)) = split_place(rest) {
+        write_member(alloc, member, made)?;
+        made.push(b',')?;
+        rest = behind;
     }
+    write_member(alloc, rest, made)
 }
 
 // Puts the pieces of what stands in a group last.
-fn write_inner(
-    alloc: Global,
-    lexemes: &[Lexeme<'_>],
-    pieces: &mut Vec<Octets>,
-) -> Result<(), Memory>
-    requires writable { CanBeWritten (values_of lexemes.now) }
-    requires members { AreSomeMembers (values_of lexemes.now) }
-    ensures { OnOk result (AddsPieces (InnerPieces (values_of lexemes.now)) pieces.old.items pieces.new.items) }
+fn write_inner(alloc: Global, lexemes: Lexemes<'_, '_>, made: &mut Octets) -> Result<(), Memory>
+    requires writable { CanBeWritten (values_of lexemes) }
+    requires members { AreSomeMembers (values_of lexemes) }
+    ensures { OnOk result (AddsLines (InnerPieces (values_of lexemes.entry)) made.old made.new) }
 {
     if are_blank(lexemes) {
-        return write_comments(alloc, lexemes, pieces);
+        return write_comments(alloc, lexemes, made);
     }
-    write_members(alloc, lexemes, pieces)
-}
-
-fn push_mark(alloc: Global, mark: u8, pieces: &mut Vec<Octets>) -> Result<(), Memory>
-    ensures { OnOk result (pieces.new.items ≡ pieces.old.items ++ (mark ∷ []) ∷ []) }
-{
-    let mut piece = Octets::new(alloc);
-    piece.push(mark)?;
-    pieces.push(piece)?;
-    Ok(())
+    write_members(alloc, lexemes, made)
 }
 
 // Puts the pieces of a group last that is kept.
-fn write_kept(alloc: Global, lexemes: &[Lexeme<'_>], pieces: &mut Vec<Octets>) -> Result<(), Memory>
-    requires writable { CanBeWritten (values_of lexemes.now) }
-    requires group { IsPlainGroup (values_of lexemes.now) }
-    ensures { OnOk result (AddsPieces (GroupPieces (values_of lexemes.now)) pieces.old.items pieces.new.items) }
+fn write_kept(alloc: Global, lexemes: Lexemes<'_, '_>, made: &mut Octets) -> Result<(), Memory>
+    requires writable { CanBeWritten (values_of lexemes) }
+    requires group { IsServedGroup (values_of lexemes) true }
+    ensures { OnOk result (AddsLines (GroupPieces (values_of lexemes.entry)) made.old made.new) }
 {
     let Some((name, behind)) = split_at_mark(lexemes, b':') else {
         unreachable!();
@@ -108,28 +88,50 @@ fn write_kept(alloc: Global, lexemes: &[Lexeme<'_>], pieces: &mut Vec<Octets>) -
     let Some((inner, after)) = split_at_mark(behind, b';') else {
         unreachable!();
     };
-    write_phrase(alloc, name, pieces)?;
-    push_mark(alloc, b':', pieces)?;
-    write_inner(alloc, inner, pieces)?;
-    push_mark(alloc, b';', pieces)?;
-    write_comments(alloc, after, pieces)
+    write_phrase(alloc, name, made)?;
+    push_line(made, b":")?;
+    write_inner(alloc, inner, made)?;
+    push_line(made, b";")?;
+    write_comments(alloc, after, made)
 }
 
-/// Puts the pieces of a group last.
+// Puts the pieces of a group last, or its text where that is ASCII.
+fn write_known_group(
+    alloc: Global,
+    lexemes: Lexemes<'_, '_>,
+    is_served: bool,
+    made: &mut Octets,
+) -> Result<(), Memory>
+    requires writable { CanBeWritten (values_of lexemes) }
+    requires group { IsServedGroup (values_of lexemes) is_served }
+    ensures { OnOk result (AddsLines (GivesElement (values_of lexemes.entry)) made.old made.new) }
+{
+    if are_ascii(lexemes) {
+        return write_text(lexemes, made);
+    }
+    if is_served {
+        return write_kept(alloc, lexemes, made);
+    }
+    write_not_kept(alloc, lexemes, made)
+}
+
+/// Puts the pieces of the group of this name last, of what stands behind its colon.
 pub fn write_group(
     alloc: Global,
-    lexemes: &[Lexeme<'_>],
-    name: &[Unit],
-    members: &[Mailbox],
-    pieces: &mut Vec<Octets>,
-) -> Result<(), Memory>
-    requires writable { CanBeWritten (values_of lexemes.now) }
-    requires group { IsGroup (values_of lexemes.now) (unit_values name.now) (mailbox_values members.now) }
-    ensures { OnOk result (AddsPieces (GroupPieces (values_of lexemes.now)) pieces.old.items pieces.new.items) }
+    lexemes: Lexemes<'_, '_>,
+    name: Lexemes<'_, '_>,
+    behind: Lexemes<'_, '_>,
+    made: &mut Octets,
+) -> Result<(), AddressFault>
+    requires writable { CanBeWritten (values_of lexemes) }
+    requires splits { SplitsName (values_of lexemes) (values_of name) (values_of behind) }
+    ensures ok { OnOk result (AddsLines (GivesElement (values_of lexemes.entry)) made.old made.new) }
+    ensures malformed { result ≡ Err AddressFault.Malformed → (e : ElementValue) → ¬ IsElement (values_of lexemes.entry) e }
+    ensures unchanged { result ≡ Err AddressFault.Malformed → made.new ≡ made.old }
 {
-    if are_plain(alloc, members)? {
-        return write_kept(alloc, lexemes, pieces);
-    }
-    let units = group_units(alloc, name, members)?;
-    write_emptied(alloc, &units, lexemes, pieces)
+    let is_served = is_served_group(alloc, name, behind)?;
+    let Ok(()) = write_known_group(alloc, lexemes, is_served, made) else {
+        return Err(AddressFault::Memory);
+    };
+    Ok(())
 }

@@ -4,36 +4,40 @@ use address_lists::{rewrite_list, rewrite_path, rewrite_phrases};
 use mail_wire::Octets;
 use std::test::Fail;
 
-fn are(pieces: &[Octets], wanted: &[&str]) -> bool {
-    if pieces.len() != wanted.len() {
-        return false;
+// A field's name, behind which the pieces are put.
+fn name(rt: &HostRuntime) -> Result<Octets, Fail> {
+    Ok(Octets::from_slice(rt.alloc(), b"To:").map_err(|_| "memory")?)
+}
+
+// Whether these pieces stand behind the name, each on a line of its own.
+fn are(rt: &HostRuntime, made: &Octets, wanted: &[&str]) -> Result<bool, Fail> {
+    let mut lines = name(rt)?;
+    for piece in wanted {
+        lines.push_slice(b"\r\n ").map_err(|_| "memory")?;
+        lines.push_slice(piece.as_bytes()).map_err(|_| "memory")?;
     }
-    for (piece, text) in pieces.iter().zip(wanted) {
-        if piece.as_slice() != text.as_bytes() {
-            return false;
-        }
-    }
-    true
+    Ok(made.as_slice() == lines.as_slice())
 }
 
 // Whether the list of addresses is written so.
 fn list_is(rt: &HostRuntime, text: &str, wanted: &[&str]) -> Result<bool, Fail> {
-    let pieces = rewrite_list(rt.alloc(), text.as_bytes()).map_err(|_| "fault")?;
-    Ok(are(&pieces, wanted))
+    let mut made = name(rt)?;
+    rewrite_list(rt.alloc(), text.as_bytes(), &mut made).map_err(|_| "fault")?;
+    are(rt, &made, wanted)
 }
 
 // Whether the phrases are written so.
 fn phrases_are(rt: &HostRuntime, text: &str, wanted: &[&str]) -> Result<bool, Fail> {
-    let pieces = rewrite_phrases(rt.alloc(), text.as_bytes()).map_err(|_| "fault")?;
-    Ok(are(&pieces, wanted))
+    let mut made = name(rt)?;
+    rewrite_phrases(rt.alloc(), text.as_bytes(), &mut made).map_err(|_| "fault")?;
+    are(rt, &made, wanted)
 }
 
-// Whether the path is written so.
+// Whether the path is written so, or has no pieces.
 fn path_is(rt: &HostRuntime, text: &str, wanted: &[&str]) -> Result<bool, Fail> {
-    match rewrite_path(rt.alloc(), text.as_bytes()).map_err(|_| "memory")? {
-        Some(pieces) => Ok(are(&pieces, wanted)),
-        None => Ok(false),
-    }
+    let mut made = name(rt)?;
+    let is_written = rewrite_path(rt.alloc(), text.as_bytes(), &mut made).map_err(|_| "memory")?;
+    Ok(is_written != wanted.is_empty() && are(rt, &made, wanted)?)
 }
 
 #[test]
@@ -42,6 +46,10 @@ fn mailboxes_are_rewritten(rt: HostRuntime) -> Result<(), Fail> {
         (
             "José <josé@example.com>",
             &["=?UTF-8?B?Sm9zw6kgam9zw6lAZXhhbXBsZS5jb20=?=", ":;"][..],
+        ),
+        (
+            "=?x?Q?a?= <é@b>",
+            &["=?x?Q?a?=", "=?UTF-8?B?IMOpQGI=?=", ":;"][..],
         ),
         (
             "Ann <a@bücher.example>, (x) b@example.com",
@@ -78,6 +86,15 @@ fn groups_are_rewritten(rt: HostRuntime) -> Result<(), Fail> {
             ][..],
         ),
         (
+            "é =?x?Q?a?=: a@b, é@c;",
+            &[
+                "=?UTF-8?B?w6kg?=",
+                "=?x?Q?a?=",
+                "=?UTF-8?B?IGFAYiwgw6lAYw==?=",
+                ":;",
+            ][..],
+        ),
+        (
             "Team: a@bücher.example;",
             &["Team", ":", "a@xn--bcher-kva.example", ";"][..],
         ),
@@ -108,11 +125,13 @@ fn groups_are_rewritten(rt: HostRuntime) -> Result<(), Fail> {
 #[test]
 fn other_lists_are_malformed(rt: HostRuntime) -> Result<(), Fail> {
     for text in ["é", "a@é, b", "é: a@b,;", "a@é <"] {
-        let pieces = rewrite_list(rt.alloc(), text.as_bytes());
+        let mut made = name(&rt)?;
+        let answer = rewrite_list(rt.alloc(), text.as_bytes(), &mut made);
         assert!(rt;
-            pieces.is_err_and(|fault| fault == AddressFault::Malformed),
+            answer.is_err_and(|fault| fault == AddressFault::Malformed),
             "{text}"
         );
+        assert!(rt; are(&rt, &made, &[])?, "{text}");
     }
     Ok(())
 }
@@ -151,11 +170,13 @@ fn phrases_are_rewritten(rt: HostRuntime) -> Result<(), Fail> {
 #[test]
 fn other_phrases_are_malformed(rt: HostRuntime) -> Result<(), Fail> {
     for text in ["é,,b", "", "é,", "a<b>"] {
-        let pieces = rewrite_phrases(rt.alloc(), text.as_bytes());
+        let mut made = name(&rt)?;
+        let answer = rewrite_phrases(rt.alloc(), text.as_bytes(), &mut made);
         assert!(rt;
-            pieces.is_err_and(|fault| fault == AddressFault::Malformed),
+            answer.is_err_and(|fault| fault == AddressFault::Malformed),
             "{text}"
         );
+        assert!(rt; are(&rt, &made, &[])?, "{text}");
     }
     Ok(())
 }
@@ -178,8 +199,7 @@ fn paths_are_served(rt: HostRuntime) -> Result<(), Fail> {
 #[test]
 fn some_paths_have_no_pieces(rt: HostRuntime) -> Result<(), Fail> {
     for text in ["<é@x>", "<>(é)", "a@bücher.example"] {
-        let pieces = rewrite_path(rt.alloc(), text.as_bytes());
-        assert!(rt; pieces.is_ok_and(|answer| answer.is_none()), "{text}");
+        assert!(rt; path_is(&rt, text, &[])?, "{text}");
     }
     Ok(())
 }

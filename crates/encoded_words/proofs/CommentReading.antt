@@ -11,7 +11,7 @@ use Rattle.encoded_words.specs.Words.{UnitValue, Text, SaysWhere}
 use Rattle.encoded_words.specs.Units.{raw_units, merged, with_text, word_unit, begins_encoded, run_text}
 use Rattle.encoded_words.specs.CommentUnits.{TextItem, Plain, Pair, AreTextItems, item_spelling, item_octet, has_backslash, is_white_item, CommentWord, IsCommentWord, word_items, ItemsDivide, AreCommentWords, comment_place, comment_places, HasCommentUnits}
 use Rattle.encoded_words.specs.private.Merging.{IsMerging, TakesWord, done_values, all_units_then, onto}
-use Rattle.encoded_words.specs.private.CommentReading.{BeginsItems, BeginsOctetItem, BeginsBlack, SplitsWord, GivesOctets, TakesCommentWord}
+use Rattle.encoded_words.specs.private.CommentReading.{BeginsItems, BeginsOctetItem, BeginsBlack, SplitsWord, GivesOctets, TakesCommentWord, TakesFirst}
 use Rattle.encoded_words.specs.Written.{has_no_backslash}
 use Rattle.encoded_words.proofs.CommentLemmas.{items_once}
 use Rattle.encoded_words.proofs.PlainItems.{plain_octets, plain_spelling, plain_items, plain_before, plain_no_backslash, plain_white, white_no_backslash}
@@ -166,17 +166,18 @@ abbrev pub behind : List ℕ → Bool → List CommentWord → List UnitValue
 behind run was [] = []
 behind run was (w ∷ ws) = with_text (cond (was && is_some w.says) [] run) (merged (raw_units (comment_places (w ∷ ws))))
 
--- The reader has come so far: whatever words the rest has, they complete the units of the text.
-pub record ReadsComment (text : List ℕ) (m : Merging) (run : List ℕ) (was : Bool) (rest : List ℕ) : Type 0 where
+-- The reader has come so far, and these units were taken away: whatever words the rest has, they complete the units of the
+-- text.
+pub record ReadsComment (text : List ℕ) (taken : List UnitValue) (m : Merging) (run : List ℕ) (was : Bool) (rest : List ℕ) : Type 0 where
   pub stops : Stops is_white rest
   pub units : (ws : List CommentWord) → AreCommentWords ws → AreTextItems (flat_map word_items ws) → rest ≡ spelling (flat_map word_items ws)
-      → HasCommentUnits text (all_units_then m (behind run was ws))
+      → HasCommentUnits text (taken ++ all_units_then m (behind run was ws))
 
 behind_first : (ws : List CommentWord) → behind [] false ws ≡ merged (raw_units (comment_places ws))
 behind_first [] = refl
 behind_first (w ∷ ws) = refl
 
-pub ReadsComment-start : (text lead rest : List ℕ) (m : Merging) → IsSpan is_white text lead rest → IsMerging m [] [] → ReadsComment text m [] false rest
+pub ReadsComment-start : (text lead rest : List ℕ) (m : Merging) → IsSpan is_white text lead rest → IsMerging m [] [] → ReadsComment text [] m [] false rest
 ReadsComment-start text lead rest m span empty = record {
   stops = span.stops;
   units = λ ws are items e. record {
@@ -243,11 +244,15 @@ behind_step w run next was (v ∷ ws) e = ap (with_text (cond (was && is_some w.
     first_encoded v [] = refl
     first_encoded v (w ∷ ws) = refl
 
-pub ReadsComment-step : (text run rest word after next_run next_rest : List ℕ) (old new : Merging) (was encoded : Bool) → ReadsComment text old run was rest → 0 < length rest
-    → SplitsWord rest word after → IsSpan is_white after next_run next_rest → TakesCommentWord old new run was word encoded → ReadsComment text new next_run encoded next_rest
-ReadsComment-step text run rest word after next_run next_rest old new was encoded reads some first second takes = record {
-  stops = second.stops;
+pub ReadsComment-step : (text run rest next_run next_rest : List ℕ) (taken : List UnitValue) (old new : Merging) (was encoded : Bool) → ReadsComment text taken old run was rest → 0 < length rest
+    → TakesFirst old new run was rest next_run encoded next_rest → ReadsComment text taken new next_run encoded next_rest
+ReadsComment-step text run rest next_run next_rest taken old new was encoded reads some one = record {
+  stops = one.white.stops;
   units = λ ws are items e.
+      let after : List ℕ = one.after in
+      let first = one.splits in
+      let second = one.white in
+      let takes = one.takes in
       let w : CommentWord = record { items = first.items; says = takes.says; run = map Plain next_run } in
       let more : List TextItem = map Plain next_run ++ flat_map word_items ws in
       let more_are : AreTextItems more = plain_before next_run (flat_map word_items ws) (white_no_backslash next_run second.passes) items in
@@ -268,6 +273,18 @@ ReadsComment-step text run rest word after next_run next_rest old new was encode
       rw (units, takes.encoded_is, same, ← behind_step w run next_run was ws refl) has;
 }
 
-pub ReadsComment-end : (text run rest : List ℕ) (m end : Merging) (was : Bool) → ReadsComment text m run was rest → length rest ≡ 0
-    → IsMerging end (done_values m ++ with_text m.text.items []) [] → HasCommentUnits text (done_values end)
-ReadsComment-end text run rest m end was reads empty end_is = rw end_is.done_is (reads.units [] tt tt (nil_from_length rest empty))
+pub ReadsComment-end : (text run rest : List ℕ) (taken : List UnitValue) (m end : Merging) (was : Bool) → ReadsComment text taken m run was rest → length rest ≡ 0
+    → IsMerging end (done_values m ++ with_text m.text.items []) [] → HasCommentUnits text (taken ++ done_values end)
+ReadsComment-end text run rest taken m end was reads empty end_is = rw end_is.done_is (reads.units [] tt tt (nil_from_length rest empty))
+
+-- the units that are done are taken away
+pub ReadsComment-taken : (text run rest : List ℕ) (taken : List UnitValue) (old new : Merging) (was : Bool) → ReadsComment text taken old run was rest → IsMerging new [] old.text.items
+    → ReadsComment text (taken ++ done_values old) new run was rest
+ReadsComment-taken text run rest taken old new was reads left = record {
+  stops = reads.stops;
+  units = λ ws are items e.
+      let us : List UnitValue = behind run was ws in
+      let same : (taken ++ done_values old) ++ all_units_then new us ≡ taken ++ all_units_then old us
+      = ap (λ r. (taken ++ done_values old) ++ r) (rw (left.done_is, left.text_is) refl) ∙ append_assoc taken (done_values old) (with_text old.text.items us) in
+      rw same (reads.units ws are items e);
+}

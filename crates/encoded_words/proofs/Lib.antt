@@ -17,6 +17,8 @@ pub mod WrittenUnits
 pub mod Deciding
 pub mod AllUnits
 pub mod WritableUnits
+pub mod LineLemmas
 pub mod AddedUnits
+pub mod CommentsWritten
 pub mod PhraseSources
 pub mod WrittenPieces

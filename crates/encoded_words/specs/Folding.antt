@@ -23,3 +23,13 @@ pub record AddsWordLines (text : List ℕ) (white : ℕ) (old new : List ℕ) : 
   pub words : List (List ℕ)
   pub are_words : AreBWords text words
   pub added : new ≡ old ++ made_body (word_pieces white words)
+
+-- pieces stand on a line each, behind a space
+abbrev pub lines_of : List (List ℕ) → List ℕ
+lines_of pieces = flat_map (λ piece. crlf ++ 32 ∷ piece) pieces
+
+-- new is old and the lines of pieces of which this holds
+pub record AddsLines (P : List (List ℕ) → Type 0) (old new : List ℕ) : Type 0 where
+  pub pieces : List (List ℕ)
+  pub holds : P pieces
+  pub added : new ≡ old ++ lines_of pieces

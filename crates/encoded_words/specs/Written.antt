@@ -3,6 +3,7 @@ use Rattle.std.specs.Prelude.{◌≡◌, ℕ, ◌==◌, Bool, not, List, [], ◌
 use Rattle.std.specs.List.{AllByRecursion, list_all}
 use Rattle.encoded_words.specs.Words.{UnitValue, Text, Opaque, IsEncodedWord}
 use Rattle.encoded_words.specs.Units.{merged}
+use Rattle.encoded_words.specs.CommentUnits.{HasCommentUnits}
 use Rattle.encoded_words.specs.Pieces.{AreBWords}
 
 -- the pieces of one unit
@@ -14,6 +15,10 @@ WritesUnit (Opaque charset octets source) pieces = pieces ≡ source ∷ []
 abbrev pub WriteAll : List UnitValue → List (List ℕ) → Type 0
 WriteAll [] pieces = pieces ≡ []
 WriteAll (u ∷ us) pieces = (first : List (List ℕ)) × (more : List (List ℕ)) × (pieces ≡ first ++ more) × WritesUnit u first × WriteAll us more
+
+-- the pieces of a comment's text
+abbrev pub WritesCommentText : List ℕ → List (List ℕ) → Type 0
+WritesCommentText text pieces = (units : List UnitValue) × HasCommentUnits text units × WriteAll units pieces
 
 -- text touches no text, and none is empty
 abbrev pub AreUnits : List UnitValue → Type 0
@@ -30,9 +35,3 @@ AreWritable us = AllByRecursion IsWritable us
 -- no octet quotes another, so a comment can hold the octets as they are
 abbrev pub has_no_backslash : List ℕ → Bool
 has_no_backslash octets = list_all (λ x. not (x == 92)) octets
-
--- new is old and the pieces of units
-pub record AddsUnits (us : List UnitValue) (old new : List (List ℕ)) : Type 0 where
-  pub pieces : List (List ℕ)
-  pub write : WriteAll us pieces
-  pub added : new ≡ old ++ pieces

@@ -1,15 +1,17 @@
-//! The reader of the units of a comment's text.
-ghost use Rattle.std.specs.Prelude.{◌≡◌, [], map, IfOk, OnOk, IfSome, IfNone};
+//! The units of a comment's text are read, or written as they are read.
+ghost use Rattle.std.specs.Prelude.{◌≡◌, [], map, IfOk, OnOk, IfSome, IfNone, IsUtf8};
 ghost use Rattle.mail_wire.specs.Octets.{is_black};
 ghost use Rattle.mail_wire.specs.Spans.{Stops};
 ghost use Rattle.encoded_words.specs.private.Values.{value_of};
 ghost use Rattle.encoded_words.specs.CommentUnits.{HasCommentUnits};
-ghost use Rattle.encoded_words.specs.private.CommentReading.{BeginsOctetItem, BeginsBlack, SplitsWord, GivesOctets, TakesCommentWord};
-ghost use Rattle.encoded_words.specs.Written.{has_no_backslash as has_no_backslash_of};
+ghost use Rattle.encoded_words.specs.private.CommentReading.{BeginsOctetItem, BeginsBlack, SplitsWord, GivesOctets, TakesCommentWord, TakesFirst};
+ghost use Rattle.encoded_words.specs.Folding.{AddsLines};
+ghost use Rattle.encoded_words.specs.Written.{WritesCommentText, has_no_backslash as has_no_backslash_of};
 
 use crate::Unit;
 use crate::units::Merging;
-use mail_wire::{Memory, is_white, split_white};
+use crate::writing::write_units;
+use mail_wire::{Memory, Octets, is_white, split_white};
 use std::alloc::Global;
 
 // The octet that the first octet or quoted pair gives, and what follows that.
@@ -96,6 +98,23 @@ fn push_word(
     Ok(false)
 }
 
+// Takes the first word, and the run of white before it. Answers the run behind it, whether it is an encoded word, and
+// what is left.
+fn take_word<'a>(
+    alloc: Global,
+    units: &mut Merging,
+    run: &[u8],
+    after_encoded: bool,
+    rest: &'a [u8],
+) -> Result<(&'a [u8], bool, &'a [u8]), Memory>
+    ensures { IfOk result (λ x. TakesFirst units.old units.new run.now after_encoded rest.now x.0.now x.1 x.2.now) }
+{
+    let (word, after) = split_word(rest);
+    let (next_run, next_rest) = split_white(after);
+    let is_encoded = push_word(alloc, units, run, after_encoded, word)?;
+    Ok((next_run, is_encoded, next_rest))
+}
+
 /// The units of what stands in a comment between two parentheses. White at either end says nothing.
 pub fn read_comment(alloc: Global, text: &[u8]) -> Result<Vec<Unit>, Memory>
     ensures { IfOk result (λ units. HasCommentUnits text.now (map value_of units.items)) }
@@ -105,12 +124,44 @@ pub fn read_comment(alloc: Global, text: &[u8]) -> Result<Vec<Unit>, Memory>
     let mut run: &[u8] = &[];
     let mut after_encoded = false;
     while !rest.is_empty() {
-        let (word, after) = split_word(rest);
-        let (next_run, next_rest) = split_white(after);
-        after_encoded = push_word(alloc, &mut units, run, after_encoded, word)?;
+        let (next_run, is_encoded, next_rest) = take_word(
+            alloc,
+            &mut units,
+            run,
+            after_encoded,
+            rest,
+        )?;
         run = next_run;
+        after_encoded = is_encoded;
         rest = next_rest;
     }
     units.end_text(alloc)?;
     Ok(units.into_done())
+}
+
+/// Puts the pieces of what stands in a comment between two parentheses last, each on a line of its own. They are put as
+/// it is read, so no more units are held at a time than one word ends.
+pub fn rewrite_comment(alloc: Global, text: &[u8], made: &mut Octets) -> Result<(), Memory>
+    requires { IsUtf8 text.now }
+    ensures { OnOk result (AddsLines (WritesCommentText text.now) made.old made.new) }
+{
+    let (_, mut rest) = split_white(text);
+    let mut units = Merging::new(alloc);
+    let mut run: &[u8] = &[];
+    let mut after_encoded = false;
+    while !rest.is_empty() {
+        let (next_run, is_encoded, next_rest) = take_word(
+            alloc,
+            &mut units,
+            run,
+            after_encoded,
+            rest,
+        )?;
+        write_units(&units.take_done(alloc), made)?;
+        run = next_run;
+        after_encoded = is_encoded;
+        rest = next_rest;
+    }
+    units.end_text(alloc)?;
+    write_units(&units.into_done(), made)
 }

@@ -10,12 +10,12 @@ mod word;
 mod writing;
 
 pub use b_words::{push_words, write_words};
-pub use comments::read_comment;
+pub use comments::{read_comment, rewrite_comment};
 pub use contexts::read_units;
 use mail_wire::Octets;
 pub use units::{Merging, read_unstructured};
 pub use word::{are_name_octets, hex_value, lower_case, names_text, read_word, split_at_byte};
-pub use writing::write_units;
+pub use writing::{push_line, write_units};
 
 /// A piece of what a text says: text, or octets of a charset that is not read, with the encoded word that they come from.
 #[derive(Drop)]

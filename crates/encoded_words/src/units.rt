@@ -111,6 +111,14 @@ impl Merging {
         }
     }
 
+    /// Takes the units away that are done.
+    pub fn take_done(&mut self, alloc: Global) -> Vec<Unit>
+        ensures units { map value_of result.items ≡ done_values self.old }
+        ensures left { IsMerging self.new [] self.old.text.items }
+    {
+        mem::replace(&mut self.done, Vec::new(alloc))
+    }
+
     /// The units that are done.
     pub fn into_done(self) -> Vec<Unit>
         ensures { result.items ≡ self.done.items }

@@ -1,39 +1,39 @@
 //! The writer of units.
 ghost use Rattle.std.specs.Prelude.{◌≡◌, ◌++◌, ◌∷◌, [], map, OnOk};
 ghost use Rattle.encoded_words.specs.private.Values.{value_of};
-ghost use Rattle.encoded_words.specs.Written.{IsWritable, AreWritable, AddsUnits};
+ghost use Rattle.encoded_words.specs.Folding.{lines_of, AddsLines};
+ghost use Rattle.encoded_words.specs.Written.{WritesUnit, WriteAll, IsWritable, AreWritable};
 
 use crate::Unit;
-use crate::b_words::write_words;
+use crate::b_words::push_words;
 use mail_wire::{Memory, Octets};
-use std::alloc::Global;
 
-fn push_source(alloc: Global, source: &[u8], pieces: &mut Vec<Octets>) -> Result<(), Memory>
-    ensures { OnOk result (pieces.new.items ≡ pieces.old.items ++ source.now ∷ []) }
+/// Puts a piece last, on a line of its own behind a space. After want of memory a front of this line was put.
+pub fn push_line(made: &mut Octets, piece: &[u8]) -> Result<(), Memory>
+    ensures { OnOk result (made.new ≡ made.old ++ lines_of (piece.now ∷ [])) }
 {
-    let piece = Octets::from_slice(alloc, source)?;
-    pieces.push(piece)?;
-    Ok(())
+    made.push_slice(b"\r\n ")?;
+    made.push_slice(piece)
 }
 
-fn push_unit(alloc: Global, unit: &Unit, pieces: &mut Vec<Octets>) -> Result<(), Memory>
+fn push_unit(unit: &Unit, made: &mut Octets) -> Result<(), Memory>
     requires { IsWritable (value_of unit.now) }
-    ensures { OnOk result (AddsUnits (value_of unit.now ∷ []) pieces.old.items pieces.new.items) }
+    ensures { OnOk result (AddsLines (WritesUnit (value_of unit.now)) made.old made.new) }
 {
     match unit {
-        Unit::Text(octets) => write_words(alloc, octets.as_slice(), pieces),
-        Unit::Opaque { source, .. } => push_source(alloc, source.as_slice(), pieces),
+        Unit::Text(octets) => push_words(made, b' ', octets.as_slice()),
+        Unit::Opaque { source, .. } => push_line(made, source.as_slice()),
     }
 }
 
-/// Puts the pieces of units last: each text as its B words, and each opaque unit as the word that it came from. After
-/// want of memory the first of them were put.
-pub fn write_units(alloc: Global, units: &[Unit], pieces: &mut Vec<Octets>) -> Result<(), Memory>
+/// Puts the pieces of units last, each on a line of its own: each text as its B words, and each opaque unit as the word
+/// that it came from. After want of memory a front of these lines was put.
+pub fn write_units(units: &[Unit], made: &mut Octets) -> Result<(), Memory>
     requires { AreWritable (map value_of units.now) }
-    ensures { OnOk result (AddsUnits (map value_of units.now) pieces.old.items pieces.new.items) }
+    ensures { OnOk result (AddsLines (WriteAll (map value_of units.now)) made.old made.new) }
 {
     for unit in units {
-        push_unit(alloc, unit, pieces)?;
+        push_unit(unit, made)?;
     }
     Ok(())
 }

@@ -1,5 +1,6 @@
 //! The units of comments.
-use encoded_words::{Unit, read_comment};
+use encoded_words::{Merging, Unit, push_line, read_comment, rewrite_comment};
+use mail_wire::Octets;
 use std::alloc::Global;
 use std::test::Fail;
 
@@ -67,5 +68,56 @@ fn other_charsets_stay_apart(rt: HostRuntime) -> Result<(), Fail> {
     assert_eq!(rt; charset.as_slice(), b"iso-8859-1".as_slice());
     assert_eq!(rt; octets.as_slice(), b"x".as_slice());
     assert_eq!(rt; source.as_slice(), b"=?ISO-8859-1?Q?x?=".as_slice());
+    Ok(())
+}
+
+// Whether a text is written as these pieces.
+fn writes(alloc: Global, text: &str, wanted: &[&str]) -> Result<bool, Fail> {
+    let mut made = Octets::new(alloc);
+    rewrite_comment(alloc, text.as_bytes(), &mut made).map_err(|_| "memory")?;
+    let mut lines = Octets::new(alloc);
+    for piece in wanted {
+        push_line(&mut lines, piece.as_bytes()).map_err(|_| "memory")?;
+    }
+    Ok(made.as_slice() == lines.as_slice())
+}
+
+#[test]
+fn a_text_is_written_as_it_is_read(rt: HostRuntime) -> Result<(), Fail> {
+    assert!(rt; writes(rt.alloc(), " \t", &[])?);
+    assert!(rt; writes(rt.alloc(), " é ", &["=?UTF-8?B?w6k=?="])?);
+    assert!(rt;
+        writes(
+            rt.alloc(),
+            "=?x?Q?a?= =?x?Q?b?= é =?utf-8?Q?=C3=A9?= =?utf-8?Q?_?= =?x?Q?c?= ",
+            &[
+                "=?x?Q?a?=",
+                "=?x?Q?b?=",
+                "=?UTF-8?B?IMOpIMOpIA==?=",
+                "=?x?Q?c?="
+            ]
+        )?
+    );
+    Ok(())
+}
+
+#[test]
+fn units_that_are_done_are_taken_away(rt: HostRuntime) -> Result<(), Fail> {
+    let alloc = rt.alloc();
+    let mut units = Merging::new(alloc);
+    let is_encoded = units
+        .push_word(alloc, b"", false, b"a")
+        .map_err(|_| "memory")?;
+    assert!(rt; !is_encoded && units.take_done(alloc).is_empty());
+    let is_encoded = units
+        .push_word(alloc, b" ", false, b"=?x?Q?b?=")
+        .map_err(|_| "memory")?;
+    let taken = units.take_done(alloc);
+    let [Unit::Text(octets), Unit::Opaque { source, .. }] = taken.as_slice() else {
+        return Err(Fail::from("other units"));
+    };
+    assert!(rt; is_encoded && octets.as_slice() == b"a ".as_slice());
+    assert_eq!(rt; source.as_slice(), b"=?x?Q?b?=".as_slice());
+    assert!(rt; units.take_done(alloc).is_empty());
     Ok(())
 }

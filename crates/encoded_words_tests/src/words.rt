@@ -1,5 +1,7 @@
 //! Encoded words are read and written.
-use encoded_words::{Unit, push_words, read_unstructured, read_word, write_units, write_words};
+use encoded_words::{
+    Unit, push_line, push_words, read_unstructured, read_word, write_units, write_words,
+};
 use mail_wire::Octets;
 use std::test::Fail;
 
@@ -50,10 +52,10 @@ fn units_are_written(rt: HostRuntime) -> Result<(), Fail> {
     let Ok(units) = read_unstructured(rt.alloc(), text.as_bytes()) else {
         return Err(Fail::from("memory"));
     };
-    let mut pieces = Vec::new(rt.alloc());
-    write_units(rt.alloc(), &units, &mut pieces).map_err(|_| "memory")?;
-    assert_eq!(rt; pieces.len(), 2);
-    assert_eq!(rt; pieces[0].as_slice(), b"=?UTF-8?B?w6kg?=".as_slice());
-    assert_eq!(rt; pieces[1].as_slice(), b"=?x?Q?a?=".as_slice());
+    let mut made = Octets::from_slice(rt.alloc(), b"Subject:").map_err(|_| "memory")?;
+    write_units(&units, &mut made).map_err(|_| "memory")?;
+    push_line(&mut made, b"b").map_err(|_| "memory")?;
+    let lines = b"Subject:\r\n =?UTF-8?B?w6kg?=\r\n =?x?Q?a?=\r\n b";
+    assert_eq!(rt; made.as_slice(), lines.as_slice());
     Ok(())
 }

@@ -73,7 +73,7 @@ core_of (w ∷ ws) = elim (cases_Bool w.is_encoded) [
   | inr plain ↦ let c = core_of ws in core_more w ws c.core c.low c.after plain c.whole c.plain c.ends c.is_low c.stops
 ]
 
-core_ends : (w : Word) (ws core low after : List Word) → BeginsCore (w ∷ ws) → w ∷ ws ≡ core ++ (low ++ after) → EndsHigh core → IsCopied low → BeginsEncoded after
+pub core_ends : (w : Word) (ws core low after : List Word) → BeginsCore (w ∷ ws) → w ∷ ws ≡ core ++ (low ++ after) → EndsHigh core → IsCopied low → BeginsEncoded after
     → (begins_high core ≡ true) × (ends_high core ≡ true)
 core_ends w ws [] [] [] begins whole ends low stops = cc whole
 core_ends w ws [] [] (x ∷ after) begins whole ends low stops =

@@ -7,10 +7,13 @@ pub mod NulLemmas
 pub mod WordLemmas
 pub mod AllWords
 pub mod LineLemmas
+pub mod StretchLemmas
 pub mod SegmentLemmas
 pub mod Writing
+pub mod BodyWriting
 pub mod OneMeaning
 pub mod BlockFields
+pub mod SqueezedTokens
 pub mod PlainReading
 pub mod PlainTextLemmas
 pub mod TypedLemmas

@@ -50,7 +50,7 @@ ArePieces-append : (xs ys : List Piece) → ArePieces xs → ArePieces ys → Ar
 ArePieces-append [] ys a b = b
 ArePieces-append (x ∷ xs) ys a b = (a.0, ArePieces-append xs ys a.1 b)
 
-copied_folded : (ws : List Word) → AreWords ws → IsFolded (copied_octets ws)
+pub copied_folded : (ws : List Word) → AreWords ws → IsFolded (copied_octets ws)
 copied_folded [] are = IsFolded-nil
 copied_folded (w ∷ []) are = IsFolded-plain w.octets (word_no_end w.octets are.0.octets)
 copied_folded (w ∷ v ∷ ws) are =

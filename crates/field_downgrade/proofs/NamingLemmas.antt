@@ -1,5 +1,6 @@
 -- The ASCII Content-Type of an opened message/global is named the type of a message.
-use Rattle.std.proofs.Common.{◌≡◌, ◌⊎◌, inl, inr, ℕ, Bool, true, false, List, ◌∷◌, ◌++◌, get_or, codes, refl, sym, ap, ◌∙◌, subst, arith}
+use Rattle.std.specs.Prelude.{IfOk}
+use Rattle.std.proofs.Common.{◌≡◌, ◌⊎◌, Result, Ok, Err, inl, inr, ℕ, Bool, true, false, List, ◌∷◌, ◌++◌, get_or, codes, refl, sym, ap, ◌∙◌, subst, arith}
 use Rattle.std.specs.List.{list_all}
 use Rattle.std.proofs.lemmas.Bool.{and_parts, both_ways}
 use Rattle.std.proofs.lemmas.List.{append_cancel_left, append_cancel_right}
@@ -18,7 +19,8 @@ use Rattle.field_downgrade.specs.declared.kind.Kind.TheVariants.{Unstructured, A
 use Rattle.field_downgrade.specs.Kinds.{kind_named}
 use Rattle.field_downgrade.specs.GlobalBodies.{ChangesGlobal}
 use Rattle.field_downgrade.specs.Stands.{IsAsciiField, NamesMessage, with_body, Changed, Renamed, IsSameMeaning, Parameters, SaysAs}
-use Rattle.field_downgrade.specs.Message.{IsServedField}
+use Rattle.field_downgrade.specs.Message.{IsServedField, PutsServed}
+use Rattle.field_downgrade.specs.private.Steps.{PutsNamed}
 use Rattle.utf8_fields.proofs.TrimLemmas.{trimmed}
 use Rattle.field_downgrade.proofs.OneMeaning.{HasValue-once}
 use Rattle.field_downgrade.proofs.Rewriting.{IsServed-kept}
@@ -171,3 +173,21 @@ IsServed-ascii true octets is_any ascii = elim (decide_named octets is_any.parts
   | inl n ↦ (n.0, IsServed-named octets n.0 n.1)
   | inr none ↦ (octets, IsServed-kept true octets is_any ascii (λ changed. none changed.0 changed.1))
 ]
+
+-- the answer of the field that was named or wasn't is that of the served field
+pub puts_named : (open_global named : Bool) (raw old new : List ℕ) → IsField raw → list_all is_ascii raw ≡ true → open_global ≡ true → PutsNamed raw named old new → PutsServed open_global raw named old new
+puts_named false named raw old new is_any ascii opened puts = cc opened
+puts_named true true raw old new is_any ascii opened puts = (puts.more, IsServed-named raw puts.more puts.holds, named_differs raw puts.more puts.holds, puts.added)
+puts_named true false raw old new is_any ascii opened puts = (IsServed-kept true raw is_any ascii (λ changed. puts.0 changed.0 changed.1), puts.1)
+
+pub named_served : {E : Type 0} (open_global : Bool) (raw old new : List ℕ) (r : Result Bool E) → IsField raw → list_all is_ascii raw ≡ true → open_global ≡ true → IfOk r (λ named. PutsNamed raw named old new)
+    → IfOk r (λ is_new. PutsServed open_global raw is_new old new)
+named_served open_global raw old new (Ok named) is_any ascii opened puts = puts_named open_global named raw old new is_any ascii opened puts
+named_served open_global raw old new (Err e) is_any ascii opened puts = tt
+
+pub other_type : (raw : List ℕ) (p : FieldParts) → ((f : FieldParts) → HasParts raw f → p ≡ f) → ¬ (kind_named p.name ≡ Params Content) → (made : List ℕ) → ¬ NamesMessage raw made
+other_type raw p once other made names = other (ap (λ (f : FieldParts). kind_named f.name) (once names.f names.is_field.is_field) ∙ names.kind)
+
+pub names_message : (raw : List ℕ) (p : FieldParts) (changed : List ℕ) → HasParts raw p → list_all is_ascii raw ≡ true → kind_named p.name ≡ Params Content → ChangesGlobal p.body changed
+    → NamesMessage raw (field_octets (with_body p changed))
+names_message raw p changed has ascii kind changes = record { f = p; is_field = record { is_field = has; ascii = ascii }; kind = kind; changed = changed; changes = changes; made_is = refl }

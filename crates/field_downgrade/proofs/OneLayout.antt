@@ -33,7 +33,7 @@ use Rattle.field_downgrade.proofs.SegmentLemmas.{EndsHigh, NotEncoded}
 use Rattle.field_downgrade.specs.private.Steps.{BeginsHigh}
 
 -- Words.
-tells_once : (a b : Bool) (octets : List ℕ) → TellsEncoded a octets → TellsEncoded b octets → a ≡ b
+pub tells_once : (a b : Bool) (octets : List ℕ) → TellsEncoded a octets → TellsEncoded b octets → a ≡ b
 tells_once true true octets p q = refl
 tells_once true false octets p q = absurd (q p.0 p.1)
 tells_once false true octets p q = absurd (p q.0 q.1)
@@ -43,15 +43,15 @@ word_first : (xs rest : List ℕ) → 0 < length xs → list_all is_word_octet x
 word_first [] rest some h = absurd (omega arith)
 word_first (x ∷ xs) rest some h = not_from_true (is_word_octet x) (and_parts (is_word_octet x) (list_all is_word_octet xs) h).0
 
-words_first : (ws : List Word) → AreWords ws → Stops is_gap_octet (flat_map word_octets ws)
+pub words_first : (ws : List Word) → AreWords ws → Stops is_gap_octet (flat_map word_octets ws)
 words_first [] are = tt
 words_first (w ∷ ws) are = subst (Stops is_gap_octet) (sym (append_assoc w.octets w.gap (flat_map word_octets ws))) (word_first w.octets (w.gap ++ flat_map word_octets ws) are.0.some are.0.octets)
 
-gap_first : (gap : List ℕ) (ws : List Word) → list_all is_gap_octet gap ≡ true → (gap ≡ [] → ws ≡ []) → Stops is_word_octet (gap ++ flat_map word_octets ws)
+pub gap_first : (gap : List ℕ) (ws : List Word) → list_all is_gap_octet gap ≡ true → (gap ≡ [] → ws ≡ []) → Stops is_word_octet (gap ++ flat_map word_octets ws)
 gap_first [] ws h none = rw (none refl) tt
 gap_first (x ∷ gap) ws h none = not-true (is_word_octet x) (and_parts (is_gap_octet x) (list_all is_gap_octet gap) h).0
 
-gap_none : (w : Word) (ws : List Word) → DividesWords (run_of w) ws → w.gap ≡ [] → ws ≡ []
+pub gap_none : (w : Word) (ws : List Word) → DividesWords (run_of w) ws → w.gap ≡ [] → ws ≡ []
 gap_none w [] divides e = refl
 gap_none w (v ∷ ws) divides e = let none : run_of w ≡ [] = ap unfolded e ∙ unfolded-nil in absurd (omega (arith, ap length none))
 

@@ -29,7 +29,8 @@ use Rattle.field_tokens.proofs.WrittenComments.{CommentsPieces-written}
 use Rattle.field_tokens.proofs.PieceLemmas.{join_two, join_alike, no_pieces, no_comments, comments_groups, pieces_lines}
 use Rattle.field_downgrade.specs.Received.{is_clause_word, starts_clause, is_inner, ClauseTokens, IsClause, clause_tokens, ReceivedParts, semicolon, date_tokens, are_blank_tokens, date_text, IsReceived, Clause, clause_of, date_of, SaysReceived, served_text, clause_with, served_clauses, with_space_before, served_piece, ClausePieces, ClausesPieces, DatePieces, PartsPieces, ReceivedPieces}
 use Rattle.field_downgrade.proofs.ReceivedDivision.{parts_of, parts_are, blanks_inner, before_parts, parts_inner, parts_start}
-use Rattle.field_downgrade.proofs.ReceivedLemmas.{AreRead, read_front, read_rest, read_writable, ReadParts, read_parts, AreSame, IsReceived-once}
+use Rattle.field_downgrade.specs.private.ReceivedSteps.{AreRead}
+use Rattle.field_downgrade.proofs.ReceivedLemmas.{read_front, read_rest, read_writable, ReadParts, read_parts, AreSame, IsReceived-once}
 use Rattle.field_downgrade.proofs.ReceivedRuns.{spaced, IsTokenRun, IsServed, runs_each, spaced_runs, spaced_inner, runs_no_comments, runs_parts, runs_some, served_lower, served_is}
 use Rattle.field_downgrade.proofs.PlainTextLemmas.{join_parts}
 use Rattle.field_downgrade.proofs.PlainReading.{atom_kind}

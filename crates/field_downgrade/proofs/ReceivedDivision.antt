@@ -114,7 +114,7 @@ parts_start t ts e = rw (start_no_semicolon t e, e) refl
 abbrev pub bare : List ClauseTokens → Option (List TokenValue) → ReceivedParts
 bare clauses date = record { front = []; clauses = clauses; date = date }
 
-date_parts : (date : Option (List TokenValue)) → parts_of (date_tokens date) ≡ bare [] date
+pub date_parts : (date : Option (List TokenValue)) → parts_of (date_tokens date) ≡ bare [] date
 date_parts None = refl
 date_parts (Some ts) = refl
 

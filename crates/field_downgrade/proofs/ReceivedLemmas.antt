@@ -15,13 +15,10 @@ use Rattle.field_tokens.proofs.TokenLines.{tokens_lines, comments_are_writable, 
 use Rattle.field_tokens.proofs.CommentValues.{CommentsSay-once, CommentsSay-some, CommentsPieces-once, CommentsPieces-some}
 use Rattle.field_tokens.proofs.DecideTokens.{decide_tokens}
 use Rattle.field_downgrade.specs.Received.{ClauseTokens, clause_tokens, ReceivedParts, date_tokens, are_blank_tokens, semicolon, AreReceivedParts, date_text, IsReceived, Clause, clause_of, date_of, SaysReceived, served_text, served_piece, with_space_before, ClausePieces, ClausesPieces, DatePieces, PartsPieces, ReceivedPieces}
+use Rattle.field_downgrade.specs.private.ReceivedSteps.{AreRead}
 use Rattle.field_downgrade.proofs.ReceivedDivision.{parts_of, parts_are, are_parts_of, AreReceivedParts-once}
 
 -- ---- tokens that stand beside each other
-
--- the tokens of their octets
-abbrev pub AreRead : Style → List TokenValue → Type 0
-AreRead style ts = HasTokenValues style (octets_of ts) ts
 
 pub read_whole : (style : Style) (text : List ℕ) (ts : List TokenValue) → HasTokenValues style text ts → AreRead style ts
 read_whole style text ts has = subst (λ r. HasTokenValues style r ts) (sym (octets_of-tokens style ts text has.are_tokens)) has

@@ -1,75 +1,76 @@
 -- What the code puts are the pieces of a Received field.
-use Rattle.std.proofs.Common.{◌≡◌, ℕ, Bool, true, false, not, ◌&&◌, List, [], ◌∷◌, ◌++◌, Option, refl, sym, ap, ◌∙◌, subst}
+use Rattle.std.proofs.Common.{◌≡◌, ℕ, Bool, true, false, not, List, [], ◌∷◌, ◌++◌, Option, Some, None, refl, sym, ap, ◌∙◌, subst}
 use Rattle.std.proofs.lemmas.Bool.{and_parts, true≢false, not-true}
 use Rattle.std.proofs.lemmas.List.{append_assoc, append-nil}
 use Rattle.std.specs.List.{list_all, flat_map}
 use Rattle.std.specs.Str.{IsUtf8}
 use Rattle.mail_wire.specs.Octets.{is_ascii}
+use Rattle.encoded_words.specs.Folding.{lines_of, AddsLines}
+use Rattle.encoded_words.proofs.LineLemmas.{adds_none, adds_these, adds_both}
 use Rattle.field_tokens.specs.declared.Style.TheVariants.{Mail}
-use Rattle.field_tokens.specs.declared.Token.{Token}
-use Rattle.field_tokens.specs.Tokens.{TokenValue, tokens_from, HasTokens, HasTokenValues, octets_at}
-use Rattle.field_tokens.specs.Squeezed.{is_blank, octets_of, squeezed_text, squeezed_values, comments_of, StandTogether}
-use Rattle.field_tokens.specs.Comments.{CommentsPieces, AddsPieces}
-use Rattle.field_tokens.proofs.Joined.{all_stand}
+use Rattle.field_tokens.specs.Tokens.{TokenValue, HasTokenValues}
+use Rattle.field_tokens.specs.Squeezed.{octets_of, squeezed_values, comments_of}
+use Rattle.field_tokens.specs.Comments.{AreWritableComments, CommentsPieces}
 use Rattle.field_tokens.proofs.TokenLists.{AreTokens-once}
 use Rattle.field_tokens.proofs.TokenLines.{squeezed_line}
-use Rattle.field_tokens.proofs.SqueezedValues.{values_at, squeezed_values-at}
-use Rattle.field_downgrade.specs.Received.{starts_clause, is_semicolon, is_inner, clause_tokens, ReceivedParts, date_tokens, are_blank_tokens, AreReceivedParts, date_text, served_text, served_piece, ClausePieces, DatePieces, ReceivedPieces}
-use Rattle.field_downgrade.specs.private.ReceivedSteps.{token_values, EndsOrBeginsSo, CutsTokens, behind_first, clause_at, WritesClauses}
-use Rattle.field_downgrade.proofs.ReceivedDivision.{put_token, parts_of, is_semicolon-is, before_parts, parts_inner, parts_start, are_parts_of}
-use Rattle.field_downgrade.proofs.ReceivedReading.{values-append, stand_read, stand_front, stand_rest, inner_all, heads}
+use Rattle.field_downgrade.specs.Received.{starts_clause, is_semicolon, is_inner, clause_tokens, ReceivedParts, semicolon, date_tokens, are_blank_tokens, AreReceivedParts, date_text, with_space_before, served_text, served_piece, ClausePieces, DatePieces, ReceivedPieces}
+use Rattle.field_downgrade.specs.private.ReceivedSteps.{AreRead, EndsOrBeginsSo, CutsTokens, CutsDate, clause_at, WritesClauses}
+use Rattle.field_downgrade.proofs.ReceivedDivision.{put_token, parts_of, before_parts, parts_inner, parts_start, date_parts, are_parts_of}
+use Rattle.field_downgrade.proofs.ReceivedLemmas.{read_whole, read_front, read_rest, read_writable}
+use Rattle.field_downgrade.proofs.ReceivedReading.{inner_all, heads}
 
 -- ---- clauses
 
-pub said_utf8 : (text said : List ℕ) (tokens : List Token) → StandTogether text tokens → said ≡ squeezed_text text tokens → IsUtf8 said
-said_utf8 text said tokens s e =
-    let read = stand_read text tokens s in
-    subst IsUtf8 (sym (e ∙ sym (squeezed_values-at text tokens))) (squeezed_line s.style (token_values text tokens) (octets_of (token_values text tokens)) read.are_tokens read.is_line).utf8
+pub said_utf8 : (said : List ℕ) (tokens : List TokenValue) → AreRead Mail tokens → said ≡ squeezed_values tokens → IsUtf8 said
+said_utf8 said tokens read e = subst IsUtf8 (sym e) (squeezed_line Mail tokens (octets_of tokens) read.are_tokens read.is_line).utf8
 
-pub clause_put : (text : List ℕ) (word : Token) (behind : List Token) (name said : List ℕ) (served : Option (List ℕ)) (old mid new : List (List ℕ)) → name ≡ octets_at text word.span → said ≡ squeezed_text text behind
-    → served ≡ served_text name said → mid ≡ old ++ served_piece name served → AddsPieces (CommentsPieces (comments_of (token_values text behind))) mid new
-    → AddsPieces (ClausePieces (clause_at text word behind)) old new
-clause_put text word behind name said served old mid new name_is said_is served_is mid_is a =
-    let values : List ℕ = squeezed_values (token_values text behind) in
-    record {
-      pieces = served_piece name served ++ a.pieces;
-      holds = record {
-        comments = a.pieces;
-        comments_are = a.holds;
-        pieces_are = ap (λ r. served_piece name r ++ a.pieces) served_is ∙ ap (λ r. served_piece name (served_text name r) ++ a.pieces) (said_is ∙ sym (squeezed_values-at text behind))
-            ∙ ap (λ r. served_piece r (served_text r values) ++ a.pieces) name_is;
-      };
-      added = a.added ∙ ap (λ r. r ++ a.pieces) mid_is ∙ append_assoc old (served_piece name served) a.pieces;
-    }
+-- the clause as it is served, and its comments
+pub clause_put : (word : TokenValue) (behind : List TokenValue) (said : List ℕ) (served : Option (List ℕ)) (old mid new : List ℕ) → said ≡ squeezed_values behind → served ≡ served_text word.octets said
+    → mid ≡ old ++ lines_of (served_piece word.octets served) → AddsLines (CommentsPieces (comments_of behind)) mid new → AddsLines (ClausePieces (clause_at word behind)) old new
+clause_put word behind said served old mid new said_is served_is mid_is adds =
+    let first : AddsLines (λ pieces. pieces ≡ served_piece word.octets served) old mid = adds_these (served_piece word.octets served) refl mid_is in
+    let whole : served ≡ served_text word.octets (squeezed_values behind) = served_is ∙ ap (served_text word.octets) said_is in
+    adds_both (λ xs ys p q. record { comments = ys; comments_are = q; pieces_are = ap (λ r. r ++ ys) (p ∙ ap (served_piece word.octets) whole) }) first adds
+
+-- the semicolon with the date, and its comments
+pub date_put : (tokens : List TokenValue) (said old mid new : List ℕ) → said ≡ squeezed_values tokens → mid ≡ old ++ lines_of ((59 ∷ with_space_before said) ∷ []) → AddsLines (CommentsPieces (comments_of tokens)) mid new
+    → AddsLines (DatePieces (Some tokens)) old new
+date_put tokens said old mid new said_is mid_is adds =
+    let piece : List (List ℕ) = (59 ∷ with_space_before said) ∷ [] in
+    let first : AddsLines (λ pieces. pieces ≡ piece) old mid = adds_these piece refl mid_is in
+    adds_both (λ xs ys p q. (ys, q, ap (λ r. r ++ ys) p ∙ ap (λ s. (59 ∷ with_space_before s) ∷ ys) said_is)) first adds
+
+pub no_date_put : (old : List ℕ) → AddsLines (DatePieces None) old old
+no_date_put old = adds_none old refl
 
 -- ---- the parts
 
 -- the tokens of a text, cut at the first semicolon, and what stands before that at the first word that starts a clause
-pub record CutsReceived (text : List ℕ) (found head front clauses date : List Token) : Type 0 where
-  pub has : HasTokens Mail text found
-  pub head_cut : CutsTokens is_semicolon text found head date
-  pub front_cut : CutsTokens starts_clause text head front clauses
+pub record CutsReceived (text : List ℕ) (tokens head front clauses : List TokenValue) (date : Option (List TokenValue)) : Type 0 where
+  pub has : HasTokenValues Mail text tokens
+  pub head_cut : CutsDate tokens head date
+  pub front_cut : CutsTokens starts_clause head front clauses
 
-pub head_stands : (text : List ℕ) (found head date : List Token) → HasTokens Mail text found → CutsTokens is_semicolon text found head date → StandTogether text head
-head_stands text found head date has cut = stand_front text head date (subst (StandTogether text) cut.whole (all_stand Mail text found has))
+cut_whole : (text : List ℕ) (tokens head front clauses : List TokenValue) (date : Option (List TokenValue)) → CutsReceived text tokens head front clauses date → tokens ≡ front ++ (clauses ++ date_tokens date)
+cut_whole text tokens head front clauses date c = c.head_cut.whole ∙ ap (λ r. r ++ date_tokens date) c.front_cut.whole ∙ append_assoc front clauses (date_tokens date)
 
-pub date_stands : (text : List ℕ) (found head date : List Token) → HasTokens Mail text found → CutsTokens is_semicolon text found head date → StandTogether text date
-date_stands text found head date has cut = stand_rest text head date (subst (StandTogether text) cut.whole (all_stand Mail text found has))
+-- the parts are those of their octets
+pub record ReadCuts (front clauses : List TokenValue) (date : Option (List TokenValue)) : Type 0 where
+  pub front_read : AreRead Mail front
+  pub clauses_read : AreRead Mail clauses
+  pub date_read : AreRead Mail (date_tokens date)
 
-pub front_stands : (text : List ℕ) (found head front clauses date : List Token) → CutsReceived text found head front clauses date → StandTogether text front
-front_stands text found head front clauses date c = stand_front text front clauses (subst (StandTogether text) c.front_cut.whole (head_stands text found head date c.has c.head_cut))
+pub read_cuts : (text : List ℕ) (tokens head front clauses : List TokenValue) (date : Option (List TokenValue)) → CutsReceived text tokens head front clauses date → ReadCuts front clauses date
+read_cuts text tokens head front clauses date c =
+    let whole : AreRead Mail (front ++ (clauses ++ date_tokens date)) = subst (AreRead Mail) (cut_whole text tokens head front clauses date c) (read_whole Mail text tokens c.has) in
+    let rest = read_rest Mail front (clauses ++ date_tokens date) whole in
+    record { front_read = read_front Mail front (clauses ++ date_tokens date) whole; clauses_read = read_front Mail clauses (date_tokens date) rest; date_read = read_rest Mail clauses (date_tokens date) rest }
 
-pub clauses_stand : (text : List ℕ) (found head front clauses date : List Token) → CutsReceived text found head front clauses date → StandTogether text clauses
-clauses_stand text found head front clauses date c = stand_rest text front clauses (subst (StandTogether text) c.front_cut.whole (head_stands text found head date c.has c.head_cut))
+pub date_writable : (tokens : List TokenValue) → AreRead Mail (date_tokens (Some tokens)) → AreWritableComments (comments_of tokens)
+date_writable tokens read = read_writable tokens (read_rest Mail (semicolon ∷ []) tokens read)
 
-pub clauses_head : (text : List ℕ) (found head front clauses date : List Token) → CutsReceived text found head front clauses date → list_all (λ t. not (is_semicolon t)) (token_values text clauses) ≡ true
-clauses_head text found head front clauses date c =
-    (heads text front clauses (subst (λ r. list_all (λ t. not (is_semicolon t)) (token_values text r) ≡ true) c.front_cut.whole c.head_cut.before)).1
-
-found_values : (text : List ℕ) (found : List Token) → HasTokens Mail text found → HasTokenValues Mail text (token_values text found)
-found_values text found has =
-    let values : token_values text found ≡ has.values = ap (token_values text) has.placed ∙ values_at Mail text has.values has.are_tokens in
-    subst (HasTokenValues Mail text) (sym values) (record { is_line = has.is_line; are_tokens = has.are_tokens })
+pub clauses_head : (text : List ℕ) (tokens head front clauses : List TokenValue) (date : Option (List TokenValue)) → CutsReceived text tokens head front clauses date → list_all (λ t. not (is_semicolon t)) clauses ≡ true
+clauses_head text tokens head front clauses date c = (heads front clauses (subst (λ r. list_all (λ t. not (is_semicolon t)) r ≡ true) c.front_cut.whole c.head_cut.before)).1
 
 put_date-same : (s : Bool) (t : TokenValue) (ts : List TokenValue) (parts : ReceivedParts) → (put_token false s t ts parts).date ≡ parts.date
 put_date-same true t ts parts = refl
@@ -86,100 +87,82 @@ record HasNoFront (parts : ReceivedParts) (date : Option (List TokenValue)) : Ty
   front : parts.front ≡ []
   date_is : parts.date ≡ date
 
-date_alone : (ds : List TokenValue) → EndsOrBeginsSo is_semicolon ds → HasNoFront (parts_of ds) (behind_first ds)
-date_alone [] begins = record { front = refl; date_is = refl }
-date_alone (d ∷ ds) begins = rw (begins) (record { front = refl; date_is = refl })
-
-rest_parts : (ts ds : List TokenValue) → EndsOrBeginsSo starts_clause ts → list_all (λ t. not (is_semicolon t)) ts ≡ true → EndsOrBeginsSo is_semicolon ds → HasNoFront (parts_of (ts ++ ds)) (behind_first ds)
-rest_parts [] ds starts lacks begins = date_alone ds begins
-rest_parts (t ∷ ts) ds starts lacks begins = record {
-  front = ap (λ (r : ReceivedParts). r.front) (parts_start t (ts ++ ds) starts);
-  date_is = date_behind (t ∷ ts) ds lacks ∙ (date_alone ds begins).date_is;
+rest_parts : (ts : List TokenValue) (date : Option (List TokenValue)) → EndsOrBeginsSo starts_clause ts → list_all (λ t. not (is_semicolon t)) ts ≡ true → HasNoFront (parts_of (ts ++ date_tokens date)) date
+rest_parts [] date starts lacks = record { front = ap (λ (r : ReceivedParts). r.front) (date_parts date); date_is = ap (λ (r : ReceivedParts). r.date) (date_parts date) }
+rest_parts (t ∷ ts) date starts lacks = record {
+  front = ap (λ (r : ReceivedParts). r.front) (parts_start t (ts ++ date_tokens date) starts);
+  date_is = date_behind (t ∷ ts) (date_tokens date) lacks ∙ ap (λ (r : ReceivedParts). r.date) (date_parts date);
 }
 
-cut_whole : (text : List ℕ) (found head front clauses date : List Token) → CutsReceived text found head front clauses date
-    → token_values text found ≡ token_values text front ++ (token_values text clauses ++ token_values text date)
-cut_whole text found head front clauses date c =
-    ap (token_values text) c.head_cut.whole ∙ values-append text head date ∙ ap (λ r. token_values text r ++ token_values text date) c.front_cut.whole
-    ∙ ap (λ r. r ++ token_values text date) (values-append text front clauses) ∙ append_assoc (token_values text front) (token_values text clauses) (token_values text date)
-
 -- what the parts of the text are
-record HasFrontAndDate (text : List ℕ) (found front date : List Token) : Type 0 where
-  front_is : (parts_of (token_values text found)).front ≡ token_values text front
-  date_is : (parts_of (token_values text found)).date ≡ behind_first (token_values text date)
+record HasFrontAndDate (tokens front : List TokenValue) (date : Option (List TokenValue)) : Type 0 where
+  front_is : (parts_of tokens).front ≡ front
+  date_is : (parts_of tokens).date ≡ date
 
-cut_parts : (text : List ℕ) (found head front clauses date : List Token) → CutsReceived text found head front clauses date → HasFrontAndDate text found front date
-cut_parts text found head front clauses date c =
-    let rest : List TokenValue = token_values text clauses ++ token_values text date in
-    let lack = heads text front clauses (subst (λ r. list_all (λ t. not (is_semicolon t)) (token_values text r) ≡ true) c.front_cut.whole c.head_cut.before) in
-    let inner : list_all is_inner (token_values text front) ≡ true = inner_all (token_values text front) c.front_cut.before lack.0 in
-    let behind = rest_parts (token_values text clauses) (token_values text date) c.front_cut.begins lack.1 c.head_cut.begins in
-    let divided : parts_of (token_values text found) ≡ before_parts (token_values text front) (parts_of rest)
-    = ap parts_of (cut_whole text found head front clauses date c) ∙ parts_inner (token_values text front) rest inner in
+cut_parts : (text : List ℕ) (tokens head front clauses : List TokenValue) (date : Option (List TokenValue)) → CutsReceived text tokens head front clauses date → HasFrontAndDate tokens front date
+cut_parts text tokens head front clauses date c =
+    let rest : List TokenValue = clauses ++ date_tokens date in
+    let lack = heads front clauses (subst (λ r. list_all (λ t. not (is_semicolon t)) r ≡ true) c.front_cut.whole c.head_cut.before) in
+    let inner : list_all is_inner front ≡ true = inner_all front c.front_cut.before lack.0 in
+    let behind = rest_parts clauses date c.front_cut.begins lack.1 in
+    let divided : parts_of tokens ≡ before_parts front (parts_of rest) = ap parts_of (cut_whole text tokens head front clauses date c) ∙ parts_inner front rest inner in
     record {
-      front_is = ap (λ (r : ReceivedParts). r.front) divided ∙ ap (λ r. token_values text front ++ r) behind.front ∙ append-nil (token_values text front);
+      front_is = ap (λ (r : ReceivedParts). r.front) divided ∙ ap (λ r. front ++ r) behind.front ∙ append-nil front;
       date_is = ap (λ (r : ReceivedParts). r.date) divided ∙ behind.date_is;
     }
 
 -- ---- texts that are none
 
-same_parts : (text : List ℕ) (found : List Token) (pieces : List (List ℕ)) → HasTokens Mail text found → (p : ReceivedPieces text pieces) → parts_of (token_values text found) ≡ p.parts
-same_parts text found pieces has p =
-    let same : p.tokens ≡ token_values text found = AreTokens-once Mail text p.tokens (token_values text found) p.is_received.has.are_tokens (found_values text found has).are_tokens in
-    are_parts_of (token_values text found) p.parts (subst (λ r. AreReceivedParts r p.parts) same p.is_received.are_parts)
+same_parts : (text : List ℕ) (tokens : List TokenValue) (pieces : List (List ℕ)) → HasTokenValues Mail text tokens → (p : ReceivedPieces text pieces) → parts_of tokens ≡ p.parts
+same_parts text tokens pieces has p =
+    let same : p.tokens ≡ tokens = AreTokens-once Mail text p.tokens tokens p.is_received.has.are_tokens has.are_tokens in
+    are_parts_of tokens p.parts (subst (λ r. AreReceivedParts r p.parts) same p.is_received.are_parts)
 
-pub no_received_tokens : (text : List ℕ) → ((found : List Token) → HasTokens Mail text found → ⊥) → (pieces : List (List ℕ)) → ReceivedPieces text pieces → ⊥
-no_received_tokens text none pieces p = none (tokens_from 0 p.tokens) (record { is_line = p.is_received.has.is_line; values = p.tokens; are_tokens = p.is_received.has.are_tokens; placed = refl })
+pub no_received_tokens : (text : List ℕ) → ((tokens : List TokenValue) → ¬ HasTokenValues Mail text tokens) → (pieces : List (List ℕ)) → ¬ ReceivedPieces text pieces
+no_received_tokens text none pieces p = none p.tokens p.is_received.has
 
-blank_values : (text : List ℕ) (ts : List Token) → list_all (λ (t : Token). is_blank t.kind) ts ≡ are_blank_tokens (token_values text ts)
-blank_values text [] = refl
-blank_values text (t ∷ ts) = ap (λ r. is_blank t.kind && r) (blank_values text ts)
+pub front_not_blank : (text : List ℕ) (tokens head front clauses : List TokenValue) (date : Option (List TokenValue)) → CutsReceived text tokens head front clauses date → are_blank_tokens front ≡ false
+    → (pieces : List (List ℕ)) → ¬ ReceivedPieces text pieces
+front_not_blank text tokens head front clauses date c word pieces p =
+    let parts = cut_parts text tokens head front clauses date c in
+    let front_is : p.parts.front ≡ front = sym (ap (λ (r : ReceivedParts). r.front) (same_parts text tokens pieces c.has p)) ∙ parts.front_is in
+    true≢false (sym p.is_received.are_parts.blank ∙ ap are_blank_tokens front_is ∙ word)
 
-pub front_not_blank : (text : List ℕ) (found head front clauses date : List Token) → CutsReceived text found head front clauses date → list_all (λ (t : Token). is_blank t.kind) front ≡ false
-    → (pieces : List (List ℕ)) → ReceivedPieces text pieces → ⊥
-front_not_blank text found head front clauses date c word pieces p =
-    let parts = cut_parts text found head front clauses date c in
-    let front_is : p.parts.front ≡ token_values text front = sym (ap (λ (r : ReceivedParts). r.front) (same_parts text found pieces c.has p)) ∙ parts.front_is in
-    true≢false (sym p.is_received.are_parts.blank ∙ ap are_blank_tokens front_is ∙ sym (blank_values text front) ∙ word)
-
-pub date_not_ascii : (text said : List ℕ) (found head front clauses date : List Token) → CutsReceived text found head front clauses date → said ≡ date_text (behind_first (token_values text date)) → list_all is_ascii said ≡ false
-    → (pieces : List (List ℕ)) → ReceivedPieces text pieces → ⊥
-date_not_ascii text said found head front clauses date c said_is high pieces p =
-    let parts = cut_parts text found head front clauses date c in
-    let date_is : p.parts.date ≡ behind_first (token_values text date) = sym (ap (λ (r : ReceivedParts). r.date) (same_parts text found pieces c.has p)) ∙ parts.date_is in
+pub date_not_ascii : (text said : List ℕ) (tokens head front clauses : List TokenValue) (date : Option (List TokenValue)) → CutsReceived text tokens head front clauses date → said ≡ date_text date → list_all is_ascii said ≡ false
+    → (pieces : List (List ℕ)) → ¬ ReceivedPieces text pieces
+date_not_ascii text said tokens head front clauses date c said_is high pieces p =
+    let parts = cut_parts text tokens head front clauses date c in
+    let date_is : p.parts.date ≡ date = sym (ap (λ (r : ReceivedParts). r.date) (same_parts text tokens pieces c.has p)) ∙ parts.date_is in
     true≢false (sym p.is_received.ascii ∙ ap (λ r. list_all is_ascii (date_text r)) date_is ∙ ap (list_all is_ascii) (sym said_is) ∙ high)
 
 -- ---- the pieces
 
-date_tokens-first : (ds : List TokenValue) → EndsOrBeginsSo is_semicolon ds → date_tokens (behind_first ds) ≡ ds
-date_tokens-first [] begins = refl
-date_tokens-first (d ∷ ds) begins = ap (λ r. r ∷ ds) (sym (is_semicolon-is d begins))
+abbrev BothPieces : List TokenValue → List TokenValue → List (List ℕ) → Type 0
+BothPieces front clauses pieces = (first more : List (List ℕ)) × (pieces ≡ first ++ more) × CommentsPieces (comments_of front) first × WritesClauses clauses more
 
-pub pieces_put : (text said : List ℕ) (found head front clauses date : List Token) (none first second pieces : List (List ℕ)) → CutsReceived text found head front clauses date
-    → list_all (λ (t : Token). is_blank t.kind) front ≡ true → said ≡ date_text (behind_first (token_values text date)) → list_all is_ascii said ≡ true → none ≡ []
-    → AddsPieces (CommentsPieces (comments_of (token_values text front))) none first → AddsPieces (WritesClauses (token_values text clauses)) first second
-    → AddsPieces (DatePieces (behind_first (token_values text date))) second pieces → ReceivedPieces text pieces
-pieces_put text said found head front clauses date none first second pieces c blank said_is ascii none_is a b d =
-    let written = b.holds in
-    let parts : ReceivedParts = record { front = token_values text front; clauses = written.clauses; date = behind_first (token_values text date) } in
-    let whole : token_values text found ≡ token_values text front ++ (flat_map clause_tokens written.clauses ++ date_tokens (behind_first (token_values text date)))
-    = cut_whole text found head front clauses date c ∙ ap (λ r. token_values text front ++ (r ++ token_values text date)) written.whole
-    ∙ ap (λ r. token_values text front ++ (flat_map clause_tokens written.clauses ++ r)) (sym (date_tokens-first (token_values text date) c.head_cut.begins)) in
+pub pieces_put : (text said : List ℕ) (tokens head front clauses : List TokenValue) (date : Option (List TokenValue)) (old first second new : List ℕ) → CutsReceived text tokens head front clauses date
+    → are_blank_tokens front ≡ true → said ≡ date_text date → list_all is_ascii said ≡ true → AddsLines (CommentsPieces (comments_of front)) old first → AddsLines (WritesClauses clauses) first second
+    → AddsLines (DatePieces date) second new → AddsLines (ReceivedPieces text) old new
+pieces_put text said tokens head front clauses date old first second new c blank said_is ascii a b d =
+    let both : AddsLines (BothPieces front clauses) old second = adds_both (λ xs ys p q. (xs, ys, refl, p, q)) a b in
+    adds_both (λ xs ys p q.
+    let written = p.4 in
+    let parts : ReceivedParts = record { front = front; clauses = written.clauses; date = date } in
     record {
-      tokens = token_values text found;
+      tokens = tokens;
       parts = parts;
       is_received = record {
-        has = found_values text found c.has;
-        are_parts = record { whole = whole; blank = sym (blank_values text front) ∙ blank; are_clauses = written.are_clauses };
+        has = c.has;
+        are_parts = record { whole = cut_whole text tokens head front clauses date c ∙ ap (λ r. front ++ (r ++ date_tokens date)) written.whole; blank = blank; are_clauses = written.are_clauses };
         ascii = ap (list_all is_ascii) (sym said_is) ∙ ascii;
       };
       parts_pieces = record {
-        front = a.pieces;
-        clauses = b.pieces;
-        date = d.pieces;
-        front_are = a.holds;
+        front = p.0;
+        clauses = p.1;
+        date = ys;
+        front_are = p.3;
         clauses_are = written.pieces_are;
-        date_are = d.holds;
-        pieces_are = d.added ∙ ap (λ r. r ++ d.pieces) (b.added ∙ ap (λ r. r ++ b.pieces) (a.added ∙ ap (λ r. r ++ a.pieces) none_is)) ∙ append_assoc a.pieces b.pieces d.pieces;
+        date_are = q;
+        pieces_are = ap (λ r. r ++ ys) p.2 ∙ append_assoc p.0 p.1 ys;
       };
-    }
+    }) both d

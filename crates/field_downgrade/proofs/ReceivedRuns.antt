@@ -25,7 +25,7 @@ use Rattle.field_tokens.proofs.Parts.{BeginsNoGap, EndsNoGap, part_of}
 use Rattle.field_tokens.proofs.SqueezedValues.{AreKept, IsRunOfTokens, runs_of-run, IsPart-runs, kept_split, kept_comments}
 use Rattle.field_tokens.proofs.TokenLines.{squeezed_line}
 use Rattle.field_downgrade.specs.Received.{is_clause_word, is_inner, are_blank_tokens, is_host_word, holds_clause_word, unless_word, served_text}
-use Rattle.field_downgrade.proofs.ReceivedLemmas.{AreRead}
+use Rattle.field_downgrade.specs.private.ReceivedSteps.{AreRead}
 
 -- a space before each of the parts
 abbrev pub spaced : List (List TokenValue) → List TokenValue

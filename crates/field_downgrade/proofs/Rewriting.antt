@@ -1,5 +1,5 @@
 -- The rewriting of an unstructured field: what the made field is.
-use Rattle.std.proofs.Common.{◌≡◌, inl, inr, ℕ, ◌<◌, Bool, Result, Ok, Err, true, false, List, [], ◌∷◌, ◌++◌, length, codes, refl, sym, ap, ◌∙◌, subst, arith}
+use Rattle.std.proofs.Common.{◌≡◌, ◌≢◌, inl, inr, ℕ, ◌<◌, Bool, true, false, List, [], ◌∷◌, ◌++◌, length, codes, refl, sym, ap, ◌∙◌, subst, arith}
 use Rattle.std.proofs.lemmas.List.{append_assoc, length-append}
 use Rattle.std.proofs.lemmas.List.Folds.{list_all-append}
 use Rattle.std.proofs.lemmas.Bool.{both_ways}
@@ -13,10 +13,7 @@ use Rattle.field_downgrade.specs.Layout.{made_of, spaced}
 use Rattle.encoded_words.specs.Folding.{Piece, made_body, word_pieces}
 use Rattle.field_downgrade.specs.private.Steps.{WritesWords, AddsOctets, IsOther, KeepsWords, MakesUnstructured, MakesField, OfUnstructured, OfOther}
 use Rattle.field_downgrade.specs.Stands.{BeginsHyphen, IsHighField, IsChangedType, HasHighLayout, OfWords, OfPieces, Encapsulated, KeptMalformed, Copied, Made, StandsSo, SameMeaning, UnderOtherName, StillMalformed, Stands, Same, Ascii, downgraded_of}
-use Rattle.std.specs.Prelude.{IfOk}
-use Rattle.field_downgrade.specs.declared.field.Rewrite.{Rewrite}
-use Rattle.field_downgrade.specs.private.Views.{made_from}
-use Rattle.field_downgrade.specs.Message.{IsServedField}
+use Rattle.field_downgrade.specs.Message.{IsServedField, PutsServed}
 use Rattle.field_downgrade.proofs.Made.{ArePieces, IsSameMeaning-made, HasParts-made, HasParts-pieces, pieces-ascii, field_ascii, words_are}
 use Rattle.field_downgrade.proofs.NulLemmas.{LackNul, LackNul-spaced, LackNul-words, KeepsNoNul-made, KeepsNoNul-pieces}
 use Rattle.field_downgrade.proofs.KindValues.{PiecesAs-says, PiecesAs-read}
@@ -234,14 +231,12 @@ IsServed-kept o octets is_any ascii fixed = record {
   };
 }
 
-pub Adds-kept : (octets old new : List ℕ) → IsField octets → list_all is_ascii octets ≡ true → new ≡ old ++ octets → AddsOctets (IsServedField false octets) old new
-Adds-kept octets old new is_any ascii new_is = record { more = octets; added = new_is; holds = IsServed-kept false octets is_any ascii (λ no. no) }
+-- a field with an octet above 127 is put last as another one
+pub puts_high : (open_global : Bool) (raw old new : List ℕ) → list_all is_ascii raw ≡ false → AddsOctets (IsServedField open_global raw) old new → PutsServed open_global raw true old new
+puts_high open_global raw old new high adds = (adds.more, adds.holds, not_kept open_global raw adds.more high adds.holds, adds.added)
 
 -- what was put behind nothing is all
-pub Adds-first : (P : List ℕ → Type 0) (old new : List ℕ) → old ≡ [] → AddsOctets P old new → P new
-Adds-first P old new old_is adds = subst P (sym (adds.added ∙ ap (λ xs. xs ++ adds.more) old_is)) adds.holds
-
--- what is served stands for the field
-pub served_stands : {E : Type 0} (open_global : Bool) (raw : List ℕ) (r : Result Rewrite E) → IfOk r (λ rewrite. IsServedField open_global raw (made_from raw rewrite)) → IfOk r (λ rewrite. Stands raw (made_from raw rewrite) open_global)
-served_stands open_global raw (Ok rewrite) is = is.stands
-served_stands open_global raw (Err e) is = tt
+pub first_served : (open_global : Bool) (raw old new : List ℕ) → old ≡ [] → PutsServed open_global raw true old new → IsServedField open_global raw new × (new ≢ raw)
+first_served open_global raw old new none puts =
+    let all : new ≡ puts.0 = puts.3 ∙ ap (λ xs. xs ++ puts.0) none in
+    (subst (IsServedField open_global raw) (sym all) puts.1, λ same. puts.2 (sym all ∙ same))

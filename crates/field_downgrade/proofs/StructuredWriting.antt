@@ -1,42 +1,20 @@
 -- The writer of structured fields.
-use Rattle.std.specs.Prelude.{IfOk, IfNone}
-use Rattle.std.proofs.Common.{◌≡◌, ℕ, Bool, true, false, inl, inr, List, ◌∷◌, ◌++◌, Option, None, Some, Result, Ok, Err, refl, sym, ap, ◌∙◌, subst}
-use Rattle.std.proofs.lemmas.List.{append_assoc, append_cancel_right}
+use Rattle.std.specs.Prelude.{IfOk}
+use Rattle.std.proofs.Common.{◌≡◌, ℕ, Bool, true, false, inl, inr, List, [], ◌∷◌, ◌++◌, length, take, Result, Ok, Err, refl, sym, ap, ◌∙◌, subst}
+use Rattle.std.proofs.lemmas.List.{append_assoc, take_at}
 use Rattle.mail_wire.specs.Lines.{crlf}
-use Rattle.encoded_words.specs.Folding.{made_body, word_pieces}
-use Rattle.encapsulated_fields.specs.Encapsulated.{Encapsulates, downgraded_name}
-use Rattle.utf8_fields.specs.Parts.{FieldParts, HasValue, SplitsEnding, field_octets}
+use Rattle.encoded_words.specs.Folding.{made_body, word_pieces, lines_of, AddsLines}
+use Rattle.utf8_fields.specs.Parts.{FieldParts, HasValue, field_octets}
 use Rattle.field_downgrade.specs.declared.kind.Kind.TheVariants.{Params, Ids, Path, Typed, Plain}
 use Rattle.field_downgrade.specs.declared.kind.Kind.{Kind}
 use Rattle.param_grammar.specs.declared.ParamKind.TheVariants.{Content}
 use Rattle.field_downgrade.specs.Kinds.{kind_named}
 use Rattle.field_downgrade.specs.Layout.{made_of, spaced}
 use Rattle.field_downgrade.specs.Stands.{IsMalformed, SaysAs, PiecesAs, IsKeptAside, ByHyphen, ByIdentifiers, ByNullPath, ByPath, ByType, ByMalformed, OfPieces, Encapsulated, KeptMalformed, downgraded_of, keeps_name}
-use Rattle.field_downgrade.specs.private.Steps.{AddsOctets, AddsWordField, HasNoPieces, IsOther, MakesField, OfOther}
+use Rattle.field_downgrade.specs.private.Steps.{AddsOctets, AddsWordField, HasNoPieces, IsOther, MakesField, OfOther, PutsPieces, WritesWhere}
 use Rattle.field_downgrade.proofs.KindValues.{SaysNothing, HasNoForm, Nothing, OfIds, OfNullPath, OfPath, OfType, no_pieces_why}
 use Rattle.field_downgrade.proofs.StructuredFields.{KeptKind, KeptType, KeptEncoding, kept_kind, kept_structured}
 use Rattle.field_downgrade.proofs.OneMeaning.{HasValue-once}
-
--- the field without the CRLF at its end, and the ending of the original
-pub AddsWordField-encapsulated : (f : FieldParts) (value old field lines ending new : List ℕ) → Encapsulates f.name value field → SplitsEnding field lines ending → new ≡ (old ++ lines) ++ f.ending
-    → AddsWordField (downgraded_of f) value old new
-AddsWordField-encapsulated f value old field lines ending new is splits new_is = record {
-  words = is.words;
-  are_words = is.are_words;
-  added = new_is ∙ append_assoc old lines f.ending ∙ ap (λ r. old ++ r) (ap (λ r. r ++ f.ending) lines_are ∙ append_assoc (downgraded_name f.name) (58 ∷ body) f.ending);
-}
-  where
-    body : List ℕ
-    body = made_body (word_pieces 32 is.words)
-
-    whole : field ≡ (downgraded_name f.name ++ 58 ∷ body) ++ crlf
-    whole = is.spelled ∙ sym (append_assoc (downgraded_name f.name) (58 ∷ body) crlf)
-
-    lines_are : lines ≡ downgraded_name f.name ++ 58 ∷ body
-    lines_are = elim splits.ending_is [
-      | inl e ↦ append_cancel_right lines (downgraded_name f.name ++ 58 ∷ body) crlf (sym (splits.whole ∙ ap (λ r. lines ++ r) e) ∙ whole)
-      | inr none ↦ absurd (none.1 (downgraded_name f.name ++ 58 ∷ body) whole)
-    ]
 
 -- where one value of the body says nothing, the field is malformed
 pub IsMalformed-nothing : (f : FieldParts) (value : List ℕ) → HasValue f.body value → SaysNothing (kind_named f.name) f.name value → IsMalformed f
@@ -86,6 +64,37 @@ Adds-encapsulated open_global f value old new other none keeps has adds = record
   holds = OfOther (downgraded_of f (word_pieces 32 adds.words)) other (Encapsulated value adds.words (aside_why open_global f value other has keeps none) has adds.are_words refl) refl;
 }
 
+-- pieces on lines are the body of the field
+lines_body : (pieces : List (List ℕ)) → lines_of pieces ≡ made_body (spaced pieces)
+lines_body [] = refl
+lines_body (piece ∷ pieces) = ap (λ r. (crlf ++ 32 ∷ piece) ++ r) (lines_body pieces)
+
+pub puts_pieces : (open_global : Bool) (f : FieldParts) (value old start mid new : List ℕ) → start ≡ (old ++ f.name) ++ 58 ∷ [] → WritesWhere true (PiecesAs (kind_named f.name) open_global f.name value) start mid
+    → new ≡ mid ++ f.ending → PutsPieces true open_global f value old new
+puts_pieces open_global f value old start mid new start_is adds new_is =
+    let body : List ℕ = made_body (spaced adds.pieces) in
+    let whole : mid ≡ (old ++ (f.name ++ 58 ∷ [])) ++ body = adds.added ∙ ap (λ r. r ++ lines_of adds.pieces) (start_is ∙ append_assoc old f.name (58 ∷ [])) ∙ ap (λ r. (old ++ (f.name ++ 58 ∷ [])) ++ r) (lines_body adds.pieces) in (
+      adds.pieces,
+      adds.holds,
+      new_is ∙ ap (λ r. r ++ f.ending) whole ∙ append_assoc (old ++ (f.name ++ 58 ∷ [])) body f.ending ∙ append_assoc old (f.name ++ 58 ∷ []) (body ++ f.ending)
+          ∙ ap (λ r. old ++ r) (append_assoc f.name (58 ∷ []) (body ++ f.ending)),
+    )
+
+pub puts_none : (open_global : Bool) (f : FieldParts) (value old start new : List ℕ) → start ≡ (old ++ f.name) ++ 58 ∷ [] → WritesWhere false (PiecesAs (kind_named f.name) open_global f.name value) start new
+    → PutsPieces false open_global f value old new
+puts_none open_global f value old start new start_is none = (none.0, none.1 ∙ start_is ∙ append_assoc old f.name (58 ∷ []))
+
+-- what is put last is taken away again
+pub cut_old : (old more made cut : List ℕ) → made ≡ old ++ more → cut ≡ take (length old) made → cut ≡ old
+cut_old old more made cut made_is cut_is = cut_is ∙ ap (take (length old)) made_is ∙ take_at old more (length old) refl
+
+-- three clauses on a path that is written or not
+pub path_written : {E : Type 0} (P : List (List ℕ) → Type 0) (old new : List ℕ) (r : Result Bool E) → IfOk r (λ is. is ≡ true → AddsLines P old new) → IfOk r (λ is. is ≡ false → (pieces : List (List ℕ)) → ¬ P pieces)
+    → IfOk r (λ is. is ≡ false → new ≡ old) → IfOk r (λ wrote. WritesWhere wrote P old new)
+path_written P old new (Ok true) some none same = some refl
+path_written P old new (Ok false) some none same = (none refl, same refl)
+path_written P old new (Err e) some none same = tt
+
 pub Adds-pieces : (open_global : Bool) (f : FieldParts) (value old new : List ℕ) (pieces : List (List ℕ)) → IsOther f → HasValue f.body value → PiecesAs (kind_named f.name) open_global f.name value pieces
     → new ≡ old ++ field_octets (made_of f (spaced pieces)) → AddsOctets (MakesField open_global f) old new
 Adds-pieces open_global f value old new pieces other has values new_is = record {
@@ -93,9 +102,3 @@ Adds-pieces open_global f value old new pieces other has values new_is = record 
   added = new_is;
   holds = OfOther (made_of f (spaced pieces)) other (OfPieces value pieces has values refl) refl;
 }
-
--- what follows where there is nothing
-pub none_weaker : {A E P Q : Type 0} (r : Result (Option A) E) → (P → Q) → IfOk r (λ o. IfNone o P) → IfOk r (λ o. IfNone o Q)
-none_weaker (Ok None) follows p = follows p
-none_weaker (Ok (Some x)) follows p = tt
-none_weaker (Err e) follows p = tt

@@ -1,5 +1,5 @@
 -- A value is cut, trimmed and read in one way.
-use Rattle.std.proofs.Common.{◌≡◌, ℕ, ◌==◌, ◌<◌, ◌≤◌, inl, inr, Bool, true, false, List, [], ◌∷◌, ◌++◌, length, map, take, drop, Some, None, position, refl, sym, ap, ◌∙◌, subst, arith}
+use Rattle.std.proofs.Common.{◌≡◌, ℕ, ◌==◌, ◌<◌, ◌≤◌, inl, inr, Bool, true, false, List, [], ◌∷◌, ◌++◌, length, map, take, drop, Some, None, position, codes, refl, sym, ap, ◌∙◌, subst, arith}
 use Rattle.std.proofs.lemmas.Bool.{and_parts, and_from, both_ways, cases_lt}
 use Rattle.std.proofs.lemmas.Bool.Decides.{nat_tests}
 use Rattle.std.proofs.lemmas.List.{take_all}
@@ -13,6 +13,9 @@ use Rattle.mail_wire.specs.Octets.{is_white, same_name}
 use Rattle.mail_wire.specs.Spans.{Stops, IsTrimmed}
 use Rattle.mail_wire.proofs.SpanLemmas.{Opposite, span_once, IsSpan-found, IsSpan-whole}
 use Rattle.utf8_fields.proofs.OneValue.{IsTrimmed-once}
+use Rattle.encoded_words.specs.Folding.{lines_of, AddsLines}
+use Rattle.encoded_words.proofs.LineLemmas.{adds_these}
+use Rattle.encapsulated_fields.specs.AddressForms.{xtext_form}
 use Rattle.encapsulated_fields.specs.Xtext.{ReadsAs}
 use Rattle.encapsulated_fields.proofs.XtextLemmas.{ReadsAs-once}
 use Rattle.field_downgrade.specs.Typed.{is_no_semicolon, is_type_octet, utf8_type, CutsType, WritesType, IsTyped, WrittenSays, SaysTyped, TypedPieces}
@@ -142,3 +145,7 @@ pub not-TypedPieces-read : (value written : List ℕ) → IsTyped value utf8_typ
 not-TypedPieces-read value written is none pieces p =
     let same : written ≡ p.says.written = (IsTyped-once value utf8_type utf8_type written p.says.written is p.says.is_typed).1 in
     none p.text (rw (same) p.says.says)
+
+pub typed_written : (value written address old new : List ℕ) → IsTyped value utf8_type written → ReadsAs written address → new ≡ old ++ lines_of ((codes "utf-8; " ++ xtext_form address) ∷ []) → AddsLines (TypedPieces value) old new
+typed_written value written address old new typed reads new_is =
+    adds_these ((codes "utf-8; " ++ xtext_form address) ∷ []) (record { text = address; says = record { written = written; is_typed = typed; says = reads }; pieces_are = refl }) new_is

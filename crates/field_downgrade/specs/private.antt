@@ -3,3 +3,4 @@ pub mod PlainSteps
 pub mod ReceivedSteps
 pub mod Views
 pub mod Steps
+pub mod Stretches

@@ -1,20 +1,19 @@
 //! The rewriting of a field.
-ghost use Rattle.std.specs.Prelude.{◌≡◌, ◌↔◌, ◌++◌, ℕ, List, true, false, IfOk, IfSome, IfNone, OnOk, IsUtf8};
+ghost use Rattle.std.specs.Prelude.{◌≡◌, ◌↔◌, ◌++◌, true, false, IfOk, OnOk, IsUtf8};
 ghost use Rattle.std.specs.List.{list_all};
 ghost use Rattle.mail_wire.specs.Folds.{IsFolded};
 ghost use Rattle.mail_wire.specs.Octets.{is_ascii};
 ghost use Rattle.utf8_fields.specs.Parts.{IsField, field_octets};
-ghost use Rattle.field_downgrade.specs.private.Views.{made_from, IsKeep};
 ghost use Rattle.utf8_fields.specs.private.Views.{parts_value};
-ghost use Rattle.field_downgrade.specs.private.Steps.{AddsOctets, MakesUnstructured};
-ghost use Rattle.field_downgrade.specs.Stands.{HasFieldLayout, NamesMessage, Stands, KeepsLines, with_body};
-ghost use Rattle.field_downgrade.specs.Message.{IsServedField};
+ghost use Rattle.field_downgrade.specs.Message.{IsServedField, PutsServed};
+ghost use Rattle.field_downgrade.specs.Stands.{HasFieldLayout, Stands, KeepsLines, with_body};
+ghost use Rattle.field_downgrade.specs.private.Steps.{AddsOctets, MakesUnstructured, PutsNamed};
+ghost use Rattle.field_downgrade.specs.private.Views.{made_from, IsKeep};
 
 use crate::global_bodies::change_global;
 use crate::kind::{is_type, keeps_words};
-use crate::segments::write_pieces;
+use crate::segments::write_body;
 use crate::structured::push_structured;
-use crate::words::words;
 use mail_wire::{Memory, Octets, is_ascii};
 use std::alloc::Global;
 use utf8_fields::{Parts, split_field, value_of};
@@ -32,10 +31,9 @@ fn push_unstructured(alloc: Global, parts: &Parts<'_>, made: &mut Octets) -> Res
     requires utf8 { IsUtf8 parts.now.body.now }
     ensures { OnOk result (AddsOctets (MakesUnstructured (parts_value parts.now)) made.old made.new) }
 {
-    let words = words(alloc, parts.body)?;
     made.push_slice(parts.name)?;
     made.push(b':')?;
-    write_pieces(alloc, &words, made)?;
+    write_body(alloc, parts.body, made)?;
     made.push_slice(parts.ending)
 }
 
@@ -64,44 +62,46 @@ fn push_with_body(made: &mut Octets, parts: &Parts<'_>, body: &[u8]) -> Result<(
     made.push_slice(parts.ending)
 }
 
-// The ASCII Content-Type of an opened message/global as the one of a message, and nothing where it is another field.
-fn named_message(alloc: Global, raw: &[u8]) -> Result<Option<Octets>, Memory>
+// Puts the ASCII Content-Type of an opened message/global last as the one of a message, and answers whether it is one.
+fn push_named(alloc: Global, raw: &[u8], made: &mut Octets) -> Result<bool, Memory>
     requires field { IsField raw.now }
     requires ascii { list_all is_ascii raw.now ≡ true }
-    ensures some { IfOk result (λ o. IfSome o (NamesMessage raw.now)) }
-    ensures none { IfOk result (λ o. IfNone o ((made : List ℕ) → ¬ NamesMessage raw.now made)) }
+    ensures { IfOk result (λ named. PutsNamed raw.now named made.old made.new) }
 {
     let parts = split_field(raw);
     if !is_type(parts.name) {
-        return Ok(None);
+        return Ok(false);
     }
     let value = value_of(alloc, parts.body)?;
     let Some(body) = change_global(alloc, parts.body, value.as_slice())? else {
-        return Ok(None);
+        return Ok(false);
     };
-    let mut made = Octets::new(alloc);
-    push_with_body(&mut made, &parts, body.as_slice())?;
-    Ok(Some(made))
+    push_with_body(made, &parts, body.as_slice())?;
+    Ok(true)
 }
 
-// Rewrites a field without an octet above 127.
-fn downgrade_ascii(alloc: Global, raw: &[u8], open_global: bool) -> Result<Rewrite, Memory>
-    requires field { IsField raw.now }
-    requires ascii { list_all is_ascii raw.now ≡ true }
-    ensures served { IfOk result (λ r. IsServedField open_global raw.now (made_from raw.now r)) }
-    ensures keep { IfOk result (λ r. IsKeep r ↔ (made_from raw.now r ≡ raw.now)) }
+/// Puts a field of a block last as it is served, where that is another field, and answers whether it is: it is ASCII then. A
+/// Content-Type of an entity that is an opened message/global says `message/rfc822`.
+pub fn push_downgraded(
+    alloc: Global,
+    raw: &[u8],
+    open_global: bool,
+    made: &mut Octets,
+) -> Result<bool, Memory>
+    requires { IsField raw.now }
+    ensures { IfOk result (λ is_new. PutsServed open_global raw.now is_new made.old made.new) }
 {
+    if !is_ascii(raw) {
+        push_high(alloc, raw, open_global, made)?;
+        return Ok(true);
+    }
     if !open_global {
-        return Ok(Rewrite::Keep);
+        return Ok(false);
     }
-    match named_message(alloc, raw)? {
-        Some(made) => Ok(Rewrite::New(made)),
-        None => Ok(Rewrite::Keep),
-    }
+    push_named(alloc, raw, made)
 }
 
-/// Rewrites a field of a block, so that it is ASCII. A Content-Type of an entity that is an opened message/global says
-/// `message/rfc822` then.
+/// Rewrites a field of a block, so that it is ASCII, as `push_downgraded` does.
 pub fn downgrade_field(alloc: Global, raw: &[u8], open_global: bool) -> Result<Rewrite, Memory>
     requires { IsField raw.now }
     ensures layout { IfOk result (λ r. HasFieldLayout open_global raw.now (made_from raw.now r)) }
@@ -110,10 +110,10 @@ pub fn downgrade_field(alloc: Global, raw: &[u8], open_global: bool) -> Result<R
     ensures ascii { IfOk result (λ r. list_all is_ascii (made_from raw.now r) ≡ true) }
     ensures lines { IfOk result (λ r. KeepsLines raw.now (made_from raw.now r)) }
 {
-    if is_ascii(raw) {
-        return downgrade_ascii(alloc, raw, open_global);
-    }
     let mut made = Octets::new(alloc);
-    push_high(alloc, raw, open_global, &mut made)?;
-    Ok(Rewrite::New(made))
+    if push_downgraded(alloc, raw, open_global, &mut made)? {
+        Ok(Rewrite::New(made))
+    } else {
+        Ok(Rewrite::Keep)
+    }
 }

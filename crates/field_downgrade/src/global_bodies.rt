@@ -11,7 +11,8 @@ use mail_wire::{Memory, Octets, is_white};
 use param_2231::find_global;
 use std::alloc::Global;
 
-fn is_line_end(octet: u8) -> bool
+/// Whether an octet is CR or LF.
+pub fn is_line_end(octet: u8) -> bool
     ensures { result ≡ is_line_end_octet octet }
 {
     octet == b'\r' || octet == b'\n'

@@ -9,10 +9,10 @@ mod lines;
 mod plain;
 mod received;
 mod segments;
+mod squeezing;
 mod structured;
 mod typed;
-mod word;
 mod words;
 
-pub use field::{Rewrite, downgrade_field};
+pub use field::{Rewrite, downgrade_field, push_downgraded};
 pub use kind::{Kind, kind_of};

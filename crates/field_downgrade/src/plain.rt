@@ -1,16 +1,17 @@
 //! The rewriting of plain texts with comments.
-ghost use Rattle.std.specs.Prelude.{◌≡◌, ◌++◌, ◌||◌, ℕ, List, filter, length, not, IfOk, IfSome, IfNone, OnOk, IsTrue, ◌↔◌};
-ghost use Rattle.std.specs.List.{list_all};
-ghost use Rattle.field_tokens.specs.Squeezed.{is_blank as is_blank_of, is_atom_kind};
-ghost use Rattle.field_tokens.specs.declared.Token.{Token};
-ghost use Rattle.field_tokens.specs.Comments.{CommentValue, AddsPieces};
-ghost use Rattle.field_tokens.specs.Tokens.{HasTokens};
-ghost use Rattle.field_downgrade.specs.PlainTexts.{style_where as style_of, text_piece, SaysPlain, PlainPieces};
-ghost use Rattle.field_downgrade.specs.private.PlainSteps.{IsOneAtom, GiveTextComments};
+ghost use Rattle.std.specs.Prelude.{◌≡◌, ◌++◌, ◌↔◌, IfOk, OnOk, IsTrue};
+ghost use Rattle.encoded_words.specs.Folding.{lines_of, AddsLines};
+ghost use Rattle.field_tokens.specs.Comments.{AreWritableComments, CommentsPieces};
+ghost use Rattle.field_tokens.specs.Lexemes.{values_of};
+ghost use Rattle.field_tokens.specs.Squeezed.{comments_of, is_atom_kind};
+ghost use Rattle.field_downgrade.specs.PlainTexts.{style_where as style_of, text_piece, PlainPieces};
+ghost use Rattle.field_downgrade.specs.private.PlainSteps.{IsOneAtom};
+ghost use Rattle.field_downgrade.specs.private.Steps.{WritesWhere};
 
-use field_tokens::{
-    Style, Token, TokenKind, is_blank, is_comment, read_tokens, squeezed, write_comment,
-};
+use crate::squeezing::squeezed;
+use address_grammar::are_blank;
+use encoded_words::push_line;
+use field_tokens::{Lexemes, Style, TokenKind, is_blank, is_comment, read_marks, write_comment};
 use mail_wire::{Memory, Octets, is_ascii};
 use std::alloc::Global;
 
@@ -24,94 +25,79 @@ fn style_where(is_encoding: bool) -> Style
     }
 }
 
-fn count_words(tokens: &[Token]) -> usize
-    ensures { result ≡ length (filter (λ (t : Token). not (is_blank_of t.kind)) tokens.now) }
+fn is_atom(kind: TokenKind) -> bool
+    ensures { result ≡ is_atom_kind kind }
 {
-    tokens.iter().filter(|token| !is_blank(token.kind)).count()
-}
-
-fn are_atoms(tokens: &[Token]) -> bool
-    ensures { result ≡ list_all (λ (t : Token). is_blank_of t.kind || is_atom_kind t.kind) tokens.now }
-{
-    tokens.iter().all(|token| is_blank(token.kind) || token.kind == TokenKind::Atom)
+    kind == TokenKind::Atom
 }
 
 // Whether the tokens are one atom with gaps and comments around it.
-fn is_one_atom(tokens: &[Token]) -> bool
-    ensures { IsTrue result ↔ IsOneAtom tokens.now }
+fn is_one_atom(tokens: Lexemes<'_, '_>) -> bool
+    ensures { IsTrue result ↔ IsOneAtom (values_of tokens.entry) }
 {
-    count_words(tokens) == 1 && are_atoms(tokens)
-}
-
-// Puts the pieces of the comments among all tokens of a text last.
-fn write_comments(
-    alloc: Global,
-    style: Style,
-    text: &[u8],
-    tokens: &[Token],
-    pieces: &mut Vec<Octets>,
-) -> Result<(), Memory>
-    requires { HasTokens style text.now tokens.now }
-    ensures { OnOk result (AddsPieces (GiveTextComments style text.now) pieces.old.items pieces.new.items) }
-{
-    let mut rest = text;
-    for token in tokens {
-        let (octets, after) = rest.split_at(token.span.len);
-        if is_comment(token.kind) {
-            write_comment(alloc, octets, pieces)?;
+    let mut rest = tokens;
+    while let Some((token, behind)) = rest.split_first() {
+        if !is_blank(token.kind) {
+            if !is_atom(token.kind) {
+                return false;
+            }
+            return are_blank(behind);
         }
-        rest = after;
+        rest = behind;
     }
-    Ok(())
+    false
 }
 
-fn push_text(pieces: &mut Vec<Octets>, text: Octets) -> Result<(), Memory>
-    ensures { OnOk result (pieces.new.items ≡ pieces.old.items ++ text_piece text) }
-{
-    if !text.is_empty() {
-        pieces.push(text)?;
-    }
-    Ok(())
-}
-
-// The pieces of a text with these tokens.
-fn plain_pieces(
+/// Puts the pieces of the comments among tokens last.
+pub fn write_comments(
     alloc: Global,
-    style: Style,
-    text: &[u8],
-    tokens: &[Token],
-    said: Octets,
-) -> Result<Vec<Octets>, Memory>
-    requires { HasTokens style text.now tokens.now }
-    ensures { IfOk result (λ pieces. AddsPieces (GiveTextComments style text.now) (text_piece said) pieces.items) }
+    tokens: Lexemes<'_, '_>,
+    made: &mut Octets,
+) -> Result<(), Memory>
+    requires { AreWritableComments (comments_of (values_of tokens)) }
+    ensures { OnOk result (AddsLines (CommentsPieces (comments_of (values_of tokens.entry))) made.old made.new) }
 {
-    let mut pieces = Vec::new(alloc);
-    push_text(&mut pieces, said)?;
-    write_comments(alloc, style, text, tokens, &mut pieces)?;
-    Ok(pieces)
+    let mut rest = tokens;
+    while let Some((token, behind)) = rest.split_first() {
+        if is_comment(token.kind) {
+            write_comment(alloc, token.octets, made)?;
+        }
+        rest = behind;
+    }
+    Ok(())
 }
 
-/// The pieces of a text that is ASCII outside comments. An encoding is one atom.
+// Puts a text last on a line of its own, if it is one.
+fn push_text(made: &mut Octets, text: &[u8]) -> Result<(), Memory>
+    ensures { OnOk result (made.new ≡ made.old ++ lines_of (text_piece text.now)) }
+{
+    if text.is_empty() {
+        return Ok(());
+    }
+    push_line(made, text)
+}
+
+/// Puts the pieces of a text last that is ASCII outside comments, and answers whether it is. An encoding is one atom.
 pub fn rewrite_plain(
     alloc: Global,
     is_encoding: bool,
     text: &[u8],
-) -> Result<Option<Vec<Octets>>, Memory>
-    ensures some { IfOk result (λ o. IfSome o (λ pieces. PlainPieces is_encoding text.now pieces.items)) }
-    ensures none { IfOk result (λ o. IfNone o ((said : List ℕ) (comments : List CommentValue)
-        → ¬ SaysPlain is_encoding text.now said comments)) }
+    made: &mut Octets,
+) -> Result<bool, Memory>
+    ensures { IfOk result (λ wrote. WritesWhere wrote (PlainPieces is_encoding text.now) made.old made.new) }
 {
-    let style = style_where(is_encoding);
-    let Some(found) = read_tokens(alloc, style, text)? else {
-        return Ok(None);
+    let Some(marks) = read_marks(alloc, style_where(is_encoding), text)? else {
+        return Ok(false);
     };
-    let said = squeezed(alloc, text, &found)?;
+    let tokens = Lexemes::new(text, &marks);
+    if is_encoding && !is_one_atom(tokens) {
+        return Ok(false);
+    }
+    let said = squeezed(alloc, tokens)?;
     if !is_ascii(said.as_slice()) {
-        return Ok(None);
+        return Ok(false);
     }
-    if is_encoding && !is_one_atom(&found) {
-        return Ok(None);
-    }
-    let pieces = plain_pieces(alloc, style, text, &found, said)?;
-    Ok(Some(pieces))
+    push_text(made, said.as_slice())?;
+    write_comments(alloc, tokens, made)?;
+    Ok(true)
 }

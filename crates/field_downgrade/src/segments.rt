@@ -1,15 +1,18 @@
 //! The cores of a body, and what is copied between them.
-ghost use Rattle.std.specs.Prelude.{◌≡◌, ◌++◌, ◌<◌, ℕ, true, not, length, OnOk, IfOk, IsUtf8};
+ghost use Rattle.std.specs.Prelude.{◌≡◌, ◌++◌, [], not, OnOk, IfOk, IsTrue, IsUtf8};
+ghost use Rattle.std.specs.List.{list_all};
+ghost use Rattle.mail_wire.specs.Folds.{IsFolded, unfolded};
+ghost use Rattle.mail_wire.specs.Octets.{is_line_end as is_line_end_octet};
 ghost use Rattle.encoded_words.specs.Folding.{AddsWordLines};
-ghost use Rattle.field_downgrade.specs.Words.{AreWords, AreUtf8, plain_text};
-ghost use Rattle.field_downgrade.specs.Layout.{side_of, first_side, last_side, CutsLeft, CutsRight};
-ghost use Rattle.field_downgrade.specs.private.Steps.{NeedsRun, SplitsCopied, SplitsCore, BeginsCore, CanWrite, WritesSegment, WritesWords};
-ghost use Rattle.field_downgrade.specs.private.Views.{word_of, word_values};
+ghost use Rattle.field_downgrade.specs.Layout.{CutsLeft, CutsRight};
+ghost use Rattle.field_downgrade.specs.private.Steps.{NeedsRun};
+ghost use Rattle.field_downgrade.specs.private.Stretches.{CanWriteStretches, WritesStretches, WritesUnstructuredBody};
 
-use crate::lines::{push_copied_line, push_last_run, push_plain};
-use crate::word::Word;
+use crate::global_bodies::is_line_end;
+use crate::lines::push_copied_line;
+use crate::words::{Stretch, split_core, split_gap, split_low};
 use encoded_words::push_words;
-use mail_wire::{Memory, Octets};
+use mail_wire::{Memory, Octets, push_unfolded, unfold};
 use std::alloc::Global;
 
 /// What stands beside a core: an end of the value, an encoded word, or another word.
@@ -18,34 +21,6 @@ pub enum Side {
     Edge,
     Encoded,
     Plain,
-}
-
-fn side_of(word: &Word) -> Side
-    ensures { result ≡ side_of (word_of word.now) }
-{
-    if word.is_encoded {
-        Side::Encoded
-    } else {
-        Side::Plain
-    }
-}
-
-fn first_side(words: &[Word]) -> Side
-    ensures { result ≡ first_side (word_values words.now) }
-{
-    match words {
-        [first, ..] => side_of(first),
-        [] => Side::Edge,
-    }
-}
-
-fn last_side(words: &[Word]) -> Side
-    ensures { result ≡ last_side (word_values words.now) }
-{
-    match words {
-        [.., last] => side_of(last),
-        [] => Side::Edge,
-    }
 }
 
 // The white octet before a core's first B word, and the part of the run before the core that goes into its text.
@@ -78,104 +53,103 @@ fn cut_right(side: Side, run: &[u8]) -> (&[u8], u8)
     }
 }
 
-// The words before the first one with an octet above 127, and the others.
-fn split_copied<'w, 'a>(words: &'w [Word<'a>]) -> (&'w [Word<'a>], &'w [Word<'a>])
-    ensures { SplitsCopied (word_values words.now) (word_values result.0.now) (word_values result.1.now) }
+fn has_no_line_end(octets: &[u8]) -> bool
+    ensures { result ≡ list_all (λ x. not (is_line_end_octet x)) octets.now }
 {
-    let mut len = 0;
-    while len < words.len() && !words[len].is_high {
-        len += 1;
-    }
-    words.split_at(len)
+    octets.iter().all(|octet| !is_line_end(*octet))
 }
 
-// The core that comes first, and the words behind it.
-fn split_core<'w, 'a>(words: &'w [Word<'a>]) -> (&'w [Word<'a>], &'w [Word<'a>])
-    requires some { 0 < length words.now }
-    requires begins { BeginsCore (word_values words.now) }
-    ensures { SplitsCore (word_values words.now) (word_values result.0.now) (word_values result.1.now) }
+// Whether a core is the text of its B words.
+fn is_whole_text(left: &[u8], core: &[u8], right: &[u8]) -> bool
+    ensures { IsTrue result → (left.now ++ unfolded core.now) ++ right.now ≡ core.now }
 {
-    let mut end = 0;
-    let mut at = 0;
-    while at < words.len() && !words[at].is_encoded {
-        let is_high = words[at].is_high;
-        at += 1;
-        if is_high {
-            end = at;
-        }
+    match (left, right) {
+        ([], []) => has_no_line_end(core),
+        _ => false,
     }
-    words.split_at(end)
 }
 
-// Adds the lines of a core's B words. Its text has these parts of the runs beside it.
+// No octets, and room for so many.
+fn room_for(alloc: Global, count: usize) -> Result<Octets, Memory>
+    ensures { IfOk result (λ made. made ≡ []) }
+{
+    Ok(Octets::from_vec(Vec::with_capacity(alloc, count)?))
+}
+
+// Puts the lines of a core's B words last. Its text has these parts of the runs beside it.
 fn push_joined(
     alloc: Global,
     made: &mut Octets,
     white: u8,
     left: &[u8],
-    core: &[Word],
+    core: &[u8],
     right: &[u8],
 ) -> Result<(), Memory>
-    requires { IsUtf8 ((left.now ++ plain_text (word_values core.now)) ++ right.now) }
-    ensures { OnOk result (AddsWordLines ((left.now ++ plain_text (word_values core.now)) ++ right.now) white made.old made.new) }
+    requires { IsUtf8 ((left.now ++ unfolded core.now) ++ right.now) }
+    ensures { OnOk result (AddsWordLines ((left.now ++ unfolded core.now) ++ right.now) white made.old made.new) }
 {
-    let mut text = Octets::from_slice(alloc, left)?;
-    push_plain(&mut text, core)?;
+    let count = left
+        .len()
+        .saturating_add(core.len())
+        .saturating_add(right.len());
+    let mut text = room_for(alloc, count)?;
+    text.push_slice(left)?;
+    push_unfolded(&mut text, core)?;
     text.push_slice(right)?;
     push_words(made, white, text.as_slice())
 }
 
-// The same. A word by itself is encoded where it stands.
+// The same. A core that is the whole text is encoded where it stands.
 fn push_core(
     alloc: Global,
     made: &mut Octets,
     white: u8,
     left: &[u8],
-    core: &[Word],
+    core: &[u8],
     right: &[u8],
 ) -> Result<(), Memory>
-    requires { IsUtf8 ((left.now ++ plain_text (word_values core.now)) ++ right.now) }
-    ensures { OnOk result (AddsWordLines ((left.now ++ plain_text (word_values core.now)) ++ right.now) white made.old made.new) }
+    requires { IsUtf8 ((left.now ++ unfolded core.now) ++ right.now) }
+    ensures { OnOk result (AddsWordLines ((left.now ++ unfolded core.now) ++ right.now) white made.old made.new) }
 {
-    match (left, core, right) {
-        ([], [word], []) => push_words(made, white, word.octets),
-        _ => push_joined(alloc, made, white, left, core, right),
+    if is_whole_text(left, core, right) {
+        push_words(made, white, core)
+    } else {
+        push_joined(alloc, made, white, left, core, right)
     }
 }
 
-// Adds the pieces of a core, and of the words behind it that are copied.
+// Puts the pieces of a core last, and of the words behind it that are copied.
 fn write_segment(
     alloc: Global,
-    before: &[Word],
-    core: &[Word],
-    copied: &[Word],
+    before: &Stretch<'_>,
+    core: &Stretch<'_>,
+    copied: &Stretch<'_>,
     made: &mut Octets,
 ) -> Result<(), Memory>
-    requires { CanWrite (word_values before.now) (word_values core.now) (word_values copied.now) }
-    ensures { OnOk result (WritesSegment (word_values before.now) (word_values core.now) (word_values copied.now) made.old made.new) }
+    requires { CanWriteStretches before.now core.now copied.now }
+    ensures { OnOk result (WritesStretches before.now core.now copied.now made.old made.new) }
 {
-    let mut left_run = Octets::new(alloc);
-    push_last_run(&mut left_run, before)?;
-    let (white, left) = cut_left(last_side(before), left_run.as_slice());
-    let mut right_run = Octets::new(alloc);
-    push_last_run(&mut right_run, core)?;
-    let (right, next) = cut_right(first_side(copied), right_run.as_slice());
-    push_core(alloc, made, white, left, core, right)?;
-    push_copied_line(made, next, copied)
+    let left_run = unfold(alloc, before.gap)?;
+    let (white, left) = cut_left(before.last, left_run.as_slice());
+    let right_run = unfold(alloc, core.gap)?;
+    let (right, next) = cut_right(copied.first, right_run.as_slice());
+    push_core(alloc, made, white, left, core.octets, right)?;
+    push_copied_line(made, next, copied.octets)
 }
 
-/// Adds the lines of an unstructured value of these words.
-pub fn write_pieces(alloc: Global, words: &[Word], made: &mut Octets) -> Result<(), Memory>
-    requires words { AreWords (word_values words.now) }
-    requires utf8 { AreUtf8 (word_values words.now) }
-    ensures { OnOk result (WritesWords (word_values words.now) made.old made.new) }
+/// Puts the lines of an unstructured body's words last.
+pub fn write_body(alloc: Global, body: &[u8], made: &mut Octets) -> Result<(), Memory>
+    requires folded { IsFolded body.now }
+    requires utf8 { IsUtf8 body.now }
+    ensures { OnOk result (WritesUnstructuredBody body.now made.old made.new) }
 {
-    let (mut copied, mut rest) = split_copied(words);
-    push_copied_line(made, b' ', copied)?;
+    let (_, words) = split_gap(body);
+    let (mut copied, mut rest) = split_low(alloc, words)?;
+    push_copied_line(made, b' ', copied.octets)?;
     while !rest.is_empty() {
-        let (core, behind) = split_core(rest);
-        let (next_copied, next) = split_copied(behind);
-        write_segment(alloc, copied, core, next_copied, made)?;
+        let (core, behind) = split_core(alloc, rest)?;
+        let (next_copied, next) = split_low(alloc, behind)?;
+        write_segment(alloc, &copied, &core, &next_copied, made)?;
         copied = next_copied;
         rest = next;
     }

@@ -1,10 +1,13 @@
 //! The rewriting of addresses behind their type.
-ghost use Rattle.std.specs.Prelude.{◌≡◌, ◌++◌, ◌==◌, ℕ, List, true, length, codes, position, IfOk, IfSome, IfNone, IsUtf8};
+ghost use Rattle.std.specs.Prelude.{◌≡◌, ◌++◌, ◌==◌, ℕ, List, true, length, codes, position, IfOk, OnOk, IfSome, IfNone, IsUtf8, ◌∷◌, []};
 ghost use Rattle.std.specs.List.{list_all};
 ghost use Rattle.mail_wire.specs.Octets.{same_name};
 ghost use Rattle.encapsulated_fields.specs.AddressForms.{xtext_form};
+ghost use Rattle.encoded_words.specs.Folding.{lines_of};
+ghost use Rattle.field_downgrade.specs.private.Steps.{WritesWhere};
 ghost use Rattle.field_downgrade.specs.Typed.{is_no_semicolon, utf8_type, CutsType, IsTyped, TypedPieces};
 
+use crate::lines::begin_line;
 use encapsulated_fields::{read_xtext, xtext_of};
 use mail_wire::{Memory, Octets, is_same_name};
 use std::alloc::Global;
@@ -45,30 +48,27 @@ fn utf8_address(value: &[u8]) -> Option<&[u8]>
     Some(trim(behind))
 }
 
-// A UTF-8 address in its ASCII form, behind its type.
-fn typed_piece(alloc: Global, address: &[u8]) -> Result<Octets, Memory>
+// Puts a UTF-8 address in its ASCII form last, on a line of its own behind its type.
+fn push_typed(alloc: Global, address: &[u8], made: &mut Octets) -> Result<(), Memory>
     requires { IsUtf8 address.now }
-    ensures { IfOk result (λ piece. piece ≡ codes "utf-8; " ++ xtext_form address.now) }
+    ensures { OnOk result (made.new ≡ made.old ++ lines_of ((codes "utf-8; " ++ xtext_form address.now) ∷ [])) }
 {
-    let mut piece = Octets::from_slice(alloc, b"utf-8; ")?;
     let form = xtext_of(alloc, address)?;
-    piece.push_slice(form.as_slice())?;
-    Ok(piece)
+    begin_line(made, b' ')?;
+    made.push_slice(b"utf-8; ")?;
+    made.push_slice(form.as_slice())
 }
 
-/// The pieces of a UTF-8 address. One of another type has none.
-pub fn rewrite_typed(alloc: Global, value: &[u8]) -> Result<Option<Vec<Octets>>, Memory>
-    ensures some { IfOk result (λ o. IfSome o (λ pieces. TypedPieces value.now pieces.items)) }
-    ensures none { IfOk result (λ o. IfNone o ((pieces : List (List ℕ)) → ¬ TypedPieces value.now pieces)) }
+/// Puts the piece of a UTF-8 address last, and answers whether there is one: an address of another type has none.
+pub fn rewrite_typed(alloc: Global, value: &[u8], made: &mut Octets) -> Result<bool, Memory>
+    ensures { IfOk result (λ wrote. WritesWhere wrote (TypedPieces value.now) made.old made.new) }
 {
     let Some(written) = utf8_address(value) else {
-        return Ok(None);
+        return Ok(false);
     };
     let Some(address) = read_xtext(alloc, written)? else {
-        return Ok(None);
+        return Ok(false);
     };
-    let piece = typed_piece(alloc, address.as_slice())?;
-    let mut pieces = Vec::new(alloc);
-    pieces.push(piece)?;
-    Ok(Some(pieces))
+    push_typed(alloc, address.as_slice(), made)?;
+    Ok(true)
 }

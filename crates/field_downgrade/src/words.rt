@@ -1,16 +1,30 @@
-//! The words of an unstructured body.
-ghost use Rattle.std.specs.Prelude.{◌≡◌, ◌↔◌, ℕ, List, map, IsTrue, IfOk, position, length, ◌<◌, IsUtf8};
-ghost use Rattle.std.specs.List.{list_all, list_any};
-ghost use Rattle.mail_wire.specs.Octets.{is_ascii};
-ghost use Rattle.mail_wire.specs.Folds.{IsFolded};
+//! The words of an unstructured body, found one after another.
+ghost use Rattle.std.specs.Prelude.{◌≡◌, ◌++◌, ℕ, List, position, IfOk};
 ghost use Rattle.mail_wire.specs.Spans.{IsSpan};
-ghost use Rattle.field_downgrade.specs.Words.{is_word_octet, is_gap_octet, TellsEncoded, HasWords, AreUtf8};
-ghost use Rattle.field_downgrade.specs.private.Views.{word_of, word_values};
+ghost use Rattle.field_downgrade.specs.Words.{is_word_octet, is_gap_octet, TellsEncoded};
+ghost use Rattle.field_downgrade.specs.private.Stretches.{first_where, TellsSide, SplitsLow, SplitsFirst};
 
-use crate::word::Word;
+use crate::segments::Side;
 use encoded_words::read_word;
 use mail_wire::{Memory, is_ascii};
 use std::alloc::Global;
+
+/// Words that stand together in a body, with the gaps between them, and the gap behind the last one.
+#[derive(Clone, Copy)]
+pub struct Stretch<'a> {
+    pub octets: &'a [u8],
+    pub gap: &'a [u8],
+    /// What the first word is, and the last one.
+    pub first: Side,
+    pub last: Side,
+}
+
+const NO_WORDS: Stretch<'static> = Stretch {
+    octets: &[],
+    gap: &[],
+    first: Side::Edge,
+    last: Side::Edge,
+};
 
 // Whether an octet may stand in a word: it is neither white nor CR nor LF.
 fn is_word_octet(octet: u8) -> bool
@@ -31,8 +45,8 @@ fn find_gap(octets: &[u8]) -> Option<usize>
     octets.iter().position(|octet| !is_word_octet(*octet))
 }
 
-// The longest front of gap octets, and what follows it.
-fn split_gap(octets: &[u8]) -> (&[u8], &[u8])
+/// The longest front of gap octets, and what follows it.
+pub fn split_gap(octets: &[u8]) -> (&[u8], &[u8])
     ensures { IsSpan is_gap_octet octets.now result.0.now result.1.now }
 {
     match find_word(octets) {
@@ -61,26 +75,83 @@ fn is_encoded(alloc: Global, word: &[u8]) -> Result<bool, Memory>
     Ok(read_word(alloc, word)?.is_some())
 }
 
-/// The words of a body.
-pub fn words(alloc: Global, body: &[u8]) -> Result<Vec<Word<'_>>, Memory>
-    requires folded { IsFolded body.now }
-    requires utf8 { IsUtf8 body.now }
-    ensures words { IfOk result (λ words. HasWords body.now (word_values words.items)) }
-    ensures utf8 { IfOk result (λ words. AreUtf8 (word_values words.items)) }
+// What a word is beside a core.
+fn side_of(alloc: Global, word: &[u8]) -> Result<Side, Memory>
+    ensures { IfOk result (λ side. TellsSide side word.now) }
 {
-    let mut words = Vec::new(alloc);
-    let (_, mut rest) = split_gap(body);
+    if is_encoded(alloc, word)? {
+        Ok(Side::Encoded)
+    } else {
+        Ok(Side::Plain)
+    }
+}
+
+// What stands before the octets at the end.
+fn front_before<'a>(octets: &'a [u8], rest: &[u8]) -> &'a [u8]
+    ensures { (front : List ℕ) → octets.now ≡ front ++ rest.now → result.now ≡ front }
+{
+    let (front, _) = octets.split_at(octets.len().saturating_sub(rest.len()));
+    front
+}
+
+// What the first word is, where another one is put behind the words.
+fn first_of(first: Side, next: Side) -> Side
+    ensures { result ≡ first_where first next }
+{
+    match first {
+        Side::Edge => next,
+        Side::Encoded => Side::Encoded,
+        Side::Plain => Side::Plain,
+    }
+}
+
+/// The words before the first one with an octet above 127, and what stands from that one on.
+pub fn split_low<'a>(alloc: Global, body: &'a [u8]) -> Result<(Stretch<'a>, &'a [u8]), Memory>
+    ensures { IfOk result (λ x. SplitsLow body.now x.0 x.1.now) }
+{
+    let mut low = NO_WORDS;
+    let mut rest = body;
     while !rest.is_empty() {
-        let (octets, after) = split_word(rest);
-        let (gap, next) = split_gap(after);
-        let is_encoded = is_encoded(alloc, octets)?;
-        words.push(Word {
-            octets,
-            is_encoded,
-            is_high: !is_ascii(octets),
+        let (word, behind) = split_word(rest);
+        if !is_ascii(word) {
+            return Ok((low, rest));
+        }
+        let (gap, next) = split_gap(behind);
+        let side = side_of(alloc, word)?;
+        low = Stretch {
+            octets: front_before(body, behind),
             gap,
-        })?;
+            first: first_of(low.first, side),
+            last: side,
+        };
         rest = next;
     }
-    Ok(words)
+    Ok((low, rest))
+}
+
+/// The words up to the last one with an octet above 127 that no encoded word stands before, and what stands behind them.
+pub fn split_core<'a>(alloc: Global, body: &'a [u8]) -> Result<(Stretch<'a>, &'a [u8]), Memory>
+    ensures { IfOk result (λ x. SplitsFirst body.now x.0 x.1.now) }
+{
+    let mut core = NO_WORDS;
+    let mut behind_core = body;
+    let mut rest = body;
+    while !rest.is_empty() {
+        let (word, behind) = split_word(rest);
+        if is_encoded(alloc, word)? {
+            return Ok((core, behind_core));
+        }
+        let (gap, next) = split_gap(behind);
+        if !is_ascii(word) {
+            core = Stretch {
+                octets: front_before(body, behind),
+                gap,
+                first: Side::Plain,
+                last: Side::Plain,
+            };
+            behind_core = next;
+        }
+        rest = next;
+    }
+    Ok((core, behind_core))
 }

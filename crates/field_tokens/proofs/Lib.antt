@@ -2,6 +2,7 @@ pub mod Levels
 pub mod GroupLemmas
 pub mod TokenLemmas
 pub mod TokenLists
+pub mod MarkLemmas
 pub mod DecideTokens
 pub mod Joined
 pub mod Texts

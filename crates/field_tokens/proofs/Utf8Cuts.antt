@@ -63,7 +63,7 @@ body_utf8 text inner more u =
     let second = before_ascii (body_octets inner) (41 ∷ body_octets more) (omega arith) (behind_ascii 40 behind (omega arith) first.rest) in
     record { of_text = first.front; of_inner = second.front; of_more = behind_ascii 41 (body_octets more) (omega arith) second.rest }
 
-white_spelling : (white : List TextItem) → list_all is_white_item white ≡ true → list_all is_white (spelling white) ≡ true
+pub white_spelling : (white : List TextItem) → list_all is_white_item white ≡ true → list_all is_white (spelling white) ≡ true
 white_spelling [] all = refl
 white_spelling (Plain x ∷ white) all =
     let parts = and_parts (is_white x) (list_all is_white_item white) all in

@@ -99,12 +99,6 @@ abbrev pub AreWritableComments : List (List ℕ) → Type 0
 AreWritableComments [] = ⊤
 AreWritableComments (comment ∷ comments) = IsComment comment × IsUtf8 comment × AreWritableComments comments
 
--- new is old, and behind it pieces of which this holds
-pub record AddsPieces (P : List (List ℕ) → Type 0) (old new : List (List ℕ)) : Type 0 where
-  pub pieces : List (List ℕ)
-  pub holds : P pieces
-  pub added : new ≡ old ++ pieces
-
 -- the pieces, with a space between two, are an ASCII comment that says this
 pub record IsWritten (value : CommentValue) (pieces : List (List ℕ)) : Type 0 where
   pub is_comment : IsComment (join_with_byte 32 pieces)

@@ -1,6 +1,7 @@
 pub mod TokenOctets
 pub mod Groups
 pub mod Tokens
+pub mod Lexemes
 pub mod Trees
 pub mod Comments
 pub mod Squeezed

@@ -1,101 +1,117 @@
 //! The writer of comments.
-ghost use Rattle.std.specs.Prelude.{◌≡◌, ◌++◌, ◌∷◌, [], ◌≤◌, IfOk, OnOk, IsUtf8};
+ghost use Rattle.std.specs.Prelude.{◌≡◌, ◌++◌, ◌∷◌, [], ◌≤◌, if◌then◌else◌, take, IfOk, OnOk, IsUtf8};
 ghost use Rattle.std.specs.List.{list_all};
 ghost use Rattle.mail_wire.specs.Octets.{is_ascii as is_ascii_of};
-ghost use Rattle.field_tokens.specs.Comments.{IsComment, RunPieces, CommentPieces, AddsPieces};
-ghost use Rattle.field_tokens.specs.private.CommentWriting.{IsCommentWithin, BeginsComment, SplitsComment, WritesText};
+ghost use Rattle.encoded_words.specs.Folding.{lines_of, AddsLines};
+ghost use Rattle.field_tokens.specs.Comments.{IsComment, CommentPieces};
+ghost use Rattle.field_tokens.specs.private.CommentWriting.{BeginsComment, WritesRun, WritesText, WritesComment};
 
-use crate::groups::{COMMENT, group_rest};
 use crate::places::split_mark;
 use crate::trees::split_run;
-use encoded_words::{read_comment, write_units};
+use encoded_words::{push_line, rewrite_comment};
 use mail_wire::{Memory, Octets, is_ascii, split_white};
 use std::alloc::Global;
+use std::mem;
 
-fn push_piece(alloc: Global, octets: &[u8], pieces: &mut Vec<Octets>) -> Result<(), Memory>
-    ensures { OnOk result (pieces.new.items ≡ pieces.old.items ++ octets.now ∷ []) }
-{
-    let piece = Octets::from_slice(alloc, octets)?;
-    pieces.push(piece)?;
-    Ok(())
-}
-
-fn write_run(alloc: Global, run: &[u8], pieces: &mut Vec<Octets>) -> Result<(), Memory>
+// Puts the pieces of a run last, and answers whether it is ASCII.
+fn write_run(alloc: Global, run: &[u8], made: &mut Octets) -> Result<bool, Memory>
     requires { IsUtf8 run.now }
-    ensures { OnOk result (AddsPieces (RunPieces (list_all is_ascii_of run.now) run.now) pieces.old.items pieces.new.items) }
+    ensures { IfOk result (λ ascii. WritesRun run.now ascii made.old made.new) }
 {
     if is_ascii(run) {
-        return push_piece(alloc, run, pieces);
+        push_line(made, run)?;
+        return Ok(true);
     }
-    let units = read_comment(alloc, run)?;
-    write_units(alloc, &units, pieces)
+    rewrite_comment(alloc, run, made)?;
+    Ok(false)
 }
 
-// Puts the pieces of the text that comes first last, and answers what follows it.
+// Puts the pieces of the text that comes first last, and answers whether it is ASCII, and what follows it.
 fn write_text<'a>(
     alloc: Global,
     octets: &'a [u8],
-    pieces: &mut Vec<Octets>,
-) -> Result<&'a [u8], Memory>
+    made: &mut Octets,
+) -> Result<(bool, &'a [u8]), Memory>
     requires { IsUtf8 octets.now }
-    ensures { IfOk result (λ after. WritesText octets.now after.now pieces.old.items pieces.new.items) }
+    ensures { IfOk result (λ x. WritesText octets.now x.0 x.1.now made.old made.new) }
 {
     let (_, behind) = split_white(octets);
     let (len, after) = split_run(behind);
     if len == 0 {
-        return Ok(after);
+        return Ok((true, after));
     }
     let (run, _) = behind.split_at(len);
-    write_run(alloc, run, pieces)?;
-    Ok(after)
+    let ascii = write_run(alloc, run, made)?;
+    Ok((ascii, after))
 }
 
-// The comment that comes first, and what follows it.
-fn split_comment(octets: &[u8]) -> (&[u8], &[u8])
-    requires { BeginsComment octets.now }
-    ensures { SplitsComment octets.now result.0.now result.1.now }
+// Takes away what stands behind the first so many octets.
+fn cut_back(alloc: Global, made: &mut Octets, len: usize)
+    ensures { made.new ≡ take len made.old }
 {
-    let Some(rest) = group_rest(COMMENT, octets) else {
-        unreachable!();
-    };
-    let (comment, _) = octets.split_at(octets.len() - rest.len());
-    (comment, rest)
+    let mut octets = mem::replace(made, Octets::new(alloc)).into_vec();
+    octets.truncate(len);
+    *made = Octets::from_vec(octets);
 }
 
-// Calls of itself go no deeper than `levels`.
-fn write_nested(
+// Ends the pieces of a comment, which begin behind `start`: an ASCII comment becomes one piece.
+fn end_comment(
     alloc: Global,
     comment: &[u8],
-    levels: usize,
-    pieces: &mut Vec<Octets>,
+    ascii: bool,
+    start: usize,
+    made: &mut Octets,
 ) -> Result<(), Memory>
-    requires bound { levels ≤ 64 }
-    requires comment { IsCommentWithin levels comment.now }
-    requires utf8 { IsUtf8 comment.now }
-    ensures { OnOk result (AddsPieces (CommentPieces comment.now) pieces.old.items pieces.new.items) }
+    ensures { OnOk result (made.new ≡ (if ascii then take start made.old ++ lines_of (comment.now ∷ []) else made.old ++ lines_of ((41 ∷ []) ∷ []))) }
 {
-    if is_ascii(comment) {
-        return push_piece(alloc, comment, pieces);
+    if ascii {
+        cut_back(alloc, made, start);
+        return push_line(made, comment);
     }
-    push_piece(alloc, b"(", pieces)?;
-    let (_, mut rest) = split_mark(comment);
+    push_line(made, b")")
+}
+
+// Puts the pieces of the comment that comes first last, and answers whether it is ASCII, and what follows it. That is
+// known only where the comment ends, so until then its parts are put as if it weren't. Calls of itself go no deeper than
+// `levels`.
+fn write_nested<'a>(
+    alloc: Global,
+    octets: &'a [u8],
+    levels: usize,
+    made: &mut Octets,
+) -> Result<(bool, &'a [u8]), Memory>
+    requires comment { BeginsComment levels octets.now }
+    requires utf8 { IsUtf8 octets.now }
+    ensures { IfOk result (λ x. WritesComment octets.now x.0 x.1.now made.old made.new) }
+{
+    let start = made.len();
+    push_line(made, b"(")?;
+    let (_, mut rest) = split_mark(octets);
+    let mut ascii = true;
     loop {
-        let after = write_text(alloc, rest, pieces)?;
-        let (mark, _) = split_mark(after);
+        let (ascii_text, after) = write_text(alloc, rest, made)?;
+        let (mark, behind) = split_mark(after);
         if mark == b')' {
-            return push_piece(alloc, b")", pieces);
+            let (comment, _) = octets.split_at(octets.len() - behind.len());
+            let ascii_comment = ascii & ascii_text;
+            end_comment(alloc, comment, ascii_comment, start, made)?;
+            return Ok((ascii_comment, behind));
         }
-        let (inner, behind) = split_comment(after);
-        write_nested(alloc, inner, levels - 1, pieces)?;
-        rest = behind;
+        let (ascii_nested, next) = write_nested(alloc, after, levels - 1, made)?;
+        ascii = ascii & ascii_text & ascii_nested;
+        rest = next;
     }
 }
 
-/// Puts the pieces of a comment last.
-pub fn write_comment(alloc: Global, comment: &[u8], pieces: &mut Vec<Octets>) -> Result<(), Memory>
+/// Puts the pieces of a comment last, each on a line of its own.
+pub fn write_comment(alloc: Global, comment: &[u8], made: &mut Octets) -> Result<(), Memory>
     requires comment { IsComment comment.now }
     requires utf8 { IsUtf8 comment.now }
-    ensures { OnOk result (AddsPieces (CommentPieces comment.now) pieces.old.items pieces.new.items) }
+    ensures { OnOk result (AddsLines (CommentPieces comment.now) made.old made.new) }
 {
-    write_nested(alloc, comment, 64, pieces)
+    if is_ascii(comment) {
+        return push_line(made, comment);
+    }
+    write_nested(alloc, comment, 64, made)?;
+    Ok(())
 }

@@ -5,6 +5,7 @@ mod comments;
 mod groups;
 mod kinds;
 pub mod laws;
+mod lexemes;
 mod places;
 mod reading;
 mod squeezing;
@@ -12,8 +13,9 @@ mod trees;
 
 pub use comments::write_comment;
 pub use kinds::{is_blank, is_comment};
+pub use lexemes::{Lexeme, Lexemes, Mark, read_marks};
 use mail_wire::Span;
-pub use reading::{is_atom_octet, read_tokens, tokens};
+pub use reading::{first_token, is_atom_octet, read_tokens, tokens};
 pub use squeezing::squeezed;
 pub use trees::comment_tree;
 

@@ -65,8 +65,8 @@ fn split_atom(style: Style, octets: &[u8]) -> (&[u8], &[u8])
     }
 }
 
-// The kind of the first token of a text, and what follows it.
-fn first_token(style: Style, text: &[u8]) -> Option<(TokenKind, &[u8])>
+/// The kind of the first token of a text, and what follows it.
+pub fn first_token(style: Style, text: &[u8]) -> Option<(TokenKind, &[u8])>
     requires { 0 < length text.now }
     ensures found { IfSome result (λ x. BeginsToken style x.0 text.now x.1.now) }
     ensures shorter { IfSome result (λ x. length x.1.now < length text.now) }
@@ -114,7 +114,7 @@ fn are_line_octets(text: &[u8]) -> bool
 }
 
 // Whether the octets are UTF-8 without NUL, CR and LF.
-fn is_line(text: &[u8]) -> bool
+pub(crate) fn is_line(text: &[u8]) -> bool
     ensures { IsTrue result ↔ IsLine text.now }
 {
     is_utf8(text) && are_line_octets(text)

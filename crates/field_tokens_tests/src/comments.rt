@@ -3,7 +3,9 @@ ghost use Rattle.std.specs.Prelude.{◌≡◌, [], ◌∷◌, true, IsTrue};
 ghost use Rattle.field_tokens.specs.Squeezed.{is_comment as is_comment_of};
 ghost use Rattle.field_tokens.specs.declared.Token.{Token};
 
+use encoded_words::push_line;
 use field_tokens::{Style, Token, is_comment, read_tokens, write_comment};
+use mail_wire::Octets;
 use std::alloc::Global;
 use std::test::Fail;
 
@@ -25,17 +27,13 @@ fn has_pieces(alloc: Global, comment: &str, wanted: &[&str]) -> Result<bool, Fai
     if !is_one_comment(&found) {
         return Ok(false);
     }
-    let mut pieces = Vec::new(alloc);
-    write_comment(alloc, octets, &mut pieces).map_err(|_| "memory")?;
-    if pieces.len() != wanted.len() {
-        return Ok(false);
+    let mut made = Octets::new(alloc);
+    write_comment(alloc, octets, &mut made).map_err(|_| "memory")?;
+    let mut lines = Octets::new(alloc);
+    for piece in wanted {
+        push_line(&mut lines, piece.as_bytes()).map_err(|_| "memory")?;
     }
-    for (piece, text) in pieces.iter().zip(wanted) {
-        if piece.as_slice() != text.as_bytes() {
-            return Ok(false);
-        }
-    }
-    Ok(true)
+    Ok(made.as_slice() == lines.as_slice())
 }
 
 #[test]
@@ -74,5 +72,77 @@ fn what_is_ascii_stays(rt: HostRuntime) -> Result<(), Fail> {
             &["(", "a", "(", "=?UTF-8?B?w6k=?=", ")", r"\(", ")"]
         )?
     );
+    Ok(())
+}
+
+#[test]
+fn ascii_comments_within_others_stay_whole(rt: HostRuntime) -> Result<(), Fail> {
+    assert!(rt;
+        has_pieces(
+            rt.alloc(),
+            "(é (a (b) \\( c) ((é) (d ((e)))) (f))",
+            &[
+                "(",
+                "=?UTF-8?B?w6k=?=",
+                "(a (b) \\( c)",
+                "(",
+                "(",
+                "=?UTF-8?B?w6k=?=",
+                ")",
+                "(d ((e)))",
+                ")",
+                "(f)",
+                ")"
+            ]
+        )?
+    );
+    assert!(rt;
+        has_pieces(
+            rt.alloc(),
+            "((a (b)) (c) é)",
+            &["(", "(a (b))", "(c)", "=?UTF-8?B?w6k=?=", ")"]
+        )?
+    );
+    Ok(())
+}
+
+// This text in so many comments, one in another.
+fn nested(alloc: Global, levels: usize, inside: &str) -> Result<String, Fail> {
+    let mut text = String::new(alloc);
+    for _ in 0..levels {
+        text.push('(')?;
+    }
+    text.push_str(inside)?;
+    for _ in 0..levels {
+        text.push(')')?;
+    }
+    Ok(text)
+}
+
+#[test]
+fn comments_are_written_64_deep(rt: HostRuntime) -> Result<(), Fail> {
+    let mut wanted = Vec::new(rt.alloc());
+    for _ in 0..64 {
+        wanted.push("(")?;
+    }
+    wanted.push("=?UTF-8?B?w6k=?=")?;
+    for _ in 0..64 {
+        wanted.push(")")?;
+    }
+    let comment = nested(rt.alloc(), 64, "é")?;
+    assert!(rt; has_pieces(rt.alloc(), &comment, &wanted)?);
+    let comment = nested(rt.alloc(), 65, "é")?;
+    assert!(rt; !has_pieces(rt.alloc(), &comment, &wanted)?);
+    Ok(())
+}
+
+#[test]
+fn an_ascii_nest_stays_whole(rt: HostRuntime) -> Result<(), Fail> {
+    let nest = nested(rt.alloc(), 63, "a")?;
+    let mut comment = String::new(rt.alloc());
+    comment.push_str("(é")?;
+    comment.push_str(&nest)?;
+    comment.push(')')?;
+    assert!(rt; has_pieces(rt.alloc(), &comment, &["(", "=?UTF-8?B?w6k=?=", &nest, ")"])?);
     Ok(())
 }

@@ -1,7 +1,7 @@
 //! Texts and their tokens, each public call once with ample memory.
 use field_tokens::{
-    Comment, Item, Style, Token, TokenFault, TokenKind, comment_tree, is_blank, is_comment,
-    read_tokens, squeezed, tokens,
+    Comment, Item, Lexemes, Style, Token, TokenFault, TokenKind, comment_tree, first_token,
+    is_blank, is_comment, read_marks, read_tokens, squeezed, tokens,
 };
 use mail_wire::Span;
 use std::test::Fail;
@@ -154,5 +154,68 @@ fn gaps_and_comments_become_spaces(rt: HostRuntime) -> Result<(), Fail> {
     };
     let made = squeezed(rt.alloc(), text, found.as_slice()).map_err(|_| "memory")?;
     assert!(rt; made.as_slice() == b"a.b c".as_slice());
+    Ok(())
+}
+
+// Whether the tokens are these, and no others.
+fn are(lexemes: Lexemes<'_, '_>, wanted: &[(TokenKind, &[u8])]) -> bool {
+    let mut left = lexemes;
+    for (kind, octets) in wanted {
+        let Some((lexeme, behind)) = left.split_first() else {
+            return false;
+        };
+        if lexeme.kind != *kind || lexeme.octets != *octets {
+            return false;
+        }
+        left = behind;
+    }
+    left.is_empty() && lexemes.len() == wanted.len()
+}
+
+#[test]
+fn tokens_are_read_by_their_marks(rt: HostRuntime) -> Result<(), Fail> {
+    let text = "é.<\"b\"@[1]>\t(c)".as_bytes();
+    let Ok(Some(marks)) = read_marks(rt.alloc(), Style::Mail, text) else {
+        return Err(Fail::from("no marks"));
+    };
+    let all = Lexemes::new(text, &marks);
+    let wanted: [(TokenKind, &[u8]); 9] = [
+        (TokenKind::Atom, "é".as_bytes()),
+        (TokenKind::Special, b"."),
+        (TokenKind::Special, b"<"),
+        (TokenKind::Quoted, b"\"b\""),
+        (TokenKind::Special, b"@"),
+        (TokenKind::Literal, b"[1]"),
+        (TokenKind::Special, b">"),
+        (TokenKind::Gap, b"\t"),
+        (TokenKind::Comment, b"(c)"),
+    ];
+    assert!(rt; are(all, &wanted));
+    let (front, behind) = all.split_at(3);
+    assert!(rt; are(front, &wanted[..3]) && are(behind, &wanted[3..]));
+    let (front, behind) = behind.split_at(7);
+    assert!(rt; are(front, &wanted[3..]) && behind.is_empty());
+    Ok(())
+}
+
+#[test]
+fn texts_without_tokens_have_no_marks(rt: HostRuntime) -> Result<(), Fail> {
+    let texts: [&[u8]; 4] = [b"a)", b"a (b", b"a\0", b"\xff"];
+    for text in texts {
+        assert!(rt; matches!(read_marks(rt.alloc(), Style::Mail, text), Ok(None)));
+    }
+    let found = read_marks(rt.alloc(), Style::Mime, b"").map_err(|_| "memory")?;
+    assert!(rt; found.is_some_and(|marks| marks.is_empty()));
+    Ok(())
+}
+
+#[test]
+fn the_first_token_of_a_text_is_cut_off(rt: HostRuntime) -> Result<(), Fail> {
+    assert!(rt;
+        first_token(Style::Mime, b"a.b;c").is_some_and(|(kind, rest)| {
+            kind == TokenKind::Atom && rest == b";c".as_slice()
+        })
+    );
+    assert!(rt; first_token(Style::Mime, b")a").is_none());
     Ok(())
 }

@@ -112,12 +112,6 @@ pub members_malformed : (ts : List TokenValue) → are_blank ts ≡ false → ((
 members_malformed ts not_blank none text (inl blank) = both_ways (are_blank ts) not_blank blank.0
 members_malformed ts not_blank none text (inr d) = none text d
 
--- a name in which an angle bracket opens is none
-pub name_opened : (ts before behind front back : List TokenValue) → SplitsAt 58 ts before behind → SplitsAt 60 before front back → (a b : List TokenValue) → SplitsName ts a b → ⊥
-name_opened ts before behind front back s opened a b n =
-    let cut = splits_once 58 ts before behind a b s n.splits in
-    split_lacks 60 before front back opened (rw (cut.front) n.closed)
-
 -- the forms of a text are those of its tokens
 pub forms_of_tokens : (text : List ℕ) (ts : List TokenValue) (forms : List ℕ) → HasMailTokens text ts → HasForms text forms → AreDivided IsPlaceForm ts forms
 forms_of_tokens text ts forms tokens has = rw (HasTokenValues-once text ts has.tokens tokens has.has_tokens) has.are_forms

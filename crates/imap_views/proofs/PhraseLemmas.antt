@@ -1,15 +1,13 @@
 -- The words of a phrase as they stand, item by item.
-use Rattle.std.proofs.Common.{◌≡◌, ℕ, Bool, true, false, not, if◌then◌else◌, List, [], ◌∷◌, ◌++◌, length, get_or, drop, map, ◌+◌, ◌<◌, refl, sym, ap, ◌∙◌, subst, append_assoc}
-use Rattle.std.proofs.lemmas.List.{append-nil, drop_more}
+use Rattle.std.proofs.Common.{◌≡◌, ℕ, Bool, true, false, not, if◌then◌else◌, List, [], ◌∷◌, ◌++◌, map, refl, sym, ap, ◌∙◌, subst, append_assoc}
+use Rattle.std.proofs.lemmas.List.{append-nil}
 use Rattle.std.specs.List.{flat_map}
 use Rattle.encoded_words.specs.PhraseUnits.{PhraseItem, Atom as AtomItem, Content, Dot, Separator, PhraseWord, has_word, gap_before, phrase_words}
 use Rattle.field_tokens.specs.declared.TokenKind.{TokenKind}
 use Rattle.field_tokens.specs.declared.TokenKind.TheVariants.{Atom, Quoted, Literal, Special, Gap, Comment}
 use Rattle.field_tokens.specs.Tokens.{TokenValue}
 use Rattle.field_tokens.specs.Squeezed.{is_blank}
-use Rattle.address_grammar.specs.declared.lexemes.Lexeme.{Lexeme}
 use Rattle.address_grammar.specs.private.Lexemes.{said_content, is_blank_token, content}
-use Rattle.address_grammar.specs.private.Views.{value_of, values_of}
 use Rattle.imap_views.specs.Addresses.{plain_item}
 
 abbrev pub items_of : List TokenValue → List PhraseItem
@@ -74,17 +72,21 @@ word_turn Special octets is_first is_apart made left whole h says = content_turn
 word_turn Gap octets is_first is_apart made left whole h says = cc h
 word_turn Comment octets is_first is_apart made left whole h says = cc h
 
--- ---- at a place among lexemes
+-- ---- token by token
 
-says_at : (lexemes : List Lexeme) (i : ℕ) (d : Lexeme) (is_first is_apart : Bool) (made whole : List ℕ) → i < length lexemes → SaysOn is_first is_apart made (items_of (values_of (drop i lexemes))) whole
-    → SaysOn is_first is_apart made (items_of (values_of (get_or lexemes i d ∷ drop (i + 1) lexemes))) whole
-says_at lexemes i d is_first is_apart made whole below says = subst (λ left. SaysOn is_first is_apart made (items_of (values_of left)) whole) (drop_more lexemes i d below) says
+pub blank_at : (rest behind : List TokenValue) (t : TokenValue) (is_first is_apart : Bool) (made whole : List ℕ) → rest ≡ t ∷ behind → is_blank_token t ≡ true → SaysOn is_first is_apart made (items_of rest) whole
+    → SaysOn is_first (not is_first) made (items_of behind) whole
+blank_at rest behind t is_first is_apart made whole e blank says = blank_turn t.kind t.octets is_first is_apart made (items_of behind) whole blank (subst (λ r. SaysOn is_first is_apart made (items_of r) whole) e says)
 
-pub blank_at : (lexemes : List Lexeme) (i : ℕ) (d : Lexeme) (is_first is_apart : Bool) (made whole : List ℕ) → i < length lexemes → is_blank_token (value_of (get_or lexemes i d)) ≡ true
-    → SaysOn is_first is_apart made (items_of (values_of (drop i lexemes))) whole → SaysOn is_first (not is_first) made (items_of (values_of (drop (i + 1) lexemes))) whole
-blank_at lexemes i d is_first is_apart made whole below blank says = blank_turn _ _ is_first is_apart made _ whole blank (says_at lexemes i d is_first is_apart made whole below says)
+pub word_at : (rest behind : List TokenValue) (t : TokenValue) (is_first is_apart : Bool) (made whole : List ℕ) → rest ≡ t ∷ behind → is_blank_token t ≡ false → SaysOn is_first is_apart made (items_of rest) whole
+    → SaysOn false false ((made ++ space_where is_apart) ++ content t) (items_of behind) whole
+word_at rest behind t is_first is_apart made whole e word says = word_turn t.kind t.octets is_first is_apart made (items_of behind) whole word (subst (λ r. SaysOn is_first is_apart made (items_of r) whole) e says)
 
-pub word_at : (lexemes : List Lexeme) (i : ℕ) (d : Lexeme) (is_first is_apart : Bool) (made whole : List ℕ) → i < length lexemes → is_blank_token (value_of (get_or lexemes i d)) ≡ false
-    → SaysOn is_first is_apart made (items_of (values_of (drop i lexemes))) whole
-    → SaysOn false false ((made ++ space_where is_apart) ++ content (value_of (get_or lexemes i d))) (items_of (values_of (drop (i + 1) lexemes))) whole
-word_at lexemes i d is_first is_apart made whole below word says = word_turn _ _ is_first is_apart made _ whole word (says_at lexemes i d is_first is_apart made whole below says)
+pub says_all : (is_first is_apart : Bool) (made : List ℕ) (rest : List TokenValue) (whole : List ℕ) → rest ≡ [] → SaysOn is_first is_apart made (items_of rest) whole → made ≡ whole
+says_all is_first is_apart made rest whole e says = by is_first is_apart (subst (λ r. SaysOn is_first is_apart made (items_of r) whole) e says)
+  where
+    by : (is_first is_apart : Bool) → SaysOn is_first is_apart made [] whole → made ≡ whole
+    by true true says = absurd says
+    by true false says = sym (append-nil made) ∙ says
+    by false true says = sym (append-nil made) ∙ says
+    by false false says = sym (append-nil made) ∙ says

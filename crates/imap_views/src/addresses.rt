@@ -1,10 +1,9 @@
 //! The addresses of an envelope.
-ghost use Rattle.std.specs.Prelude.{◌≡◌, ◌++◌, ℕ, List, Option, IfOk, OnOk, IfSome, IfNone};
+ghost use Rattle.std.specs.Prelude.{◌≡◌, ◌++◌, ℕ, List, Option, IfOk, OnOk};
 ghost use Rattle.std.specs.Option.{option_copied};
 ghost use Rattle.address_grammar.specs.AddressLists.{AreDivided};
 ghost use Rattle.address_grammar.specs.private.Lexemes.{SplitsAt};
-ghost use Rattle.address_grammar.specs.private.ListSteps.{SplitsName};
-ghost use Rattle.address_grammar.specs.private.Views.{values_of};
+ghost use Rattle.field_tokens.specs.Lexemes.{values_of};
 ghost use Rattle.field_tokens.specs.Tokens.{TokenValue};
 ghost use Rattle.imap_views.specs.Addresses.{address_form, plain_text, group_start, group_end, list_form, IsPhraseName, IsMailboxForm, AreMemberForms, IsGroupForm, IsPlaceForm, HasForms, IsListForm, IsAddressesForm};
 ghost use Rattle.imap_views.specs.Strings.{AddsText};
@@ -12,9 +11,10 @@ ghost use Rattle.imap_views.specs.Strings.{AddsText};
 use crate::phrases::plain_phrase;
 use crate::strings::{push_nstring, slice_of};
 use address_grammar::{
-    Address, AddressFault, Lexeme, are_blank, find_comma, is_phrase, push_quoted_string,
-    read_lexemes, read_mailbox, split_at_mark,
+    Address, AddressFault, are_blank, find_mailbox, is_phrase, mail_marks, push_quoted_string,
+    split_at_mark, split_name, split_place,
 };
+use field_tokens::Lexemes;
 use mail_wire::{Memory, Octets};
 use std::alloc::Global;
 
@@ -38,11 +38,11 @@ fn push_address_form(
 // The phrase before the angle bracket, where there is a phrase.
 fn name_of(
     alloc: Global,
-    lexemes: &[Lexeme<'_>],
+    lexemes: Lexemes<'_, '_>,
     has_phrase: bool,
 ) -> Result<Option<Octets>, Memory>
-    requires { (name : Option (List ℕ)) × IsPhraseName (values_of lexemes.now) has_phrase name }
-    ensures { IfOk result (IsPhraseName (values_of lexemes.now) has_phrase) }
+    requires { (name : Option (List ℕ)) × IsPhraseName (values_of lexemes) has_phrase name }
+    ensures { IfOk result (IsPhraseName (values_of lexemes.entry) has_phrase) }
 {
     if !has_phrase {
         return Ok(None);
@@ -57,12 +57,12 @@ fn name_of(
 fn push_mailbox(
     alloc: Global,
     made: &mut Octets,
-    lexemes: &[Lexeme<'_>],
+    lexemes: Lexemes<'_, '_>,
 ) -> Result<(), AddressFault>
-    ensures ok { OnOk result (AddsText (IsMailboxForm (values_of lexemes.now)) made.old made.new) }
-    ensures malformed { result ≡ Err AddressFault.Malformed → (text : List ℕ) → ¬ IsMailboxForm (values_of lexemes.now) text }
+    ensures ok { OnOk result (AddsText (IsMailboxForm (values_of lexemes.entry)) made.old made.new) }
+    ensures malformed { result ≡ Err AddressFault.Malformed → (text : List ℕ) → ¬ IsMailboxForm (values_of lexemes.entry) text }
 {
-    let mailbox = read_mailbox(alloc, lexemes)?;
+    let mailbox = find_mailbox(alloc, lexemes)?;
     let Ok(name) = name_of(alloc, lexemes, mailbox.phrase) else {
         return Err(AddressFault::Memory);
     };
@@ -76,31 +76,27 @@ fn push_mailbox(
 fn push_mailboxes(
     alloc: Global,
     made: &mut Octets,
-    lexemes: &[Lexeme<'_>],
+    lexemes: Lexemes<'_, '_>,
 ) -> Result<(), AddressFault>
-    ensures ok { OnOk result (AddsText (AreDivided IsMailboxForm (values_of lexemes.now)) made.old made.new) }
-    ensures malformed { result ≡ Err AddressFault.Malformed → (text : List ℕ) → ¬ AreDivided IsMailboxForm (values_of lexemes.now) text }
+    ensures ok { OnOk result (AddsText (AreDivided IsMailboxForm (values_of lexemes.entry)) made.old made.new) }
+    ensures malformed { result ≡ Err AddressFault.Malformed → (text : List ℕ) → ¬ AreDivided IsMailboxForm (values_of lexemes.entry) text }
 {
-    let mut start = 0;
-    loop {
-        let rest = &lexemes[start..];
-        let Some(at) = find_comma(rest) else {
-            return push_mailbox(alloc, made, rest);
-        };
-        let (part, _) = rest.split_at(at);
+    let mut rest = lexemes;
+    while let Some((part, behind)) = split_place(rest) {
         push_mailbox(alloc, made, part)?;
-        start += at + 1;
+        rest = behind;
     }
+    push_mailbox(alloc, made, rest)
 }
 
 // Puts the forms of a group's members last.
 fn push_members(
     alloc: Global,
     made: &mut Octets,
-    lexemes: &[Lexeme<'_>],
+    lexemes: Lexemes<'_, '_>,
 ) -> Result<(), AddressFault>
-    ensures ok { OnOk result (AddsText (AreMemberForms (values_of lexemes.now)) made.old made.new) }
-    ensures malformed { result ≡ Err AddressFault.Malformed → (text : List ℕ) → ¬ AreMemberForms (values_of lexemes.now) text }
+    ensures ok { OnOk result (AddsText (AreMemberForms (values_of lexemes.entry)) made.old made.new) }
+    ensures malformed { result ≡ Err AddressFault.Malformed → (text : List ℕ) → ¬ AreMemberForms (values_of lexemes.entry) text }
 {
     if are_blank(lexemes) {
         return Ok(());
@@ -109,8 +105,8 @@ fn push_members(
 }
 
 #[tactic(auto, unfolding(crate::specs::Strings::spaced))]
-fn push_group_start(alloc: Global, made: &mut Octets, name: &[Lexeme<'_>]) -> Result<(), Memory>
-    ensures { OnOk result (made.new ≡ made.old ++ group_start (plain_text (values_of name.now))) }
+fn push_group_start(alloc: Global, made: &mut Octets, name: Lexemes<'_, '_>) -> Result<(), Memory>
+    ensures { OnOk result (made.new ≡ made.old ++ group_start (plain_text (values_of name.entry))) }
 {
     let name = plain_phrase(alloc, name)?;
     made.push_slice(b"(NIL NIL ")?;
@@ -129,12 +125,12 @@ fn push_group_end(made: &mut Octets) -> Result<(), Memory>
 fn push_group(
     alloc: Global,
     made: &mut Octets,
-    name: &[Lexeme<'_>],
-    behind: &[Lexeme<'_>],
+    name: Lexemes<'_, '_>,
+    behind: Lexemes<'_, '_>,
 ) -> Result<(), AddressFault>
-    ensures ok { OnOk result ((tokens : List TokenValue) → SplitsAt 58 tokens (values_of name.now) (values_of behind.now) → AddsText (IsGroupForm tokens) made.old made.new) }
+    ensures ok { OnOk result ((tokens : List TokenValue) → SplitsAt 58 tokens (values_of name.entry) (values_of behind.entry) → AddsText (IsGroupForm tokens) made.old made.new) }
     ensures malformed { result ≡ Err AddressFault.Malformed
-        → (tokens : List TokenValue) (text : List ℕ) → SplitsAt 58 tokens (values_of name.now) (values_of behind.now) → ¬ IsGroupForm tokens text }
+        → (tokens : List TokenValue) (text : List ℕ) → SplitsAt 58 tokens (values_of name.entry) (values_of behind.entry) → ¬ IsGroupForm tokens text }
 {
     let Some((inner, after)) = split_at_mark(behind, b';') else {
         return Err(AddressFault::Malformed);
@@ -152,25 +148,14 @@ fn push_group(
     Ok(())
 }
 
-// What stands before the first colon, and what stands behind it, where no angle bracket opens before it: a group's name,
-// and its members.
-fn split_name<'a, 'b>(lexemes: &'b [Lexeme<'a>]) -> Option<(&'b [Lexeme<'a>], &'b [Lexeme<'a>])>
-    ensures found { IfSome result (λ x. SplitsName (values_of lexemes.now) (values_of x.0.now) (values_of x.1.now)) }
-    ensures none { IfNone result ((before behind : List TokenValue) → ¬ SplitsName (values_of lexemes.now) before behind) }
-{
-    let Some((before, behind)) = split_at_mark(lexemes, b':') else {
-        return None;
-    };
-    match split_at_mark(before, b'<') {
-        Some(_) => None,
-        None => Some((before, behind)),
-    }
-}
-
 // Puts the form of what stands at a place of a list last.
-fn push_place(alloc: Global, made: &mut Octets, lexemes: &[Lexeme<'_>]) -> Result<(), AddressFault>
-    ensures ok { OnOk result (AddsText (IsPlaceForm (values_of lexemes.now)) made.old made.new) }
-    ensures malformed { result ≡ Err AddressFault.Malformed → (text : List ℕ) → ¬ IsPlaceForm (values_of lexemes.now) text }
+fn push_place(
+    alloc: Global,
+    made: &mut Octets,
+    lexemes: Lexemes<'_, '_>,
+) -> Result<(), AddressFault>
+    ensures ok { OnOk result (AddsText (IsPlaceForm (values_of lexemes.entry)) made.old made.new) }
+    ensures malformed { result ≡ Err AddressFault.Malformed → (text : List ℕ) → ¬ IsPlaceForm (values_of lexemes.entry) text }
 {
     if are_blank(lexemes) {
         return Ok(());
@@ -182,20 +167,20 @@ fn push_place(alloc: Global, made: &mut Octets, lexemes: &[Lexeme<'_>]) -> Resul
 }
 
 // Puts the forms of places divided by commas last.
-fn push_places(alloc: Global, made: &mut Octets, lexemes: &[Lexeme<'_>]) -> Result<(), AddressFault>
-    ensures ok { OnOk result (AddsText (AreDivided IsPlaceForm (values_of lexemes.now)) made.old made.new) }
-    ensures malformed { result ≡ Err AddressFault.Malformed → (text : List ℕ) → ¬ AreDivided IsPlaceForm (values_of lexemes.now) text }
+fn push_places(
+    alloc: Global,
+    made: &mut Octets,
+    lexemes: Lexemes<'_, '_>,
+) -> Result<(), AddressFault>
+    ensures ok { OnOk result (AddsText (AreDivided IsPlaceForm (values_of lexemes.entry)) made.old made.new) }
+    ensures malformed { result ≡ Err AddressFault.Malformed → (text : List ℕ) → ¬ AreDivided IsPlaceForm (values_of lexemes.entry) text }
 {
-    let mut start = 0;
-    loop {
-        let rest = &lexemes[start..];
-        let Some(at) = find_comma(rest) else {
-            return push_place(alloc, made, rest);
-        };
-        let (place, _) = rest.split_at(at);
+    let mut rest = lexemes;
+    while let Some((place, behind)) = split_place(rest) {
         push_place(alloc, made, place)?;
-        start += at + 1;
+        rest = behind;
     }
+    push_place(alloc, made, rest)
 }
 
 // The forms of the list that a text is.
@@ -203,9 +188,9 @@ fn forms_of(alloc: Global, text: &[u8]) -> Result<Octets, AddressFault>
     ensures ok { IfOk result (λ forms. HasForms text.now forms) }
     ensures malformed { result ≡ Err AddressFault.Malformed → (forms : List ℕ) → ¬ HasForms text.now forms }
 {
-    let lexemes = read_lexemes(alloc, text)?;
+    let marks = mail_marks(alloc, text)?;
     let mut forms = Octets::new(alloc);
-    push_places(alloc, &mut forms, &lexemes)?;
+    push_places(alloc, &mut forms, Lexemes::new(text, &marks))?;
     Ok(forms)
 }
 

@@ -1,30 +1,33 @@
 //! Phrases as they stand, without encoded words read.
 ghost use Rattle.std.specs.Prelude.{◌≡◌, IfOk};
-ghost use Rattle.address_grammar.specs.private.Views.{values_of};
+ghost use Rattle.field_tokens.specs.Lexemes.{values_of};
 ghost use Rattle.imap_views.specs.Addresses.{plain_text};
 
-use address_grammar::{Lexeme, is_blank, push_content};
+use address_grammar::{is_blank, push_content};
+use field_tokens::Lexemes;
 use mail_wire::{Memory, Octets};
 use std::alloc::Global;
 
 /// The words of a phrase as they stand, with a space where they are separated.
-pub fn plain_phrase(alloc: Global, lexemes: &[Lexeme<'_>]) -> Result<Octets, Memory>
-    ensures { IfOk result (λ made. made ≡ plain_text (values_of lexemes.now)) }
+pub fn plain_phrase(alloc: Global, lexemes: Lexemes<'_, '_>) -> Result<Octets, Memory>
+    ensures { IfOk result (λ made. made ≡ plain_text (values_of lexemes.entry)) }
 {
     let mut made = Octets::new(alloc);
     let mut is_first = true;
     let mut is_apart = false;
-    for lexeme in lexemes {
-        if is_blank(*lexeme) {
+    let mut rest = lexemes;
+    while let Some((lexeme, behind)) = rest.split_first() {
+        if is_blank(lexeme) {
             is_apart = !is_first;
         } else {
             if is_apart {
                 made.push(b' ')?;
             }
-            push_content(&mut made, *lexeme)?;
+            push_content(&mut made, lexeme)?;
             is_first = false;
             is_apart = false;
         }
+        rest = behind;
     }
     Ok(made)
 }

@@ -5,53 +5,58 @@ use Rattle.std.proofs.lemmas.Bool.Decides.{nat_tests}
 use Rattle.std.proofs.lemmas.List.{append_assoc, append-nil, length-append, nil_from_length}
 use Rattle.std.specs.List.{concat}
 use Rattle.encoded_words.specs.Words.{UnitValue}
-use Rattle.field_tokens.specs.Comments.{AddsPieces}
 use Rattle.param_grammar.specs.Escapes.{escaped}
 use Rattle.param_2231.specs.Layout.{octets_in, IsPartOf, AreSectionTexts, charset_part, whole_piece, numbered_piece, numbered_pieces, is_short, ParamPieces, Whole, Parts, GivesWhere}
+use Rattle.param_2231.specs.private.Lines.{line_behind, lines_behind, AddsBehind}
 use Rattle.param_2231.specs.private.Parts.{IsCuttable, IsWritableUnit, IsFitting}
 use Rattle.param_2231.proofs.PartLemmas.{fitting_short, fitting_long, AreParts-once, AreParts-some}
 
 -- ---- one piece
 
-pub adds_whole : (name : List ℕ) (unit : UnitValue) (whole : Bool) (old new : List (List ℕ)) → (whole || is_short unit) ≡ true → new ≡ old ++ whole_piece name unit ∷ []
-    → AddsPieces (ParamPieces whole name unit) old new
-adds_whole name unit whole old new is put = record { pieces = whole_piece name unit ∷ []; holds = Whole is refl; added = put }
+pub adds_whole : (lead name : List ℕ) (unit : UnitValue) (whole : Bool) (old new : List ℕ) → (whole || is_short unit) ≡ true → new ≡ old ++ line_behind lead (whole_piece name unit)
+    → AddsBehind lead (ParamPieces whole name unit) old new
+adds_whole lead name unit whole old new is put = record {
+  pieces = whole_piece name unit ∷ [];
+  holds = Whole is refl;
+  added = put ∙ ap (λ r. old ++ r) (sym (append-nil (line_behind lead (whole_piece name unit))));
+}
 
 -- ---- several pieces
 
 -- The pieces so far are those of the parts before rest: whatever parts rest has, their pieces complete the others.
-pub record WritesParts (name : List ℕ) (unit : UnitValue) (old mid : List (List ℕ)) (number : ℕ) (rest : List ℕ) : Type 0 where
+pub record WritesParts (lead name : List ℕ) (unit : UnitValue) (old mid : List ℕ) (number : ℕ) (rest : List ℕ) : Type 0 where
   pub can : IsCuttable unit rest
   pub counted : number + length rest ≤ length (octets_in unit)
-  pub onward : (parts : List (List ℕ)) → AreSectionTexts unit parts → rest ≡ concat parts → AddsPieces (ParamPieces false name unit) old (mid ++ numbered_pieces name number parts)
+  pub onward : (parts : List (List ℕ)) → AreSectionTexts unit parts → rest ≡ concat parts → AddsBehind lead (ParamPieces false name unit) old (mid ++ lines_behind lead (numbered_pieces name number parts))
 
-pub WritesParts-first : (name : List ℕ) (unit : UnitValue) (first rest : List ℕ) (old mid : List (List ℕ)) → is_short unit ≡ false → octets_in unit ≡ first ++ rest → IsPartOf unit first rest
-    → IsCuttable unit rest → mid ≡ old ++ numbered_piece name 0 (charset_part unit ++ escaped first) ∷ [] → WritesParts name unit old mid 1 rest
-WritesParts-first name unit first rest old mid long whole is can put = record {
+pub WritesParts-first : (lead name : List ℕ) (unit : UnitValue) (first rest : List ℕ) (old mid : List ℕ) → is_short unit ≡ false → octets_in unit ≡ first ++ rest → IsPartOf unit first rest
+    → IsCuttable unit rest → mid ≡ old ++ line_behind lead (numbered_piece name 0 (charset_part unit ++ escaped first)) → WritesParts lead name unit old mid 1 rest
+WritesParts-first lead name unit first rest old mid long whole is can put = record {
   can = can;
   counted = let some = is.some in omega (arith, some, ap length whole, length-append first rest);
   onward = λ parts are e. record {
     pieces = numbered_piece name 0 (charset_part unit ++ escaped first) ∷ numbered_pieces name 1 parts;
     holds = Parts first parts long (subst (IsPartOf unit first) e is, are) (whole ∙ ap (λ r. first ++ r) e) refl;
-    added = rw put (append_assoc old (numbered_piece name 0 (charset_part unit ++ escaped first) ∷ []) (numbered_pieces name 1 parts));
+    added = rw put (append_assoc old (line_behind lead (numbered_piece name 0 (charset_part unit ++ escaped first))) (lines_behind lead (numbered_pieces name 1 parts)));
   };
 }
 
-pub WritesParts-more : (name : List ℕ) (unit : UnitValue) (part after rest : List ℕ) (old mid new : List (List ℕ)) (number : ℕ) → rest ≡ part ++ after → IsPartOf unit part after
-    → IsCuttable unit after → new ≡ mid ++ numbered_piece name number (escaped part) ∷ [] → WritesParts name unit old mid number rest → WritesParts name unit old new (number + 1) after
-WritesParts-more name unit part after rest old mid new number whole is can put so_far = record {
+pub WritesParts-more : (lead name : List ℕ) (unit : UnitValue) (part after rest : List ℕ) (old mid new : List ℕ) (number : ℕ) → rest ≡ part ++ after → IsPartOf unit part after
+    → IsCuttable unit after → new ≡ mid ++ line_behind lead (numbered_piece name number (escaped part)) → WritesParts lead name unit old mid number rest
+    → WritesParts lead name unit old new (number + 1) after
+WritesParts-more lead name unit part after rest old mid new number whole is can put so_far = record {
   can = can;
   counted = let some = is.some in let before = so_far.counted in omega (arith, some, before, ap length whole, length-append part after);
   onward = λ parts are e.
       let next : number + 1 ≡ suc number = omega arith in
       let all = so_far.onward (part ∷ parts) (subst (IsPartOf unit part) e is, are) (whole ∙ ap (λ r. part ++ r) e) in
-      rw (put, next, append_assoc mid (numbered_piece name number (escaped part) ∷ []) (numbered_pieces name (suc number) parts)) all;
+      rw (put, next, append_assoc mid (line_behind lead (numbered_piece name number (escaped part))) (lines_behind lead (numbered_pieces name (suc number) parts))) all;
 }
 
-pub WritesParts-end : (name : List ℕ) (unit : UnitValue) (rest : List ℕ) (old mid : List (List ℕ)) (number : ℕ) → length rest ≡ 0 → WritesParts name unit old mid number rest
-    → AddsPieces (ParamPieces false name unit) old mid
-WritesParts-end name unit rest old mid number end so_far =
-    subst (AddsPieces (ParamPieces false name unit) old) (append-nil mid) (so_far.onward [] tt (nil_from_length rest end))
+pub WritesParts-end : (lead name : List ℕ) (unit : UnitValue) (rest : List ℕ) (old mid : List ℕ) (number : ℕ) → length rest ≡ 0 → WritesParts lead name unit old mid number rest
+    → AddsBehind lead (ParamPieces false name unit) old mid
+WritesParts-end lead name unit rest old mid number end so_far =
+    subst (AddsBehind lead (ParamPieces false name unit) old) (append-nil mid) (so_far.onward [] tt (nil_from_length rest end))
 
 pub not_short_some : (unit : UnitValue) → is_short unit ≡ false → 0 < length (octets_in unit)
 not_short_some unit long = by (octets_in unit) long

@@ -13,7 +13,8 @@ use Rattle.field_tokens.specs.declared.TokenKind.{TokenKind}
 use Rattle.field_tokens.specs.declared.TokenKind.TheVariants.{Atom, Quoted, Literal, Special, Gap, Comment}
 use Rattle.field_tokens.specs.Tokens.{IsToken, octets_at, HasTokens}
 use Rattle.field_tokens.specs.Squeezed.{is_blank, run_octets, octets_of, is_atom_kind}
-use Rattle.field_tokens.specs.Comments.{AddsPieces}
+use Rattle.encoded_words.specs.Folding.{AddsLines}
+use Rattle.param_2231.specs.private.Lines.{AddsBehind}
 use Rattle.mail_wire.specs.Octets.{is_white}
 use Rattle.field_tokens.proofs.Parts.{octets_of-tokens}
 use Rattle.field_tokens.proofs.SqueezedValues.{value_at, values_at, AreKept}
@@ -162,8 +163,12 @@ ParamPieces-reads name unit pieces comes are kind main is =
     subst (λ ps. SaysParams kind (join_with_byte 32 ps) lower params []) whole again.says
 
 -- what holds the layout is read back
-pub AddsPieces-reads : (name : List ℕ) (unit : UnitValue) (old new : List (List ℕ)) → ComesInParams name unit → AddsPieces (ParamPieces false name unit) old new → AddsPieces (ReadsAsOne name unit) old new
-AddsPieces-reads name unit old new comes adds = record { pieces = adds.pieces; holds = ParamPieces-reads name unit adds.pieces comes adds.holds; added = adds.added }
+pub adds_reads : (name : List ℕ) (unit : UnitValue) (old new : List ℕ) → ComesInParams name unit → AddsLines (ParamPieces false name unit) old new → AddsLines (ReadsAsOne name unit) old new
+adds_reads name unit old new comes adds = record { pieces = adds.pieces; holds = ParamPieces-reads name unit adds.pieces comes adds.holds; added = adds.added }
+
+-- lines behind nothing
+pub behind_nothing : (P : List (List ℕ) → Type 0) (old new : List ℕ) → AddsBehind [] P old new → AddsLines P old new
+behind_nothing P old new adds = record { pieces = adds.pieces; holds = adds.holds; added = adds.added }
 
 -- the first of parameters that were read comes in a text
 pub ComesInParams-first : (kind : ParamKind) (text main : List ℕ) (list items : List Param) (trees : List Tree) (first : Param) → HasParams kind text main (map param_value list) trees → items ≡ list

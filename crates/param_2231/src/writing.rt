@@ -1,10 +1,11 @@
 //! The writer of parameters.
-ghost use Rattle.std.specs.Prelude.{◌≡◌, ◌<◌, ◌≤◌, ◌||◌, ◌++◌, ◌∷◌, ◌↔◌, [], not, nat_lt, false, length, codes, IfOk, OnOk, IsTrue, IsUtf8};
+ghost use Rattle.std.specs.Prelude.{◌≡◌, ◌<◌, ◌≤◌, ◌||◌, ◌++◌, ◌∷◌, ◌↔◌, [], not, nat_lt, false, length, codes, OnOk, IsTrue, IsUtf8};
 ghost use Rattle.std.specs.Str.{IsCharBoundary};
 ghost use Rattle.encoded_words.specs.private.Values.{value_of};
-ghost use Rattle.field_tokens.specs.Comments.{AddsPieces};
+ghost use Rattle.encoded_words.specs.Folding.{AddsLines};
 ghost use Rattle.param_grammar.specs.Escapes.{escaped};
 ghost use Rattle.param_2231.specs.Layout.{number_digits, charset_of as charset_value, octets_in as octets_value, IsPartOf, charset_part, whole_piece, numbered_piece, is_short as is_short_value, ParamPieces};
+ghost use Rattle.param_2231.specs.private.Lines.{AddsBehind, line_behind};
 ghost use Rattle.param_2231.specs.private.Parts.{IsCuttable, IsWritableUnit, IsFitting, IsLastBoundary, IsLastEnd};
 ghost use Rattle.param_2231.specs.WrittenParam.{ComesInParams, ReadsAsOne};
 
@@ -12,7 +13,6 @@ use encoded_words::Unit;
 use itoa::Buffer;
 use mail_wire::{Memory, Octets};
 use param_grammar::{escaped_len, push_escaped};
-use std::alloc::Global;
 
 // The most octets that spell a whole value, or a part of one.
 const MOST: usize = 60;
@@ -105,21 +105,23 @@ fn push_charset(made: &mut Octets, unit: &Unit) -> Result<(), Memory>
     made.push_slice(b"''")
 }
 
-// Puts a whole value last.
-fn push_whole(
-    alloc: Global,
-    name: &[u8],
-    unit: &Unit,
-    pieces: &mut Vec<Octets>,
-) -> Result<(), Memory>
-    ensures { OnOk result (pieces.new.items ≡ pieces.old.items ++ whole_piece name.now (value_of unit.now) ∷ []) }
+// Begins a line, with this put behind the line before.
+pub(crate) fn begin_line(made: &mut Octets, lead: &[u8]) -> Result<(), Memory>
+    ensures { OnOk result (made.new ≡ made.old ++ line_behind lead.now []) }
 {
-    let mut piece = Octets::from_slice(alloc, name)?;
-    piece.push_slice(b"*=")?;
-    push_charset(&mut piece, unit)?;
-    push_escaped(&mut piece, octets_in(unit))?;
-    pieces.push(piece)?;
-    Ok(())
+    made.push_slice(lead)?;
+    made.push_slice(b"\r\n ")
+}
+
+// Puts a whole value last.
+fn push_whole(name: &[u8], unit: &Unit, lead: &[u8], made: &mut Octets) -> Result<(), Memory>
+    ensures { OnOk result (made.new ≡ made.old ++ line_behind lead.now (whole_piece name.now (value_of unit.now))) }
+{
+    begin_line(made, lead)?;
+    made.push_slice(name)?;
+    made.push_slice(b"*=")?;
+    push_charset(made, unit)?;
+    push_escaped(made, octets_in(unit))
 }
 
 // Puts the digits of a number last.
@@ -130,68 +132,59 @@ fn push_number(piece: &mut Octets, number: usize) -> Result<(), Memory>
     piece.push_slice(digits.format(number).as_bytes())
 }
 
-// What stands before the value of a numbered piece.
-fn begin_piece(alloc: Global, name: &[u8], number: usize) -> Result<Octets, Memory>
-    ensures { IfOk result (λ piece. piece ≡ name.now ++ codes "*" ++ number_digits number ++ codes "*=") }
+// Puts what stands before the value of a numbered piece last.
+fn begin_piece(name: &[u8], number: usize, lead: &[u8], made: &mut Octets) -> Result<(), Memory>
+    ensures { OnOk result (made.new ≡ made.old ++ line_behind lead.now (name.now ++ codes "*" ++ number_digits number ++ codes "*=")) }
 {
-    let mut piece = Octets::from_slice(alloc, name)?;
-    piece.push(b'*')?;
-    push_number(&mut piece, number)?;
-    piece.push_slice(b"*=")?;
-    Ok(piece)
+    begin_line(made, lead)?;
+    made.push_slice(name)?;
+    made.push(b'*')?;
+    push_number(made, number)?;
+    made.push_slice(b"*=")
 }
 
 // Puts the first of several pieces last.
 fn push_first(
-    alloc: Global,
     name: &[u8],
     unit: &Unit,
     part: &[u8],
-    pieces: &mut Vec<Octets>,
+    lead: &[u8],
+    made: &mut Octets,
 ) -> Result<(), Memory>
-    ensures { OnOk result (pieces.new.items ≡ pieces.old.items ++ numbered_piece name.now 0 (charset_part (value_of unit.now) ++ escaped part.now) ∷ []) }
+    ensures { OnOk result (made.new ≡ made.old ++ line_behind lead.now (numbered_piece name.now 0 (charset_part (value_of unit.now) ++ escaped part.now))) }
 {
-    let mut piece = begin_piece(alloc, name, 0)?;
-    push_charset(&mut piece, unit)?;
-    push_escaped(&mut piece, part)?;
-    pieces.push(piece)?;
-    Ok(())
+    begin_piece(name, 0, lead, made)?;
+    push_charset(made, unit)?;
+    push_escaped(made, part)
 }
 
 // Puts another of several pieces last.
 fn push_part(
-    alloc: Global,
     name: &[u8],
     number: usize,
     part: &[u8],
-    pieces: &mut Vec<Octets>,
+    lead: &[u8],
+    made: &mut Octets,
 ) -> Result<(), Memory>
-    ensures { OnOk result (pieces.new.items ≡ pieces.old.items ++ numbered_piece name.now number (escaped part.now) ∷ []) }
+    ensures { OnOk result (made.new ≡ made.old ++ line_behind lead.now (numbered_piece name.now number (escaped part.now))) }
 {
-    let mut piece = begin_piece(alloc, name, number)?;
-    push_escaped(&mut piece, part)?;
-    pieces.push(piece)?;
-    Ok(())
+    begin_piece(name, number, lead, made)?;
+    push_escaped(made, part)
 }
 
 // Puts the pieces of a value that is not short last.
-fn push_parts(
-    alloc: Global,
-    name: &[u8],
-    unit: &Unit,
-    pieces: &mut Vec<Octets>,
-) -> Result<(), Memory>
+fn push_parts(name: &[u8], unit: &Unit, lead: &[u8], made: &mut Octets) -> Result<(), Memory>
     requires text { IsWritableUnit (value_of unit.now) }
     requires long { is_short_value (value_of unit.now) ≡ false }
-    ensures { OnOk result (AddsPieces (ParamPieces false name.now (value_of unit.now)) pieces.old.items pieces.new.items) }
+    ensures { OnOk result (AddsBehind lead.now (ParamPieces false name.now (value_of unit.now)) made.old made.new) }
 {
     let (first, behind) = split_part(unit, octets_in(unit));
-    push_first(alloc, name, unit, first, pieces)?;
+    push_first(name, unit, first, lead, made)?;
     let mut rest = behind;
     let mut number = 1;
     while !rest.is_empty() {
         let (part, after) = split_part(unit, rest);
-        push_part(alloc, name, number, part, pieces)?;
+        push_part(name, number, part, lead, made)?;
         number += 1;
         rest = after;
     }
@@ -214,31 +207,27 @@ fn is_whole(unit: &Unit, whole: bool) -> bool
 
 // Puts the pieces of a parameter last: one, where it has to be whole.
 pub(crate) fn push_param(
-    alloc: Global,
     name: &[u8],
     unit: &Unit,
     whole: bool,
-    pieces: &mut Vec<Octets>,
+    lead: &[u8],
+    made: &mut Octets,
 ) -> Result<(), Memory>
     requires { IsWritableUnit (value_of unit.now) }
-    ensures { OnOk result (AddsPieces (ParamPieces whole name.now (value_of unit.now)) pieces.old.items pieces.new.items) }
+    ensures { OnOk result (AddsBehind lead.now (ParamPieces whole name.now (value_of unit.now)) made.old made.new) }
 {
     if is_whole(unit, whole) {
-        return push_whole(alloc, name, unit, pieces);
+        return push_whole(name, unit, lead, made);
     }
-    push_parts(alloc, name, unit, pieces)
+    push_parts(name, unit, lead, made)
 }
 
-/// Puts the pieces of a parameter last.
-pub fn write_param(
-    alloc: Global,
-    name: &[u8],
-    value: &Unit,
-    pieces: &mut Vec<Octets>,
-) -> Result<(), Memory>
+/// Puts the pieces of a parameter last, each on a line of its own behind a space. After want of memory a front of these lines
+/// was put.
+pub fn write_param(name: &[u8], value: &Unit, made: &mut Octets) -> Result<(), Memory>
     requires { ComesInParams name.now (value_of value.now) }
-    ensures layout { OnOk result (AddsPieces (ParamPieces false name.now (value_of value.now)) pieces.old.items pieces.new.items) }
-    ensures read_back { OnOk result (AddsPieces (ReadsAsOne name.now (value_of value.now)) pieces.old.items pieces.new.items) }
+    ensures layout { OnOk result (AddsLines (ParamPieces false name.now (value_of value.now)) made.old made.new) }
+    ensures read_back { OnOk result (AddsLines (ReadsAsOne name.now (value_of value.now)) made.old made.new) }
 {
-    push_param(alloc, name, value, false, pieces)
+    push_param(name, value, false, b"", made)
 }

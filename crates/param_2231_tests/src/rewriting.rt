@@ -1,20 +1,19 @@
 //! Texts, and the pieces that they are written in.
+use encoded_words::push_line;
+use mail_wire::Octets;
 use param_2231::rewrite_params;
 use param_grammar::{ParamFault, ParamKind};
 use std::alloc::Global;
 use std::test::Fail;
 
 fn has_pieces(alloc: Global, kind: ParamKind, text: &str, wanted: &[&str]) -> Result<bool, Fail> {
-    let pieces = rewrite_params(alloc, kind, text.as_bytes(), true).map_err(|_| "no pieces")?;
-    if pieces.len() != wanted.len() {
-        return Ok(false);
+    let mut made = Octets::from_slice(alloc, b"Content-Type:").map_err(|_| "memory")?;
+    rewrite_params(alloc, kind, text.as_bytes(), true, &mut made).map_err(|_| "no pieces")?;
+    let mut lines = Octets::from_slice(alloc, b"Content-Type:").map_err(|_| "memory")?;
+    for piece in wanted {
+        push_line(&mut lines, piece.as_bytes()).map_err(|_| "memory")?;
     }
-    for (piece, text) in pieces.iter().zip(wanted) {
-        if piece.as_slice() != text.as_bytes() {
-            return Ok(false);
-        }
-    }
-    Ok(true)
+    Ok(made.as_slice() == lines.as_slice())
 }
 
 fn is_disposed(rt: &HostRuntime, text: &str, wanted: &[&str]) -> Result<bool, Fail> {
@@ -135,7 +134,10 @@ fn messages_with_utf8_headers_are_opened(rt: HostRuntime) -> Result<(), Fail> {
 
 #[test]
 fn other_texts_are_malformed(rt: HostRuntime) -> Result<(), Fail> {
-    let pieces = rewrite_params(rt.alloc(), ParamKind::Disposition, "é".as_bytes(), false);
-    assert!(rt; pieces.is_err_and(|fault| fault == ParamFault::Malformed));
+    let mut made = Octets::from_slice(rt.alloc(), b"-").map_err(|_| "memory")?;
+    let text = "é".as_bytes();
+    let done = rewrite_params(rt.alloc(), ParamKind::Disposition, text, false, &mut made);
+    assert!(rt; done.is_err_and(|fault| fault == ParamFault::Malformed));
+    assert_eq!(rt; made.as_slice(), b"-".as_slice());
     Ok(())
 }

@@ -32,7 +32,7 @@ blocks_further IsMade msg from at to (entity ∷ entities) made order le is = (
   blocks_further IsMade msg entity.block.end at to entities is.1 order.2 le is.4,
 )
 
-nothing_between : (msg : List ℕ) (at : ℕ) → slice_range msg at at ≡ []
+pub nothing_between : (msg : List ℕ) (at : ℕ) → slice_range msg at at ≡ []
 nothing_between msg at = let none : at - at ≡ 0 = omega arith in rw none refl
 
 -- one more block

@@ -8,10 +8,7 @@ use Rattle.std.proofs.lemmas.List.Folds.{concat-append}
 use Rattle.std.proofs.lemmas.Slice.Eq.{bytes_eq-Decides}
 use Rattle.utf8_fields.specs.declared.block.Field.{Field}
 use Rattle.utf8_fields.specs.Block.{raw_of}
-use Rattle.field_downgrade.specs.declared.field.Rewrite.{Rewrite}
-use Rattle.field_downgrade.specs.declared.field.Rewrite.TheVariants.{Keep, New}
 use Rattle.field_downgrade.specs.Message.{IsServedField}
-use Rattle.field_downgrade.specs.private.Views.{made_from, IsKeep}
 use Rattle.mime_tree.specs.declared.entity.Entity.{Entity}
 use Rattle.surrogate_rope.specs.Layout.{IsOpenGlobal, InEntity}
 use Rattle.surrogate_rope.specs.Ropes.{changed_by}
@@ -24,26 +21,25 @@ not_same raw made differs = elim (cases_Bool (bytes_eq raw made)) [
 ]
 
 -- the field itself was put last
-pub field_kept : (open_global : Bool) (raw octets : List ℕ) (old : Written) (rewrite : Rewrite) → IsServedField open_global raw (made_from raw rewrite) → rewrite ≡ Keep → octets ≡ old.octets ++ raw
+pub field_kept : (open_global : Bool) (raw octets : List ℕ) (old : Written) → IsServedField open_global raw raw → octets ≡ old.octets ++ raw
     → AddsField (IsServedField open_global raw) raw old (record { octets = octets; rewritten = old.rewritten; fresh = old.fresh })
-field_kept open_global raw octets old rewrite served is added = record {
+field_kept open_global raw octets old served added = record {
   field = raw;
-  holds = rw is at served;
+  holds = served;
   octets = added;
   counted = rw ((bytes_eq-Decides raw raw).1 refl) (omega arith);
   sized = rw ((bytes_eq-Decides raw raw).1 refl) (omega arith);
 }
 
 -- another field was, and counted
-pub field_made : (open_global : Bool) (raw made octets : List ℕ) (count fresh : ℕ) (old : Written) (rewrite : Rewrite) → IsServedField open_global raw (made_from raw rewrite) → IsKeep rewrite ↔ (made_from raw rewrite ≡ raw)
-    → rewrite ≡ New made → count ≡ old.rewritten + 1 → fresh ≡ old.fresh + length made → octets ≡ old.octets ++ made
-    → AddsField (IsServedField open_global raw) raw old (record { octets = octets; rewritten = count; fresh = fresh })
-field_made open_global raw made octets count fresh old rewrite served keep is counted sized added = record {
+pub field_made : (open_global : Bool) (raw made octets : List ℕ) (count fresh : ℕ) (old : Written) → IsServedField open_global raw made → made ≢ raw → count ≡ old.rewritten + 1 → fresh ≡ old.fresh + length made
+    → octets ≡ old.octets ++ made → AddsField (IsServedField open_global raw) raw old (record { octets = octets; rewritten = count; fresh = fresh })
+field_made open_global raw made octets count fresh old served differs counted sized added = record {
   field = made;
-  holds = rw is at served;
+  holds = served;
   octets = added;
-  counted = rw (not_same raw made (λ same. (rw is at keep.1) same)) (omega (arith, counted));
-  sized = rw (not_same raw made (λ same. (rw is at keep.1) same)) (omega (arith, sized));
+  counted = rw (not_same raw made differs) (omega (arith, counted));
+  sized = rw (not_same raw made differs) (omega (arith, sized));
 }
 
 -- what those weigh that are others, one more field considered

@@ -1,16 +1,14 @@
 -- Octets of the message that are kept and not yet a piece.
-use Rattle.std.proofs.Common.{◌≡◌, ℕ, ◌+◌, ◌-◌, ◌^◌, ◌<◌, ◌≤◌, ◌↔◌, inl, inr, Bool, true, false, nat_lt, List, [], ◌∷◌, ◌++◌, length, refl, sym, ap, ◌∙◌, subst, arith, append_assoc, append-nil, length-append}
+use Rattle.std.proofs.Common.{◌≡◌, ℕ, ◌+◌, ◌-◌, ◌^◌, ◌<◌, ◌≤◌, ◌≢◌, inl, inr, Bool, true, false, nat_lt, List, [], ◌∷◌, ◌++◌, length, refl, sym, ap, ◌∙◌, subst, arith, append_assoc, append-nil, length-append}
 use Rattle.std.specs.Prelude.{slice_range}
 use Rattle.std.proofs.lemmas.Bool.{cases_Bool, ltb-true, ltb-false}
-use Rattle.field_downgrade.specs.declared.field.Rewrite.{Rewrite}
-use Rattle.field_downgrade.specs.declared.field.Rewrite.TheVariants.{Keep, New as NewField}
 use Rattle.field_downgrade.specs.Message.{IsServedField}
-use Rattle.field_downgrade.specs.private.Views.{made_from, IsKeep}
 use Rattle.mime_tree.proofs.InOrder.{slices_join}
 use Rattle.mime_tree.proofs.InPlace.{slice_none}
 use Rattle.surrogate_rope.specs.declared.building.Made.{Made}
 use Rattle.surrogate_rope.specs.Ropes.{RopePiece, Range, New, AreWithin, joined_pieces, size_of, range_size, new_size}
 use Rattle.surrogate_rope.specs.Stored.{new_count, range_count}
+use Rattle.surrogate_rope.specs.private.Pieces.{range_where}
 use Rattle.surrogate_rope.specs.private.Building.{ReachesPlace, written, with_kept, Copies, AddsField}
 use Rattle.surrogate_rope.proofs.AddedFields.{field_kept, field_made}
 use Rattle.surrogate_rope.proofs.PieceLemmas.{size_parts, range_size-push, new_size-push, joined_length, joined-push, within-push}
@@ -94,21 +92,34 @@ is_kept msg at made stands = elim (cases_Bool (nat_lt made.from at)) [
           kept = let kept = ap range_size are in let from = stands.from in omega (arith, stands.kept);
         }
 
+-- the same by the number of octets
+pub kept_where : (made : Made) (at : ℕ) → made.pieces ++ range_where (record { at = made.from; len = at - made.from }) ≡ with_kept made at
+kept_where made at = elim (cases_Bool (nat_lt made.from at)) [
+  | inl less ↦ elim (cases_Bool (nat_lt 0 (at - made.from))) [
+    | inl some ↦ rw (less, some) refl
+    | inr none ↦ let a = ltb-true made.from at less in let b = ltb-false 0 (at - made.from) none in absurd (omega arith)
+  ]
+  | inr least ↦ elim (cases_Bool (nat_lt 0 (at - made.from))) [
+    | inl some ↦ let a = ltb-false made.from at least in let b = ltb-true 0 (at - made.from) some in absurd (omega arith)
+    | inr none ↦ rw (least, none) (append-nil made.pieces)
+  ]
+]
+
 -- a field that is kept is copied
-pub field_stays : (msg : List ℕ) (open_global : Bool) (at end : ℕ) (made : Made) (rewrite : Rewrite) → ReachesPlace msg at made → at ≤ end → IsServedField open_global (slice_range msg at end) (made_from (slice_range msg at end) rewrite)
-    → rewrite ≡ Keep → AddsField (IsServedField open_global (slice_range msg at end)) (slice_range msg at end) (written msg at made) (written msg end made)
-field_stays msg open_global at end made rewrite stands order served is =
-    field_kept open_global (slice_range msg at end) (joined_pieces msg made.pieces ++ slice_range msg made.from end) (written msg at made) rewrite served is (written_copies msg at end made stands order).octets
+pub field_stays : (msg : List ℕ) (open_global : Bool) (at end : ℕ) (made : Made) → ReachesPlace msg at made → at ≤ end → IsServedField open_global (slice_range msg at end) (slice_range msg at end)
+    → AddsField (IsServedField open_global (slice_range msg at end)) (slice_range msg at end) (written msg at made) (written msg end made)
+field_stays msg open_global at end made stands order served =
+    field_kept open_global (slice_range msg at end) (joined_pieces msg made.pieces ++ slice_range msg made.from end) (written msg at made) served (written_copies msg at end made stands order).octets
 
 -- the state behind a field that was made anew
 pub record IsNext (msg : List ℕ) (open_global : Bool) (at end : ℕ) (old new : Made) : Type 0 where
   pub stands : ReachesPlace msg end new
   pub adds : AddsField (IsServedField open_global (slice_range msg at end)) (slice_range msg at end) (written msg at old) (written msg end new)
 
-pub field_is_new : (msg : List ℕ) (open_global : Bool) (at end : ℕ) (made : List ℕ) (pieces : List RopePiece) (count : ℕ) (old : Made) (rewrite : Rewrite) → ReachesPlace msg at old → at ≤ end → end ≤ length msg → new_size pieces < 2 ^ 63
-    → IsServedField open_global (slice_range msg at end) (made_from (slice_range msg at end) rewrite) → IsKeep rewrite ↔ (made_from (slice_range msg at end) rewrite ≡ slice_range msg at end) → rewrite ≡ NewField made
-    → pieces ≡ with_kept old at ++ New made ∷ [] → count ≡ old.rewritten + 1 → IsNext msg open_global at end old (record { pieces = pieces; from = end; rewritten = count })
-field_is_new msg open_global at end made pieces count old rewrite stands order fits few_new served keep is pieces_are counted =
+pub field_is_new : (msg : List ℕ) (open_global : Bool) (at end : ℕ) (made : List ℕ) (pieces : List RopePiece) (count : ℕ) (old : Made) → ReachesPlace msg at old → at ≤ end → end ≤ length msg → new_size pieces < 2 ^ 63
+    → IsServedField open_global (slice_range msg at end) made → made ≢ slice_range msg at end → pieces ≡ with_kept old at ++ New made ∷ [] → count ≡ old.rewritten + 1
+    → IsNext msg open_global at end old (record { pieces = pieces; from = end; rewritten = count })
+field_is_new msg open_global at end made pieces count old stands order fits few_new served differs pieces_are counted =
     let kept = is_kept msg at old stands in
     let size : length pieces ≡ length (with_kept old at) + 1 = ap length pieces_are ∙ length-append (with_kept old at) (New made ∷ []) in
     let least = kept.least in
@@ -126,7 +137,7 @@ field_is_new msg open_global at end made pieces count old rewrite stands order f
     let ranges_most : range_count pieces ≤ count = omega (arith, counted, kept.ranges) in
     record {
       stands = record { from = omega arith; fits = fits; within = rw pieces_are (within-push msg (with_kept old at) (New made) kept.within tt); kept = omega (arith, kept.kept); fresh = few_new; few = omega (arith, counted); new = new_most; ranges = ranges_most };
-      adds = field_made open_global (slice_range msg at end) made (joined_pieces msg pieces ++ slice_range msg end end) count (new_size pieces) (written msg at old) rewrite served keep is counted
+      adds = field_made open_global (slice_range msg at end) made (joined_pieces msg pieces ++ slice_range msg end end) count (new_size pieces) (written msg at old) served differs counted
           (omega (arith, kept.fresh)) octets;
     }
 

@@ -20,3 +20,5 @@ pub mod BuiltRopes
 pub mod OneLayout
 pub mod SurrogateBlocks
 pub mod AllSurrogates
+pub mod SurrogateTypes
+pub mod OwnSurrogates

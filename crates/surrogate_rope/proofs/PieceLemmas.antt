@@ -1,17 +1,17 @@
 -- Pieces, where they begin, and what they give.
-use Rattle.std.proofs.Common.{◌≡◌, ℕ, zero, suc, ◌+◌, ◌-◌, ◌^◌, ◌<◌, ◌≤◌, ◌⊎◌, inl, inr, Bool, true, false, nat_le, IsTrue, List, [], ◌∷◌, ◌++◌, length, take, drop, get_or, min, refl, sym, ap, ◌∙◌, subst, arith, if◌then◌else◌, append_assoc, append-nil, length-append, length-take, length-drop, take-add}
+use Rattle.std.proofs.Common.{◌≡◌, ℕ, zero, suc, ◌+◌, ◌-◌, ◌^◌, ◌<◌, ◌≤◌, ◌⊎◌, inl, inr, Bool, true, false, nat_le, nat_lt, IsTrue, List, [], ◌∷◌, ◌++◌, length, take, drop, get_or, min, refl, sym, ap, ◌∙◌, subst, arith, if◌then◌else◌, append_assoc, append-nil, length-append, length-take, length-drop, take-add}
 use Rattle.std.specs.Prelude.{slice_range}
 use Rattle.std.proofs.lemmas.List.{length-take-le, drop_more, take_all, take-append-le, take-take, drop-append-le, drop-drop, take_at, drop_at, drop_all, map_push, length-map}
 use Rattle.std.specs.List.{AllAdjacentBelow}
 use Rattle.std.specs.List.Sorted.{IsNonDecreasingBy}
-use Rattle.std.proofs.lemmas.Bool.{cases_lt, leb-true, leb-false}
+use Rattle.std.proofs.lemmas.Bool.{cases_Bool, cases_lt, leb-true, leb-false, ltb-false}
 use Rattle.std.proofs.lemmas.List.Sorted.{IsNonDecreasingBy-from_all_adjacent}
 use borrow.Rule.Slice.PartMut.{mid_of, put_mid}
 use Rattle.mail_wire.specs.declared.values.Span.{Span}
 use Rattle.mime_tree.proofs.NewEntities.{slice_length}
 use Rattle.surrogate_rope.specs.declared.pieces.Piece.{Piece}
 use Rattle.surrogate_rope.specs.Ropes.{RopePiece, Range, New, piece_octets, piece_size, IsWithin, AreWithin, joined_pieces, size_of, range_size, new_size}
-use Rattle.surrogate_rope.specs.private.Pieces.{piece_of, pieces_of, IsPieceAt, StandInPlace, HoldsPieces, IsInPiece}
+use Rattle.surrogate_rope.specs.private.Pieces.{piece_of, pieces_of, IsPieceAt, StandInPlace, HoldsPieces, IsInPiece, piece_at, range_at, range_where}
 
 -- ---- pieces as they are kept
 
@@ -185,6 +185,17 @@ range_pushed octets pieces size span has room =
       seen_is = seen;
     }
 
+-- the same of a range that may have no octets
+pub range_where_pushed : (octets : List ℕ) (pieces : List Piece) (size : ℕ) (span : Span) → HoldsPieces octets pieces size → range_size (pieces_of octets pieces) + span.len < 2 ^ 63
+    → IsPushed octets (pieces ++ range_at size span) (size + span.len) (pieces_of octets pieces ++ range_where span)
+range_where_pushed octets pieces size span has room = elim (cases_Bool (nat_lt 0 span.len)) [
+  | inl some ↦ rw some (range_pushed octets pieces size span has room)
+  | inr none ↦
+      let least = ltb-false 0 span.len none in
+      let same : size + span.len ≡ size = omega arith in
+      rw (none, same) (record { has = subst (λ ps. HoldsPieces octets ps size) (sym (append-nil pieces)) has; seen_is = ap (pieces_of octets) (append-nil pieces) ∙ sym (append-nil (pieces_of octets pieces)) })
+]
+
 -- where octets were put last that no piece has yet
 pub octets_pushed : (octets more : List ℕ) (pieces : List Piece) (size : ℕ) → HoldsPieces octets pieces size → length (octets ++ more) < 2 ^ 63 → IsPushed (octets ++ more) pieces size (pieces_of octets pieces)
 octets_pushed octets more pieces size has few =
@@ -222,9 +233,28 @@ new_pushed octets more pieces size has few =
       seen_is = seen;
     }
 
+-- a field behind a range
+pub served_pushed : (octets field : List ℕ) (pieces : List Piece) (size : ℕ) (span : Span) → HoldsPieces octets pieces size → range_size (pieces_of octets pieces) + span.len < 2 ^ 63 → length (octets ++ field) < 2 ^ 63
+    → IsPushed (octets ++ field) ((pieces ++ range_at size span) ++ piece_at (size + span.len) true (record { at = length octets; len = length field }) ∷ []) (size + span.len + length field)
+    ((pieces_of octets pieces ++ range_where span) ++ New field ∷ [])
+served_pushed octets field pieces size span has room few =
+    let ranged = range_where_pushed octets pieces size span has room in
+    let new = new_pushed octets field (pieces ++ range_at size span) (size + span.len) ranged.has few in
+    record { has = new.has; seen_is = new.seen_is ∙ ap (λ front. front ++ New field ∷ []) ranged.seen_is }
+
 pub new_pushed_at : (octets more : List ℕ) (pieces : List Piece) (size at : ℕ) → HoldsPieces octets pieces size → length (octets ++ more) < 2 ^ 63 → at ≡ length octets
     → IsPushed (octets ++ more) (pieces ++ record { offset = size; is_new = true; range = record { at = at; len = length more } } ∷ []) (size + length more) (pieces_of octets pieces ++ New more ∷ [])
 new_pushed_at octets more pieces size at has few at_is = rw at_is (new_pushed octets more pieces size has few)
+
+pub served_pushed_with : (octets field : List ℕ) (pieces : List Piece) (size at len : ℕ) (span : Span) → HoldsPieces octets pieces size → range_size (pieces_of octets pieces) + span.len < 2 ^ 63
+    → length (octets ++ field) < 2 ^ 63 → at ≡ length octets → len ≡ length field
+    → IsPushed (octets ++ field) ((pieces ++ range_at size span) ++ piece_at (size + span.len) true (record { at = at; len = len }) ∷ []) (size + span.len + len)
+    ((pieces_of octets pieces ++ range_where span) ++ New field ∷ [])
+served_pushed_with octets field pieces size at len span has room few at_is len_is = rw (at_is, len_is) (served_pushed octets field pieces size span has room few)
+
+-- how many octets were put last
+pub pushed_len : (octets more new : List ℕ) (at count : ℕ) → new ≡ octets ++ more → at ≡ length octets → count ≡ length new → count - at ≡ length more
+pushed_len octets more new at count new_is at_is count_is = omega (arith, at_is, count_is, ap length new_is, length-append octets more)
 
 pub few_new : (octets : List ℕ) (pieces : List Piece) (size : ℕ) → HoldsPieces octets pieces size → new_size (pieces_of octets pieces) < 2 ^ 63
 few_new octets pieces size has = omega (arith, has.new, has.octets_few)
@@ -236,6 +266,31 @@ range_counted octets pieces size len has room = omega (arith, room, has.new, has
 pub new_counted : (octets more : List ℕ) (pieces : List Piece) (size : ℕ) → HoldsPieces octets pieces size → length (octets ++ more) < 2 ^ 63 → size + length more < 2 ^ 64
 new_counted octets more pieces size has few =
     omega (arith, few, length-append octets more, has.new, has.ranges_few, pieces_size octets 0 pieces size has.placed, size_parts (pieces_of octets pieces))
+
+-- a field that was made behind the octets, and a range before it: what is held at each step
+pub record ServedSteps (octets field made : List ℕ) (pieces : List Piece) (size at count : ℕ) (kept : Span) : Type 0 where
+  pub room : size + kept.len < 2 ^ 64
+  pub first : HoldsPieces made pieces size
+  pub second : HoldsPieces made (pieces ++ range_at size kept) (size + kept.len)
+  pub more : (size + kept.len) + (count - at) < 2 ^ 64
+  pub third : IsPushed made ((pieces ++ range_at size kept) ++ piece_at (size + kept.len) true (record { at = at; len = count - at }) ∷ []) (size + kept.len + (count - at))
+      ((pieces_of octets pieces ++ range_where kept) ++ New field ∷ [])
+
+pub served_steps : (octets field made : List ℕ) (pieces : List Piece) (size at count : ℕ) (kept : Span) → HoldsPieces octets pieces size → range_size (pieces_of octets pieces) + kept.len < 2 ^ 63 → made ≡ octets ++ field
+    → count ≡ length made → length made < 2 ^ 63 → at ≡ length octets → ServedSteps octets field made pieces size at count kept
+served_steps octets field made pieces size at count kept has room made_is count_is few at_is =
+    let ranged = range_where_pushed octets pieces size kept has room in
+    let all : length (octets ++ field) < 2 ^ 63 = subst (λ xs. length xs < 2 ^ 63) made_is few in
+    let len : count - at ≡ length field = pushed_len octets field made at count made_is at_is count_is in
+    let counted = new_counted octets field (pieces ++ range_at size kept) (size + kept.len) ranged.has all in
+    record {
+      room = range_counted octets pieces size kept.len has room;
+      first = subst (λ xs. HoldsPieces xs pieces size) (sym made_is) (octets_pushed octets field pieces size has all).has;
+      second = subst (λ xs. HoldsPieces xs (pieces ++ range_at size kept) (size + kept.len)) (sym made_is) (octets_pushed octets field (pieces ++ range_at size kept) (size + kept.len) ranged.has all).has;
+      more = omega (arith, counted, len);
+      third = subst (λ xs. IsPushed xs ((pieces ++ range_at size kept) ++ piece_at (size + kept.len) true (record { at = at; len = count - at }) ∷ []) (size + kept.len + (count - at))
+          ((pieces_of octets pieces ++ range_where kept) ++ New field ∷ [])) (sym made_is) (served_pushed_with octets field pieces size at (count - at) kept has room all at_is len);
+    }
 
 -- ---- what pieces give
 

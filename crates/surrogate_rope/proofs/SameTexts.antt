@@ -40,12 +40,12 @@ served_opens true main params = by (bytes_eq main (codes "message/global")) refl
     by false e = refl
 
 -- the texts say the same main part, as it is served, and the same parameters
-record SayTypes (open_global : Bool) (text made : List ℕ) : Type 0 where
-  main : List ℕ
-  params : List ParamValue
-  comments : List CommentValue
-  says : SaysParams Content text main params comments
-  made_says : SaysParams Content made (served_main open_global Content main) params comments
+pub record SayTypes (open_global : Bool) (text made : List ℕ) : Type 0 where
+  pub main : List ℕ
+  pub params : List ParamValue
+  pub comments : List CommentValue
+  pub says : SaysParams Content text main params comments
+  pub made_says : SaysParams Content made (served_main open_global Content main) params comments
 
 params_as : (text main other : List ℕ) (params others : List ParamValue) (comments more : List CommentValue) → Parameters main params comments ≡ Parameters other others more
     → SaysParams Content text main params comments → SaysParams Content text other others more
@@ -55,7 +55,7 @@ params_as text main other params others comments more e says =
     let said : comments ≡ more = cc e in
     subst (λ c. SaysParams Content text other others c) said (subst (λ p. SaysParams Content text other p comments) lists (subst (λ m. SaysParams Content text m params comments) mains says))
 
-say_types : (open_global : Bool) (f g : FieldParts) (text made : List ℕ) → kind_named f.name ≡ Params Content → HasValue f.body text → HasValue g.body made → IsSameMeaning open_global f g
+pub say_types : (open_global : Bool) (f g : FieldParts) (text made : List ℕ) → kind_named f.name ≡ Params Content → HasValue f.body text → HasValue g.body made → IsSameMeaning open_global f g
     → SayTypes open_global text made
 say_types open_global f g text made kind has made_has same =
     let says : SaysAs (Params Content) f.name text same.meaning = said_as (Params Content) f text same.meaning kind has same.means in
@@ -78,7 +78,7 @@ said_opens open_global text made opening say (inl a) =
 said_opens open_global text made opening say (inr b) = absurd (b.0 say.main say.params say.comments say.says)
 
 -- the value of a malformed type says no parameters
-no_params : (f : FieldParts) (text : List ℕ) → kind_named f.name ≡ Params Content → HasValue f.body text → IsMalformed f
+pub no_params : (f : FieldParts) (text : List ℕ) → kind_named f.name ≡ Params Content → HasValue f.body text → IsMalformed f
     → (main : List ℕ) (params : List ParamValue) (comments : List CommentValue) → ¬ (SaysParams Content text main params comments)
 no_params f text kind has malformed main params comments says = malformed (Parameters main params comments) (record {
   value = text;

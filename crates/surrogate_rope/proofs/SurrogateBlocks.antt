@@ -10,7 +10,7 @@ use Rattle.surrogate_rope.specs.Ropes.{RopeValue, IsRopeOf, octets_of}
 use Rattle.surrogate_rope.proofs.OneLayout.{one_layout}
 
 -- the made fields of an entity are ASCII
-ascii_fields : (msg : List ℕ) (entity : Entity) (raws mades : List (List ℕ)) → AllZip (InEntity StandsInAscii msg entity) raws mades → AllByRecursion (λ raw. list_all is_ascii raw ≡ true) mades
+pub ascii_fields : (msg : List ℕ) (entity : Entity) (raws mades : List (List ℕ)) → AllZip (InEntity StandsInAscii msg entity) raws mades → AllByRecursion (λ raw. list_all is_ascii raw ≡ true) mades
 ascii_fields msg entity [] [] all = tt
 ascii_fields msg entity [] (made ∷ mades) all = absurd all
 ascii_fields msg entity (raw ∷ raws) [] all = absurd all

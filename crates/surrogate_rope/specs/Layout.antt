@@ -47,6 +47,10 @@ pub record HasSurrogate (msg made : List ℕ) : Type 0 where
   pub layout : HasLayout msg entities made
   pub surrogate : IsSurrogate msg made
 
+-- The message has itself as its surrogate.
+abbrev pub IsItsOwnSurrogate : List ℕ → Type 0
+IsItsOwnSurrogate made = HasSurrogate made made
+
 -- Every octet of every header block is ASCII.
 pub record HasAsciiBlocks (shown : List ℕ) : Type 0 where
   pub entities : List Entity

@@ -10,7 +10,6 @@ ghost use Rattle.surrogate_rope.specs.private.Building.{ReachesPlace, written, w
 
 use crate::moving::End;
 use crate::pieces::Pieces;
-use field_downgrade::{Rewrite, downgrade_field};
 use mail_wire::{Memory, Span};
 use mime_tree::{Entity, Shape, Tree, first_value};
 use param_2231::find_global;
@@ -88,16 +87,16 @@ impl Made {
             (slice_range msg.now field.at (field.at + field.len)) (written msg.now field.at self.old) (written msg.now (field.at + field.len) self.new)) }
     {
         let end = field.at + field.len;
-        match downgrade_field(alloc, &msg[field.at..end], open_global)? {
-            Rewrite::Keep => Ok(()),
-            Rewrite::New(made) => {
-                self.put_kept(field.at)?;
-                self.pieces.push_new(made.as_slice())?;
-                self.from = end;
-                self.rewritten = count_one(self.rewritten, self.pieces.len());
-                Ok(())
-            }
+        let kept = Span {
+            at: self.from,
+            len: field.at - self.from,
+        };
+        let raw = &msg[field.at..end];
+        if self.pieces.push_served(alloc, raw, open_global, kept)? {
+            self.from = end;
+            self.rewritten = count_one(self.rewritten, self.pieces.len());
         }
+        Ok(())
     }
 
     // Rewrites each field of an entity's block.

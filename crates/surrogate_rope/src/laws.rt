@@ -6,7 +6,7 @@ ghost use Rattle.mime_tree.specs.declared.openings.Opening.{Opening};
 ghost use Rattle.mime_tree.specs.Openings.{Opens};
 ghost use Rattle.mime_tree.specs.Tree.{HasTree, raws_of};
 ghost use Rattle.field_downgrade.specs.Message.{IsServedField};
-ghost use Rattle.surrogate_rope.specs.Layout.{HasLayout, HasSurrogate, InEntity};
+ghost use Rattle.surrogate_rope.specs.Layout.{HasLayout, HasSurrogate, IsItsOwnSurrogate, InEntity};
 
 /// The fields of a surrogate open an entity as the message's do.
 pub fn surrogates_open_alike()
@@ -22,4 +22,10 @@ pub fn layouts_are_one()
 /// Every message with a tree has a surrogate.
 pub fn surrogates_are_there()
     ensures { (msg : List ℕ) (entities : List Entity) → HasTree msg entities → (made : List ℕ) × HasSurrogate msg made }
+{}
+
+/// A surrogate of a surrogate is itself.
+pub fn surrogates_are_their_own()
+    ensures own { (msg made : List ℕ) → HasSurrogate msg made → IsItsOwnSurrogate made }
+    ensures no_other { (msg made other : List ℕ) → HasSurrogate msg made → HasSurrogate made other → other ≡ made }
 {}

@@ -1,10 +1,12 @@
 //! The pieces of a surrogate: ranges of its message, and new octets.
-ghost use Rattle.std.specs.Prelude.{◌≡◌, ◌+◌, ◌-◌, ◌^◌, ◌<◌, ◌≤◌, ◌++◌, ◌∷◌, [], length, take, drop, min, slice_index_or, IfOk, OnOk};
+ghost use Rattle.std.specs.Prelude.{◌≡◌, ◌+◌, ◌-◌, ◌^◌, ◌<◌, ◌≤◌, ◌++◌, ◌∷◌, [], length, take, drop, min, slice_index_or, IfOk, OnOk, OnErr};
+ghost use Rattle.utf8_fields.specs.Parts.{IsField};
 ghost use Rattle.surrogate_rope.specs.Ropes.{RopePiece, AreWithin, piece_octets, joined_pieces, size_of, range_size, new_size};
-ghost use Rattle.surrogate_rope.specs.private.Pieces.{IsInPiece};
+ghost use Rattle.surrogate_rope.specs.private.Pieces.{IsInPiece, piece_at, range_at, range_where, AddsServed};
 ghost use Rattle.surrogate_rope.specs.private.Storing.{StoresPieces};
 
 use crate::storing::store_piece;
+use field_downgrade::push_downgraded;
 use mail_wire::{Memory, Octets, Span};
 use std::alloc::Global;
 use std::marker::Model;
@@ -37,6 +39,39 @@ impl Model for Pieces {
     ghost view = { λ a. pieces_of a.octets a.pieces.items };
 
     ghost invariant = { λ a. HoldsPieces a.octets a.pieces.items a.size };
+}
+
+// Puts a piece last behind those that have so many octets, and answers how many all have.
+fn add_piece(
+    pieces: &mut Vec<Piece>,
+    size: usize,
+    is_new: bool,
+    range: Span,
+) -> Result<usize, Memory>
+    requires { size + range.len < 2 ^ 64 }
+    ensures added { OnOk result (pieces.new.items ≡ pieces.old.items ++ piece_at size is_new range ∷ []) }
+    ensures size { IfOk result (λ all. all ≡ size + range.len) }
+    ensures err { OnErr result (pieces.new.items ≡ pieces.old.items) }
+{
+    pieces.push(Piece {
+        offset: size,
+        is_new,
+        range,
+    })?;
+    Ok(size + range.len)
+}
+
+// The same of a range of the message, if it has octets.
+fn add_range(pieces: &mut Vec<Piece>, size: usize, range: Span) -> Result<usize, Memory>
+    requires { size + range.len < 2 ^ 64 }
+    ensures added { OnOk result (pieces.new.items ≡ pieces.old.items ++ range_at size range) }
+    ensures size { IfOk result (λ all. all ≡ size + range.len) }
+    ensures err { OnErr result (pieces.new.items ≡ pieces.old.items) }
+{
+    if range.len == 0 {
+        return Ok(size);
+    }
+    add_piece(pieces, size, false, range)
 }
 
 impl Pieces {
@@ -104,6 +139,37 @@ impl Pieces {
         })?;
         self.size += range.len;
         Ok(())
+    }
+
+    /// Puts a field last as it is served, where that is another field, and before it this range of the message. Answers
+    /// whether it is another one. After want of memory there may be no pieces.
+    pub fn push_served(
+        &mut self,
+        alloc: Global,
+        raw: &[u8],
+        open_global: bool,
+        kept: Span,
+    ) -> Result<bool, Memory>
+        requires field { IsField raw.now }
+        requires kept { range_size self.old + kept.len < 2 ^ 63 }
+        ensures pieces { IfOk result (λ is_new. AddsServed open_global raw.now kept is_new self.old self.new) }
+        ensures few { OnOk result (new_size self.new < 2 ^ 63) }
+    {
+        let at = self.octets.len();
+        let Ok(is_new) = push_downgraded(alloc, raw, open_global, &mut self.octets) else {
+            // What was put there isn't known, so there are no pieces then.
+            self.octets.clear();
+            self.pieces.clear();
+            self.size = 0;
+            return Err(Memory);
+        };
+        if !is_new {
+            return Ok(false);
+        }
+        let len = count_of(self.octets.as_slice()) - at;
+        self.size = add_range(&mut self.pieces, self.size, kept)?;
+        self.size = add_piece(&mut self.pieces, self.size, true, Span { at, len })?;
+        Ok(true)
     }
 
     // The octets of a piece.

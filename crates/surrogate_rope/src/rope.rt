@@ -3,6 +3,7 @@ ghost use Rattle.std.specs.Prelude.{◌≡◌, ◌+◌, ◌-◌, ◌^◌, ◌<�
 ghost use Rattle.mime_tree.specs.Outlines.{seen_outline};
 ghost use Rattle.mime_tree.specs.Sections.{section};
 ghost use Rattle.mime_tree.specs.Tree.{HasTree};
+ghost use Rattle.surrogate_rope.specs.Layout.{IsItsOwnSurrogate};
 ghost use Rattle.surrogate_rope.specs.Ropes.{RopeValue, IsRopeOf, HasNewFields, octets_of, size_of};
 
 use crate::building::make_pieces;
@@ -41,6 +42,7 @@ impl Rope {
         requires { HasTree msg.now tree.now.entities }
         ensures rope { IfOk result (IsRopeOf msg.now) }
         ensures new { IfOk result (HasNewFields msg.now tree.now.entities) }
+        ensures own { IfOk result (λ rope. IsItsOwnSurrogate (octets_of msg.now rope)) }
     {
         let (made, ends) = make_pieces(alloc, msg, tree)?;
         let outlines = moved_outlines(alloc, &ends, tree.entities.as_slice())?;

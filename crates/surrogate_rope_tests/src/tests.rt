@@ -12,13 +12,13 @@ use surrogate_rope::{Rope, Shown};
 // A section by its path and what is asked, and the octets that stand there.
 type Row<'a> = (&'a [u32], Part, Option<&'a str>);
 
-const GLOBAL: &str =
+pub const GLOBAL: &str =
     "Content-Type: multipart/mixed; boundary=b\r\n\r\n--b\r\nContent-Type: message/global\r\n\r\nSubject: é\r\n\r\nt\r\n--b--\r\n";
 
-const GLOBAL_MADE: &str =
+pub const GLOBAL_MADE: &str =
     "Content-Type: multipart/mixed; boundary=b\r\n\r\n--b\r\nContent-Type: message/rfc822\r\n\r\nSubject:\r\n =?UTF-8?B?w6k=?=\r\n\r\nt\r\n--b--\r\n";
 
-const SHUT: &str =
+pub const SHUT: &str =
     "Content-Type: multipart/mixed; boundary=b\r\n\r\n--b\r\nContent-Type: message/global\r\nContent-Transfer-Encoding: base64\r\n\r\nSubject: é\r\n\r\nt\r\n--b--\r\n";
 
 const MENU: &str =

@@ -10,7 +10,7 @@ use Rattle.field_tokens.specs.Tokens.{TokenValue}
 use Rattle.field_tokens.specs.Squeezed.{is_gap}
 use Rattle.address_grammar.specs.private.Lexemes.{is_blank_token, are_blank}
 use Rattle.address_grammar.specs.declared.phrases.PhraseReader.{PhraseReader}
-use Rattle.address_grammar.specs.Phrases.{item_of}
+use Rattle.address_grammar.specs.Phrases.{item_of, phrase_items}
 
 -- a word was taken, and the run before it: where it may be an encoded word, it is one or not
 pub record TakesPart (old new : Merging) (run : List ℕ) (after_encoded : Bool) (word : List ℕ) (may_be_encoded encoded : Bool) : Type 0 where
@@ -30,15 +30,20 @@ pub record IsFreshReader (r : PhraseReader) : Type 0 where
 abbrev pub run_before : PhraseReader → List PhraseItem → List ℕ
 run_before r items = if not r.is_first && ((r.is_free || begins_free items) && has_word items) then 32 ∷ [] else []
 
--- whatever places the items have, they complete the units of the phrase
-abbrev pub ReadsSoFar : List PhraseItem → PhraseReader → List PhraseItem → Type 0
-ReadsSoFar phrase r items = (places : List Place) → ArePhrasePlaces (phrase_words r.is_free items) places
-    → HasPhraseUnits phrase (all_units_then r.units (with_text (if r.after_encoded && begins_encoded places then [] else run_before r items) (merged (raw_units places))))
+-- these units were given, and whatever places the items have, they complete the units of the phrase
+abbrev pub ReadsPhraseOn : List PhraseItem → List UnitValue → PhraseReader → List PhraseItem → Type 0
+ReadsPhraseOn phrase given r items = (places : List Place) → ArePhrasePlaces (phrase_words r.is_free items) places
+    → HasPhraseUnits phrase (given ++ all_units_then r.units (with_text (if r.after_encoded && begins_encoded places then [] else run_before r items) (merged (raw_units places))))
 
 -- a token is taken, where the items behind it begin so
 abbrev pub TakesToken : PhraseReader → PhraseReader → TokenValue → Bool → Type 0
-TakesToken old new t is_next_free = (phrase items : List PhraseItem) → begins_free items ≡ is_next_free
-    → ReadsSoFar phrase old (item_of t.kind t.octets ∷ items) → ReadsSoFar phrase new items
+TakesToken old new t is_next_free = (phrase items : List PhraseItem) (given : List UnitValue) → begins_free items ≡ is_next_free
+    → ReadsPhraseOn phrase given old (item_of t.kind t.octets ∷ items) → ReadsPhraseOn phrase given new items
+
+-- a token is taken, and these units are given
+abbrev pub ReadsToken : PhraseReader → PhraseReader → TokenValue → List TokenValue → List UnitValue → Type 0
+ReadsToken old new t behind said = (phrase : List PhraseItem) (given : List UnitValue) → ReadsPhraseOn phrase given old (item_of t.kind t.octets ∷ phrase_items behind)
+    → ReadsPhraseOn phrase (given ++ said) new (phrase_items behind)
 
 -- ---- how a phrase is written
 

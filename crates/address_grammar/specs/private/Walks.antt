@@ -1,9 +1,7 @@
 -- Where a list's places end: at a comma outside angle brackets and groups.
-use Rattle.std.specs.Prelude.{◌≡◌, ◌≢◌, ℕ, ◌+◌, ◌<◌, true, if◌then◌else◌, List, [], ◌∷◌, ◌++◌, length, take, drop, Option, Some, None}
+use Rattle.std.specs.Prelude.{◌≡◌, ◌≢◌, ℕ, true, if◌then◌else◌, List, [], ◌∷◌, ◌++◌, Option, Some, None}
 use Rattle.field_tokens.specs.Tokens.{TokenValue}
-use Rattle.address_grammar.specs.declared.lexemes.Lexeme.{Lexeme}
 use Rattle.address_grammar.specs.private.Lexemes.{is_special_of}
-use Rattle.address_grammar.specs.private.Views.{values_of}
 
 -- what is awaited behind a token: where nothing is, `>` behind `<` and `;` behind `:`. A comma ends the place.
 abbrev pub awaited_behind : Option ℕ → TokenValue → Option (Option ℕ)
@@ -29,8 +27,3 @@ pub record SplitsPlace (tokens place rest : List TokenValue) : Type 0 where
 -- no place ends within the tokens
 abbrev pub IsLastPlace : List TokenValue → Type 0
 IsLastPlace tokens = walk None tokens ≢ None
-
--- the first place of a list ends at the comma there
-pub record EndsAt (lexemes : List Lexeme) (at : ℕ) : Type 0 where
-  pub within : at < length lexemes
-  pub splits : SplitsPlace (values_of lexemes) (values_of (take at lexemes)) (values_of (drop (at + 1) lexemes))

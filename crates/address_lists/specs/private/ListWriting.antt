@@ -1,12 +1,10 @@
 -- How the writer of lists goes on.
-use Rattle.std.specs.Prelude.{◌≡◌, ℕ, Bool, not, ◌&&◌, ◌||◌, List, [], ◌∷◌, ◌++◌, IsUtf8, codes, true, false, if◌then◌else◌}
-use Rattle.std.specs.List.{AllByRecursion, list_all, list_any, flat_map}
+use Rattle.std.specs.Prelude.{◌≡◌, ℕ, Bool, not, ◌&&◌, ◌||◌, List, [], ◌∷◌, ◌++◌, IsUtf8, true, false, if◌then◌else◌}
+use Rattle.std.specs.List.{AllByRecursion, list_all, list_any}
 use Rattle.mail_wire.specs.Octets.{is_ascii}
-use Rattle.encoded_words.specs.declared.units.Merging.{Merging}
-use Rattle.encoded_words.specs.Words.{UnitValue, Text}
-use Rattle.encoded_words.specs.private.Merging.{all_units_then, onto}
+use Rattle.encoded_words.specs.Words.{UnitValue}
 use Rattle.encoded_words.specs.PhraseUnits.{IsUtf8Item}
-use Rattle.encoded_words.specs.Written.{AreWritable, WriteAll}
+use Rattle.encoded_words.specs.Written.{AreWritable}
 use Rattle.field_tokens.specs.Tokens.{TokenValue}
 use Rattle.field_tokens.specs.Squeezed.{is_gap, octets_of, comments_of}
 use Rattle.field_tokens.specs.Comments.{AreWritableComments, CommentsPieces}
@@ -15,8 +13,8 @@ use Rattle.address_grammar.specs.Addresses.{address_text}
 use Rattle.address_grammar.specs.Phrases.{phrase_items}
 use Rattle.address_grammar.specs.Paths.{in_angles}
 use Rattle.address_lists.specs.PhrasePieces.{PhrasePieces, HasCore}
-use Rattle.address_grammar.specs.AddressLists.{MailboxValue, IsMailbox, IsOneMailbox, AreMembers, IsGroup, ElementValue, AreDivided, SaysPlace}
-use Rattle.address_lists.specs.ListPieces.{has_served_address, member_units, no_members, HasText, with_comma, MemberPieces, MembersPieces, PlaceOfListPieces, PlacesPieces}
+use Rattle.address_grammar.specs.AddressLists.{MailboxValue, IsMailbox, IsOneMailbox, AreMembers, IsGroupBy, IsGroup, ElementValue, IsElement, AreDivided, SaysPlace}
+use Rattle.address_lists.specs.ListPieces.{has_served_address, HasText, with_comma, MemberPieces, MembersPieces, ElementPieces, PlaceOfListPieces, PlacesPieces}
 
 -- ---- what can be written
 
@@ -38,38 +36,11 @@ pub record IsWritableMailbox (m : MailboxValue) : Type 0 where
 abbrev pub AreWritableMailboxes : List MailboxValue → Type 0
 AreWritableMailboxes ms = AllByRecursion IsWritableMailbox ms
 
--- ---- units
-
--- units before units: text that touches text is one
-abbrev pub all_onto : List UnitValue → List UnitValue → List UnitValue
-all_onto [] us = us
-all_onto (u ∷ added) us = onto u (all_onto added us)
-
--- these units were taken
-pub record TakesUnits (old new : Merging) (added : List UnitValue) : Type 0 where
-  pub units : (us : List UnitValue) → all_units_then new us ≡ all_units_then old (all_onto added us)
-
--- the phrase of a mailbox, and a space
-abbrev pub display_units : MailboxValue → List UnitValue
-display_units m = m.display ++ (if m.phrase then Text (32 ∷ []) ∷ [] else [])
-
--- members behind the first one
-abbrev pub other_units : List MailboxValue → List UnitValue
-other_units ms = flat_map (λ m. Text (codes ", ") ∷ member_units m) ms
-
 -- ---- pieces
 
 -- one piece, without the gaps at both ends
 abbrev pub AsciiPieces : List TokenValue → List (List ℕ) → Type 0
 AsciiPieces tokens pieces = (text : List TokenValue) × HasText tokens text × (pieces ≡ octets_of text ∷ [])
-
--- the pieces of units, a group without members, and then all comments
-pub record EmptiedPieces (units : List UnitValue) (tokens : List TokenValue) (pieces : List (List ℕ)) : Type 0 where
-  pub words : List (List ℕ)
-  pub comments : List (List ℕ)
-  pub write : WriteAll units words
-  pub comments_are : CommentsPieces (comments_of tokens) comments
-  pub pieces_are : pieces ≡ words ++ no_members ∷ comments
 
 -- the pieces of a phrase, an address in angle brackets, and then the other comments
 pub record NamedPieces (before behind : List TokenValue) (address : List ℕ) (pieces : List (List ℕ)) : Type 0 where
@@ -98,12 +69,35 @@ pub record SplitsGaps (tokens front : List TokenValue) : Type 0 where
 abbrev pub is_element_token : TokenValue → Bool
 is_element_token t = not (is_blank_token t || is_special_of 44 t)
 
--- a group all of whose addresses can be served
-pub record IsPlainGroup (tokens : List TokenValue) : Type 0 where
+-- ---- whether addresses can be served
+
+-- the tokens are a mailbox, and whether its address can be served
+abbrev pub TellsServed : List TokenValue → Bool → Type 0
+TellsServed tokens is = (m : MailboxValue) × IsMailbox tokens m × (is ≡ has_served_address m)
+
+-- the tokens are mailboxes divided by commas, and whether all their addresses can be served
+pub record AreServed (tokens : List TokenValue) (are : Bool) : Type 0 where
+  pub members : List MailboxValue
+  pub are_members : AreDivided IsOneMailbox tokens members
+  pub served : are ≡ list_all has_served_address members
+
+pub record AreServedMembers (tokens : List TokenValue) (are : Bool) : Type 0 where
+  pub members : List MailboxValue
+  pub are_members : AreMembers tokens members
+  pub served : are ≡ list_all has_served_address members
+
+-- the same of a group by its name and what stands behind its colon
+pub record IsServedGroupBy (before behind : List TokenValue) (is : Bool) : Type 0 where
+  pub name : List UnitValue
+  pub members : List MailboxValue
+  pub group : IsGroupBy before behind name members
+  pub served : is ≡ list_all has_served_address members
+
+pub record IsServedGroup (tokens : List TokenValue) (is : Bool) : Type 0 where
   pub name : List UnitValue
   pub members : List MailboxValue
   pub group : IsGroup tokens name members
-  pub plain : list_all has_served_address members ≡ true
+  pub served : is ≡ list_all has_served_address members
 
 -- ---- what is known to be read
 
@@ -132,6 +126,12 @@ pub record GivesMembers (tokens : List TokenValue) (pieces : List (List ℕ)) : 
   pub members : List MailboxValue
   pub are_members : AreDivided IsOneMailbox tokens members
   pub pieces_are : MembersPieces are_members.parts pieces
+
+-- the tokens are an element, with these pieces
+pub record GivesElement (tokens : List TokenValue) (pieces : List (List ℕ)) : Type 0 where
+  pub element : ElementValue
+  pub is_element : IsElement tokens element
+  pub gives : ElementPieces (list_all is_ascii (octets_of tokens)) tokens pieces
 
 -- the tokens are a place, with these pieces
 pub record GivesPlace (tokens : List TokenValue) (pieces : List (List ℕ)) : Type 0 where

@@ -5,16 +5,16 @@ use Rattle.mail_wire.specs.Octets.{is_white}
 use Rattle.mail_wire.specs.Spans.{Stops, StopsBehind}
 use Rattle.encoded_words.specs.Words.{UnitValue}
 use Rattle.field_tokens.specs.Tokens.{TokenValue}
-use Rattle.field_tokens.specs.Comments.{CommentValue, AddsPieces, IsLinePiece}
+use Rattle.field_tokens.specs.Comments.{CommentValue, IsLinePiece}
 use Rattle.address_grammar.specs.AddressLists.{AreDivided}
 use Rattle.address_grammar.specs.Phrases.{IsPhrase}
 use Rattle.address_lists.specs.PhrasePieces.{PlacePieces}
 use Rattle.address_lists.specs.PhraseLists.{SaysPhrases, GivesOnePhrase, with_commas}
 
--- new is old, and behind it the pieces of the phrase that the tokens are
-pub record AddsPhrase (tokens : List TokenValue) (old new : List (List ℕ)) : Type 0 where
+-- the tokens are a phrase, with these pieces
+pub record GivesPhrase (tokens : List TokenValue) (pieces : List (List ℕ)) : Type 0 where
   pub is_phrase : IsPhrase tokens
-  pub adds : AddsPieces (PlacePieces tokens) old new
+  pub gives : PlacePieces tokens pieces
 
 -- the tokens are phrases, with these pieces
 pub record GivesPhrases (tokens : List TokenValue) (pieces : List (List ℕ)) : Type 0 where

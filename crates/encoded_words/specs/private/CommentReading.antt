@@ -1,8 +1,8 @@
 -- How the reader takes the text of a comment.
 use Rattle.std.specs.Prelude.{◌≡◌, ℕ, Bool, true, ◌&&◌, not, if◌then◌else◌, List, [], ◌∷◌, ◌++◌, map, Option, is_some}
 use Rattle.std.specs.List.{flat_map, list_all, list_any}
-use Rattle.mail_wire.specs.Octets.{is_black}
-use Rattle.mail_wire.specs.Spans.{Stops}
+use Rattle.mail_wire.specs.Octets.{is_white, is_black}
+use Rattle.mail_wire.specs.Spans.{Stops, IsSpan}
 use Rattle.encoded_words.specs.declared.units.Merging.{Merging}
 use Rattle.encoded_words.specs.Words.{UnitValue, SaysWhere}
 use Rattle.encoded_words.specs.Units.{with_text, word_unit}
@@ -51,3 +51,11 @@ pub record TakesCommentWord (old new : Merging) (run : List ℕ) (after_encoded 
   pub encoded_is : encoded ≡ is_some says
   pub units : (us : List UnitValue) → all_units_then new us
       ≡ all_units_then old (with_text (if after_encoded && encoded then [] else run) (onto (word_unit says (map item_octet items)) us))
+
+-- the first word of the rest was taken, and the run before it, and behind it stand another run and what is left
+pub record TakesFirst (old new : Merging) (run : List ℕ) (after_encoded : Bool) (rest next_run : List ℕ) (encoded : Bool) (next_rest : List ℕ) : Type 0 where
+  pub word : List ℕ
+  pub after : List ℕ
+  pub splits : SplitsWord rest word after
+  pub white : IsSpan is_white after next_run next_rest
+  pub takes : TakesCommentWord old new run after_encoded word encoded

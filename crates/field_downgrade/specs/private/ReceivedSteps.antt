@@ -1,16 +1,16 @@
 -- What the steps of the code do with Received fields.
-use Rattle.std.specs.Prelude.{◌≡◌, ℕ, Bool, true, not, List, [], ◌∷◌, ◌++◌, map, Option, Some, None, ⊤}
+use Rattle.std.specs.Prelude.{◌≡◌, ℕ, Bool, true, not, List, [], ◌∷◌, ◌++◌, Option, Some, None, ⊤}
 use Rattle.std.specs.List.{AllByRecursion, list_all, flat_map}
-use Rattle.field_tokens.specs.declared.Token.{Token}
-use Rattle.field_tokens.specs.Tokens.{TokenValue, octets_at}
-use Rattle.field_downgrade.specs.Received.{ClauseTokens, IsClause, clause_tokens, ClausesPieces}
+use Rattle.field_tokens.specs.declared.Style.{Style}
+use Rattle.field_tokens.specs.declared.lexemes.Lexemes.{Lexemes}
+use Rattle.field_tokens.specs.Lexemes.{values_of}
+use Rattle.field_tokens.specs.Squeezed.{octets_of}
+use Rattle.field_tokens.specs.Tokens.{TokenValue, HasTokenValues}
+use Rattle.field_downgrade.specs.Received.{ClauseTokens, IsClause, is_semicolon, clause_tokens, date_tokens, ClausesPieces}
 
--- a token by its octets
-abbrev pub token_value : List ℕ → Token → TokenValue
-token_value text token = record { kind = token.kind; octets = octets_at text token.span }
-
-abbrev pub token_values : List ℕ → List Token → List TokenValue
-token_values text tokens = map (token_value text) tokens
+-- the tokens of their octets
+abbrev pub AreRead : Style → List TokenValue → Type 0
+AreRead style tokens = HasTokenValues style (octets_of tokens) tokens
 
 -- there are no tokens, or the first one passes
 abbrev pub EndsOrBeginsSo : (TokenValue → Bool) → List TokenValue → Type 0
@@ -18,19 +18,24 @@ EndsOrBeginsSo p [] = ⊤
 EndsOrBeginsSo p (t ∷ ts) = p t ≡ true
 
 -- the tokens before the first one that passes, and the others
-pub record CutsTokens (p : TokenValue → Bool) (text : List ℕ) (tokens front rest : List Token) : Type 0 where
+pub record CutsTokens (p : TokenValue → Bool) (tokens front rest : List TokenValue) : Type 0 where
   pub whole : tokens ≡ front ++ rest
-  pub before : list_all (λ t. not (p t)) (token_values text front) ≡ true
-  pub begins : EndsOrBeginsSo p (token_values text rest)
+  pub before : list_all (λ t. not (p t)) front ≡ true
+  pub begins : EndsOrBeginsSo p rest
 
--- what stands behind the first token
-abbrev pub behind_first : List TokenValue → Option (List TokenValue)
-behind_first [] = None
-behind_first (t ∷ ts) = Some ts
+-- the tokens behind a semicolon, where there is one
+abbrev pub tokens_behind : Option Lexemes → Option (List TokenValue)
+tokens_behind None = None
+tokens_behind (Some date) = Some (values_of date)
+
+-- the tokens before the first semicolon, and those behind it
+pub record CutsDate (tokens head : List TokenValue) (date : Option (List TokenValue)) : Type 0 where
+  pub whole : tokens ≡ head ++ date_tokens date
+  pub before : list_all (λ t. not (is_semicolon t)) head ≡ true
 
 -- the clause of a token and those behind it
-abbrev pub clause_at : List ℕ → Token → List Token → ClauseTokens
-clause_at text word behind = record { word = token_value text word; behind = token_values text behind }
+abbrev pub clause_at : TokenValue → List TokenValue → ClauseTokens
+clause_at word behind = record { word = word; behind = behind }
 
 -- the tokens are clauses, and these are their pieces
 pub record WritesClauses (tokens : List TokenValue) (pieces : List (List ℕ)) : Type 0 where

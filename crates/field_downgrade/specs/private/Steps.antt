@@ -4,14 +4,14 @@ use Rattle.std.specs.List.{list_all}
 use Rattle.field_downgrade.specs.declared.segments.Side.{Side}
 use Rattle.field_downgrade.specs.declared.segments.Side.TheVariants.{Edge, Encoded, Plain}
 use Rattle.field_downgrade.specs.Words.{Word, AreWords, AreUtf8, HasWords, is_high_word, last_run}
-use Rattle.field_downgrade.specs.Layout.{IsCopied, begins_high, ends_high, last_side, GivesPieces, HavePieces, made_of}
-use Rattle.encoded_words.specs.Folding.{Piece, made_body, word_pieces}
+use Rattle.field_downgrade.specs.Layout.{IsCopied, begins_high, ends_high, last_side, GivesPieces, HavePieces, made_of, spaced}
+use Rattle.encoded_words.specs.Folding.{Piece, made_body, word_pieces, AddsLines}
 use Rattle.encoded_words.specs.Pieces.{AreBWords}
 use Rattle.utf8_fields.specs.Parts.{FieldParts, field_octets}
 use Rattle.field_downgrade.specs.declared.kind.Kind.{Kind}
 use Rattle.field_downgrade.specs.declared.kind.Kind.TheVariants.{Unstructured}
 use Rattle.field_downgrade.specs.Kinds.{kind_named}
-use Rattle.field_downgrade.specs.Stands.{HasHighLayout, BeginsHyphen, PiecesAs}
+use Rattle.field_downgrade.specs.Stands.{HasHighLayout, BeginsHyphen, NamesMessage, PiecesAs}
 
 -- beside a word there is white
 abbrev pub NeedsRun : Side → List ℕ → Type 0
@@ -105,3 +105,22 @@ pub record AddsWordField (made_parts : List Piece → FieldParts) (value old new
   pub words : List (List ℕ)
   pub are_words : AreBWords value words
   pub added : new ≡ old ++ field_octets (made_parts (word_pieces 32 words))
+
+-- a field with these parts of another name
+abbrev pub named_of : List ℕ → FieldParts → List Piece → FieldParts
+named_of prefix f pieces = record { name = prefix ++ f.name; white = []; body = made_body pieces; ending = f.ending }
+
+-- Pieces of which this holds stand on lines at the end of the octets, or there are none, and nothing was put there.
+abbrev pub WritesWhere : Bool → (List (List ℕ) → Type 0) → List ℕ → List ℕ → Type 0
+WritesWhere true P old new = AddsLines P old new
+WritesWhere false P old new = ((pieces : List (List ℕ)) → ¬ P pieces) × (new ≡ old)
+
+-- The field stands at the end as the type of a message, or it is none of an opened message/global, and nothing was put there.
+abbrev pub PutsNamed : List ℕ → Bool → List ℕ → List ℕ → Type 0
+PutsNamed raw true old new = AddsOctets (NamesMessage raw) old new
+PutsNamed raw false old new = ((made : List ℕ) → ¬ NamesMessage raw made) × (new ≡ old)
+
+-- The field stands at the end, made of its value's pieces, or there are none, and only its name was put there.
+abbrev pub PutsPieces : Bool → Bool → FieldParts → List ℕ → List ℕ → List ℕ → Type 0
+PutsPieces true open_global f value old new = (pieces : List (List ℕ)) × PiecesAs (kind_named f.name) open_global f.name value pieces × (new ≡ old ++ field_octets (made_of f (spaced pieces)))
+PutsPieces false open_global f value old new = HasNoPieces (kind_named f.name) open_global f.name value × (new ≡ old ++ (f.name ++ 58 ∷ []))

@@ -1,5 +1,5 @@
 -- What the steps of the rewriting give.
-use Rattle.std.specs.Prelude.{◌≡◌, ℕ, Bool, true, false, if◌then◌else◌, List, [], ◌∷◌, ◌++◌}
+use Rattle.std.specs.Prelude.{◌≡◌, ℕ, Bool, true, false, List, [], ◌∷◌, ◌++◌}
 use Rattle.encoded_words.specs.Words.{Text}
 use Rattle.encoded_words.specs.private.Values.{value_of}
 use Rattle.field_tokens.specs.declared.Style.TheVariants.{Mime}
@@ -42,10 +42,6 @@ pub record ValueBodyPieces (kind : ParamKind) (open_global : Bool) (text : List 
 -- the tokens of the text are no main part and parameters
 abbrev pub AreNoBody : ParamKind → List ℕ → List Token → Type 0
 AreNoBody kind text tokens = (main : List ℕ) (pieces : List Piece) (params : List ParamValue) → IsBody kind text tokens main pieces → ¬ AreParams pieces params
-
--- a piece, with a semicolon where it isn't the last one
-abbrev pub ended : Bool → List ℕ → List ℕ
-ended is_last piece = if is_last then piece else piece ++ 59 ∷ []
 
 -- these are the pieces of the comments among the tokens of the text
 abbrev pub GiveComments : List ℕ → List Token → List (List ℕ) → Type 0

@@ -1,5 +1,7 @@
 -- Pieces as they are kept: ranges of the message, and of one list of new octets.
-use Rattle.std.specs.Prelude.{◌≡◌, ◌<◌, ◌≤◌, ℕ, ◌+◌, ◌^◌, List, [], ◌∷◌, map, if◌then◌else◌, length, take, slice_range, IsTrue}
+use Rattle.std.specs.Prelude.{◌≡◌, ◌≢◌, ◌<◌, ◌≤◌, ℕ, ◌+◌, ◌^◌, Bool, true, false, List, [], ◌∷◌, ◌++◌, map, if◌then◌else◌, nat_lt, length, take, slice_range, IsTrue}
+use Rattle.mail_wire.specs.declared.values.Span.{Span}
+use Rattle.field_downgrade.specs.Message.{IsServedField}
 use Rattle.surrogate_rope.specs.declared.pieces.Piece.{Piece}
 use Rattle.surrogate_rope.specs.Ropes.{RopePiece, Range, New, size_of, range_size, new_size}
 
@@ -31,3 +33,19 @@ pub record IsInPiece (pieces : List RopePiece) (place number : ℕ) : Type 0 whe
   pub inside : number < length pieces
   pub before : size_of (take number pieces) ≤ place
   pub behind : place < size_of (take (number + 1) pieces)
+
+-- a piece as it is kept
+abbrev pub piece_at : ℕ → Bool → Span → Piece
+piece_at offset is_new range = record { offset = offset; is_new = is_new; range = range }
+
+-- a range is a piece, if it has octets
+abbrev pub range_at : ℕ → Span → List Piece
+range_at offset range = if nat_lt 0 range.len then piece_at offset false range ∷ [] else []
+
+abbrev pub range_where : Span → List RopePiece
+range_where range = if nat_lt 0 range.len then Range range ∷ [] else []
+
+-- The served field was put last behind a range, where it is another one than the field itself, and else nothing was.
+abbrev pub AddsServed : Bool → List ℕ → Span → Bool → List RopePiece → List RopePiece → Type 0
+AddsServed open_global raw kept true old new = (field : List ℕ) × IsServedField open_global raw field × (field ≢ raw) × (new ≡ (old ++ range_where kept) ++ New field ∷ [])
+AddsServed open_global raw kept false old new = IsServedField open_global raw raw × (new ≡ old)

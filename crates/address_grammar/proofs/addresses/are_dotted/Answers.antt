@@ -1,10 +1,10 @@
 use Rattle.std.proofs.Common.{sym, ◌∙◌}
 use Rattle.address_grammar.specs.private.Lexemes.{is_part}
-use Rattle.address_grammar.specs.private.Views.{values_of}
+use Rattle.field_tokens.specs.Lexemes.{values_of}
 use Rattle.address_grammar.proofs.DottedLemmas.{dot_other}
 use Rattle.address_grammar.proofs.addresses.are_dotted.Goals as goal
 
 pub returns : goal.returns
 returns c =
     c.are_blank.ensures
-    ∙ sym (c.loop-behind.invariant ∙ dot_other (is_part c.args.allows_quoted) (values_of c.loop-behind.rest.now) c.in_default-dot_rest.ensures.none)
+    ∙ sym (c.loop-behind.invariant ∙ dot_other (is_part c.args.allows_quoted) (values_of c.loop-behind.rest) c.in_default-dot_rest.ensures.none)

@@ -1,10 +1,19 @@
 use Rattle.std.proofs.Common.{sym, ◌∙◌}
-use Rattle.std.proofs.lemmas.List.{take_rest}
-use Rattle.address_grammar.proofs.LexemeLemmas.{split_found, split_missing}
+use Rattle.address_grammar.proofs.LexemeLemmas.{mark_start, mark_turn, mark_found, mark_shorter, mark_missing}
 use Rattle.address_grammar.proofs.lexemes.split_at_mark.Goals as goal
 
-pub returns-in_default-clause-none : goal.returns-in_default-clause-none
-returns-in_default-clause-none c = split_missing c.args.mark c.args.lexemes.now (sym c.find_mark.ensures ∙ c.in_default.is)
+pub loop-lexeme-init : goal.loop-lexeme-init
+loop-lexeme-init c = mark_start _ _
 
-pub returns-clause-found : goal.returns-clause-found
-returns-clause-found c = rw take_rest (split_found c.args.mark c.args.lexemes.now c.in-Some.at (sym c.find_mark.ensures ∙ c.in-Some.is))
+pub returns-then-is_mark-clause-found : goal.returns-then-is_mark-clause-found
+returns-then-is_mark-clause-found c =
+    mark_found _ _ _ _ _ _ c.loop-lexeme.invariant c.in-Some.ensures.found (sym c.is_mark.ensures ∙ c.if-is_mark.true) c.front_before.ensures
+
+pub returns-then-is_mark-clause-shorter : goal.returns-then-is_mark-clause-shorter
+returns-then-is_mark-clause-shorter c = mark_shorter _ _ _ _ _ c.loop-lexeme.invariant c.in-Some.ensures.found
+
+pub loop-lexeme-preserved : goal.loop-lexeme-preserved
+loop-lexeme-preserved c = mark_turn _ _ _ _ _ c.loop-lexeme.invariant c.in-Some.ensures.found (sym c.is_mark.ensures ∙ c.if-is_mark.false)
+
+pub returns-clause-none : goal.returns-clause-none
+returns-clause-none c = mark_missing _ _ _ c.loop-lexeme.invariant c.in_default.ensures.none

@@ -1,12 +1,12 @@
-use Rattle.std.proofs.Common.{◌≤◌, ◌-◌, length, drop}
+use Rattle.std.proofs.Common.{length}
 use Rattle.address_grammar.specs.AddressLists.{SaysPlace}
 use Rattle.address_grammar.specs.private.ListViews.{element_values}
-use Rattle.address_grammar.specs.private.Views.{values_of}
+use Rattle.field_tokens.specs.Lexemes.{values_of}
 use Rattle.address_grammar.proofs.DividedLemmas.{ReadsParts}
 use Rattle.address_grammar.proofs.lists.read_elements.Given as goal
 
-abbrev pub invariant-loop-at : goal.invariant-loop-at
-invariant-loop-at l = (l.start ≤ length l.lexemes) × ReadsParts SaysPlace (values_of l.lexemes) (element_values l.made.items) (values_of (drop l.start l.lexemes))
+abbrev pub invariant-loop-place : goal.invariant-loop-place
+invariant-loop-place l = ReadsParts SaysPlace (values_of l.lexemes) (element_values l.made.items) (values_of l.rest)
 
-abbrev pub decreases-loop-at : goal.decreases-loop-at
-decreases-loop-at l = length l.lexemes - l.start
+abbrev pub decreases-loop-place : goal.decreases-loop-place
+decreases-loop-place l = length (values_of l.rest)

@@ -1,15 +1,11 @@
-use Rattle.std.proofs.Common.{sym, ◌∙◌}
-use Rattle.address_grammar.proofs.MailboxLemmas.{named_angles, named_parts, only_bare, only_named}
+use Rattle.std.proofs.Common.{◌≡◌, Err, ap}
+use Rattle.std.proofs.lemmas.Result.{err_from_is_err_and}
+use Rattle.address_grammar.specs.declared.AddressFault.TheVariants.{Malformed}
+use Rattle.address_grammar.proofs.PathLemmas.{fault_is}
 use Rattle.address_grammar.proofs.mailboxes.read_mailbox.Goals as goal
 
-pub returns-then-lacks_mark-clause-malformed : goal.returns-then-lacks_mark-clause-malformed
-returns-then-lacks_mark-clause-malformed c = λ e m is. c.read_bare.ensures.malformed e m (only_bare _ m (sym c.lacks_mark.ensures ∙ c.if-lacks_mark.true) is)
-
-pub returns-in_default-clause-malformed : goal.returns-in_default-clause-malformed
-returns-in_default-clause-malformed c = λ _ m is.
-    let named = only_named _ m (sym c.lacks_mark.ensures ∙ c.if-lacks_mark.false) is in
-    c.in_default.ensures.none named.before named.inner (named_angles _ m named)
-
-pub returns-clause-malformed : goal.returns-clause-malformed
-returns-clause-malformed c = λ e m is.
-    c.read_named.ensures.malformed e m (named_parts _ _ _ m c.in-Some.ensures.found (only_named _ m (sym c.lacks_mark.ensures ∙ c.if-lacks_mark.false) is))
+pub returns-in_err-found-clause-malformed : goal.returns-in_err-found-clause-malformed
+returns-in_err-found-clause-malformed c = λ e m is.
+    let p = err_from_is_err_and c.from_residual.result c.from_residual.ensures.1 in
+    let same : c.in_err-found.field-0.0 ≡ Malformed = fault_is c.from_residual.result p.0 _ p.1 p.2 e in
+    c.in_err-found.ensures.malformed (ap Err same) m is

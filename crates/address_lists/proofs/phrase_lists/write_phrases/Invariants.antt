@@ -1,10 +1,11 @@
-use Rattle.std.proofs.Common.{◌≤◌, ◌-◌, length, drop}
-use Rattle.address_grammar.specs.private.Views.{values_of}
+use Rattle.std.proofs.Common.{length}
+use Rattle.field_tokens.specs.Lexemes.{values_of}
+use Rattle.encoded_words.specs.Folding.{AddsLines}
 use Rattle.address_lists.proofs.PhraseListLemmas.{WritesPhrases}
 use Rattle.address_lists.proofs.phrase_lists.write_phrases.Given as goal
 
-abbrev pub invariant-loop-at : goal.invariant-loop-at
-invariant-loop-at l = (l.start ≤ length l.lexemes) × WritesPhrases (values_of l.lexemes) l.pieces.items (values_of (drop l.start l.lexemes))
+abbrev pub invariant-loop-place : goal.invariant-loop-place
+invariant-loop-place l = AddsLines (λ pieces. WritesPhrases (values_of l.lexemes) pieces (values_of l.rest)) l.fn.made l.made
 
-abbrev pub decreases-loop-at : goal.decreases-loop-at
-decreases-loop-at l = length l.lexemes - l.start
+abbrev pub decreases-loop-place : goal.decreases-loop-place
+decreases-loop-place l = length (values_of l.rest)

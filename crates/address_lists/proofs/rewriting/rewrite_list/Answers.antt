@@ -1,17 +1,25 @@
-use Rattle.std.proofs.lemmas.Result.{IfOk-weaker}
-use Rattle.address_grammar.specs.private.Views.{values_of}
+use Rattle.std.proofs.lemmas.Result.{on_ok_weaker}
+use Rattle.std.proofs.Common.{Err, ap}
+use Rattle.encoded_words.proofs.LineLemmas.{adds_as}
+use Rattle.field_tokens.specs.Lexemes.{lexemes_in}
 use Rattle.address_lists.proofs.WritableTokens.{text_can}
-use Rattle.address_lists.proofs.ListRewriting.{list_pieces}
-use Rattle.address_lists.proofs.rewriting.rewrite_list.Goals as goal
+use Rattle.address_lists.proofs.ListRewriting.{list_pieces, front_kept}
 use Rattle.address_lists.proofs.AddressListTexts.{addresses_of}
+use Rattle.address_lists.proofs.rewriting.rewrite_list.Goals as goal
 
 pub write_places-requires : goal.write_places-requires
-write_places-requires c = rw c.deref.ensures.value (text_can c.args.text.now (values_of c.in_ok-lexemes.lexemes.items) c.in_ok-lexemes.ensures.ok)
+write_places-requires c = rw (c.new.ensures, c.deref.ensures.value) (text_can c.args.text.now (lexemes_in c.args.text.now c.in_ok-marks.marks.items) c.in_ok-marks.ensures.ok)
 
-pub returns-clause-layout : goal.returns-clause-layout
-returns-clause-layout c = IfOk-weaker c.write_places.result _ _
-    (λ ps g. list_pieces c.args.text.now (values_of c.in_ok-lexemes.lexemes.items) ps.items c.in_ok-lexemes.ensures.ok (rw c.deref.ensures.value at g)) c.write_places.ensures.ok
+pub returns-in-Ok-clause-layout : goal.returns-in-Ok-clause-layout
+returns-in-Ok-clause-layout c =
+    adds_as (λ ps g. list_pieces c.args.text.now (lexemes_in c.args.text.now c.in_ok-marks.marks.items) ps c.in_ok-marks.ensures.ok g) (rw (c.new.ensures, c.deref.ensures.value) at c.in-Ok.ensures.ok)
 
-pub returns-clause-malformed : goal.returns-clause-malformed
-returns-clause-malformed c = λ e elements comments says.
-    (rw c.deref.ensures.value at c.write_places.ensures.malformed) e elements (addresses_of c.args.text.now (values_of c.in_ok-lexemes.lexemes.items) elements comments c.in_ok-lexemes.ensures.ok says)
+pub returns-in-Err-Malformed-clause-malformed : goal.returns-in-Err-Malformed-clause-malformed
+returns-in-Err-Malformed-clause-malformed c = λ e elements comments says.
+    (rw (c.new.ensures, c.deref.ensures.value) at (c.in-Err-Malformed.ensures.malformed (ap Err c.in-Err-Malformed.field-0-is))) elements
+    (addresses_of c.args.text.now (lexemes_in c.args.text.now c.in_ok-marks.marks.items) elements comments c.in_ok-marks.ensures.ok says)
+
+pub returns-in-Err-Malformed-clause-unchanged : goal.returns-in-Err-Malformed-clause-unchanged
+returns-in-Err-Malformed-clause-unchanged c = λ e.
+    let more = c.in-Err-Malformed.ensures.more (ap Err c.in-Err-Malformed.field-0-is) in
+    rw (c.cut_back.ensures, c.len-len.ensures) (front_kept _ _ more.0 more.1)

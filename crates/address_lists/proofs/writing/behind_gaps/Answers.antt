@@ -1,10 +1,15 @@
 use Rattle.std.proofs.Common.{sym, ◌∙◌}
-use Rattle.std.proofs.lemmas.List.{take_rest}
-use Rattle.address_lists.proofs.PhraseWriting.{skips_all, skips_some}
+use Rattle.address_lists.proofs.PhraseWriting.{gaps_start, gaps_turn, gaps_end, gaps_only}
 use Rattle.address_lists.proofs.writing.behind_gaps.Goals as goal
 
-pub returns-in_default : goal.returns-in_default
-returns-in_default c = skips_all c.args.lexemes.now (sym c.find_start.ensures ∙ c.in_default.is)
+pub loop-lexeme-init : goal.loop-lexeme-init
+loop-lexeme-init c = gaps_start _
+
+pub returns-then-not-is_gap : goal.returns-then-not-is_gap
+returns-then-not-is_gap c = gaps_end _ _ _ _ c.loop-lexeme.invariant c.in-Some.ensures.found (sym c.is_gap.ensures ∙ c.if-not-is_gap.true)
+
+pub loop-lexeme-preserved : goal.loop-lexeme-preserved
+loop-lexeme-preserved c = gaps_turn _ _ _ _ c.loop-lexeme.invariant c.in-Some.ensures.found (sym c.is_gap.ensures ∙ c.if-not-is_gap.false)
 
 pub returns : goal.returns
-returns c = rw take_rest (skips_some c.args.lexemes.now c.in-Some.at (sym c.find_start.ensures ∙ c.in-Some.is))
+returns c = gaps_only _ _ c.loop-lexeme.invariant c.in_default.ensures.none

@@ -1,10 +1,16 @@
-use Rattle.std.proofs.Common.{sym, ◌∙◌, arith}
-use Rattle.address_lists.proofs.PhraseWriting.{trail_none, trail_some}
-use Rattle.address_lists.proofs.writing.split_trail.Goals.{then-loop-end-test+else-is_blank, else-loop-end-test}
+use Rattle.std.proofs.Common.{sym, ◌∙◌}
+use Rattle.address_grammar.specs.private.Lexemes.{is_blank_token}
+use Rattle.address_lists.proofs.PhraseWriting.{trail_start, trail_anew, trail_onward, trail_end, blank_trail}
 use Rattle.address_lists.proofs.writing.split_trail.Goals as goal
 
+pub loop-lexeme-init : goal.loop-lexeme-init
+loop-lexeme-init c = trail_start is_blank_token _
+
+pub loop-lexeme-preserved-then-not-is_blank : goal.loop-lexeme-preserved-then-not-is_blank
+loop-lexeme-preserved-then-not-is_blank c = trail_anew is_blank_token _ _ _ _ _ c.loop-lexeme.invariant c.in-Some.ensures.found (sym c.is_blank.ensures ∙ c.if-not-is_blank.true)
+
+pub loop-lexeme-preserved : goal.loop-lexeme-preserved
+loop-lexeme-preserved c = trail_onward is_blank_token _ _ _ _ _ c.loop-lexeme.invariant c.in-Some.ensures.found (sym c.is_blank.ensures ∙ c.if-not-is_blank.false)
+
 pub returns : goal.returns
-returns c = rw (c.split_at.ensures.front, c.split_at.ensures.back) (elim c.loop-end-test.branch [
-  | then-loop-end-test+else-is_blank w ↦ trail_some c.args.lexemes.now c.loop-end.end _ w.loop-end-test.true c.loop-end.invariant (sym w.is_blank.ensures ∙ w.if-is_blank.false)
-  | else-loop-end-test w ↦ trail_none c.args.lexemes.now c.loop-end.end (omega (arith, w.loop-end-test.false)) c.loop-end.invariant
-])
+returns c = blank_trail _ _ _ (trail_end is_blank_token _ _ _ _ c.loop-lexeme.invariant c.in_default.ensures.none c.front_before.ensures)

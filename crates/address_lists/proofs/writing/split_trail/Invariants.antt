@@ -1,8 +1,11 @@
-use Rattle.address_lists.proofs.PhraseWriting.{TrailFrom}
+use Rattle.std.proofs.Common.{length}
+use Rattle.field_tokens.specs.Lexemes.{values_of}
+use Rattle.address_grammar.specs.private.Lexemes.{is_blank_token}
+use Rattle.address_lists.proofs.PhraseWriting.{TrailSoFar}
 use Rattle.address_lists.proofs.writing.split_trail.Given as goal
 
-abbrev pub invariant-loop-end : goal.invariant-loop-end
-invariant-loop-end l = TrailFrom l.lexemes l.end
+abbrev pub invariant-loop-lexeme : goal.invariant-loop-lexeme
+invariant-loop-lexeme l = TrailSoFar is_blank_token (values_of l.lexemes) (values_of l.trail) (values_of l.rest)
 
-abbrev pub decreases-loop-end : goal.decreases-loop-end
-decreases-loop-end l = l.end
+abbrev pub decreases-loop-lexeme : goal.decreases-loop-lexeme
+decreases-loop-lexeme l = length (values_of l.rest)

@@ -1,11 +1,22 @@
 use Rattle.std.proofs.Common.{sym, ◌∙◌}
-use Rattle.address_lists.proofs.PhraseWriting.{comment_turn, other_turn}
-use Rattle.address_lists.proofs.writing.write_comments.Goals.{then-is_comment+in_ok-write_comment, else-is_comment}
+use Rattle.address_lists.proofs.PhraseWriting.{comments_start, next_comment, comment_turn, other_turn, comments_all}
 use Rattle.address_lists.proofs.writing.write_comments.Goals as goal
 
+pub loop-lexeme-init : goal.loop-lexeme-init
+loop-lexeme-init c = comments_start _ _ c.requires
+
+pub write_comment-requires-clause-comment : goal.write_comment-requires-clause-comment
+write_comment-requires-clause-comment c = (next_comment _ _ _ _ _ _ c.loop-lexeme.invariant c.in-Some.ensures.found (sym c.is_comment.ensures ∙ c.if-is_comment.true)).0
+
+pub write_comment-requires-clause-utf8 : goal.write_comment-requires-clause-utf8
+write_comment-requires-clause-utf8 c = (next_comment _ _ _ _ _ _ c.loop-lexeme.invariant c.in-Some.ensures.found (sym c.is_comment.ensures ∙ c.if-is_comment.true)).1
+
+pub loop-lexeme-preserved-in_ok-write_comment : goal.loop-lexeme-preserved-in_ok-write_comment
+loop-lexeme-preserved-in_ok-write_comment c =
+    comment_turn _ _ _ _ _ _ _ c.loop-lexeme.invariant c.in-Some.ensures.found (sym c.is_comment.ensures ∙ c.if-is_comment.true) c.in_ok-write_comment.ensures
+
 pub loop-lexeme-preserved : goal.loop-lexeme-preserved
-loop-lexeme-preserved c = elim c.if-is_comment.branch [
-  | then-is_comment+in_ok-write_comment w ↦
-      rw (w.pieces-is) (comment_turn c.args.lexemes.now c.loop-lexeme.lexeme-index _ _ _ _ c.loop-lexeme-test.true (sym c.is_comment.ensures ∙ w.if-is_comment.true) c.loop-lexeme.invariant w.in_ok-write_comment.ensures)
-  | else-is_comment w ↦ rw (w.pieces-is) (other_turn c.args.lexemes.now c.loop-lexeme.lexeme-index _ _ _ c.loop-lexeme-test.true (sym c.is_comment.ensures ∙ w.if-is_comment.false) c.loop-lexeme.invariant)
-]
+loop-lexeme-preserved c = other_turn _ _ _ _ _ _ c.loop-lexeme.invariant c.in-Some.ensures.found (sym c.is_comment.ensures ∙ c.if-is_comment.false)
+
+pub returns : goal.returns
+returns c = comments_all _ _ _ _ c.loop-lexeme.invariant c.in_default.ensures.none

@@ -1,4 +1,5 @@
-use Rattle.address_lists.proofs.PhraseWriting.{core_utf8, core_writable, trail_writable}
+use Rattle.std.proofs.lemmas.Result.{on_ok_weaker}
+use Rattle.address_lists.proofs.PhraseWriting.{core_utf8, core_writable, trail_writable, place_adds}
 use Rattle.address_lists.proofs.writing.write_phrase.Goals as goal
 
 pub push_core-requires-clause-utf8 : goal.push_core-requires-clause-utf8
@@ -9,3 +10,6 @@ push_core-requires-clause-comments c = core_writable _ _ _ c.requires.comments c
 
 pub write_comments-requires : goal.write_comments-requires
 write_comments-requires c = trail_writable _ _ _ c.requires.comments c.split_core.ensures
+
+pub returns : goal.returns
+returns c = on_ok_weaker c.write_comments.result (λ a. place_adds _ _ _ _ _ _ c.split_core.ensures c.in_ok-push_core.ensures a) c.write_comments.ensures

@@ -1,45 +1,26 @@
-use Rattle.std.proofs.Common.{◌+◌, ◌<◌, drop, length, arith}
-use Rattle.std.proofs.lemmas.List.{take_rest, drop-drop, length-drop}
 use Rattle.std.proofs.lemmas.Result.{on_ok_weaker}
-use Rattle.address_grammar.specs.private.Views.{values_of}
-use Rattle.address_lists.proofs.KeptGroups.{members_start, member_can, member_known, last_known, members_turn, members_end}
+use Rattle.encoded_words.proofs.LineLemmas.{adds_none}
+use Rattle.address_lists.proofs.WritableTokens.{before_can}
+use Rattle.address_lists.proofs.KeptGroups.{members_start, part_known, last_known, members_adds, members_all}
 use Rattle.address_lists.proofs.written_groups.write_members.Goals as goal
 
-pub loop-at-init : goal.loop-at-init
-loop-at-init c = (omega arith, members_start _ _ c.requires.writable c.requires.members)
+pub loop-member-init : goal.loop-member-init
+loop-member-init c = adds_none _ (members_start _ c.requires.writable c.requires.members)
 
 pub write_member-requires-clause-writable : goal.write_member-requires-clause-writable
-write_member-requires-clause-writable c = rw take_rest c.loop-at.invariant.1.can
+write_member-requires-clause-writable c = let s = c.in-Some.ensures.found in before_can _ _ _ s.comma s.whole c.loop-member.invariant.holds.can
 
 pub write_member-requires-clause-member : goal.write_member-requires-clause-member
-write_member-requires-clause-member c =
-    let rest = drop c.loop-at.start c.args.lexemes.now in
-    rw take_rest (last_known _ (values_of rest) _ _ c.loop-at.invariant.1 (rw take_rest at c.in_default.ensures.none))
+write_member-requires-clause-member c = part_known _ _ _ c.loop-member.invariant.holds.left c.in-Some.ensures.found
 
-pub returns-in_default : goal.returns-in_default
-returns-in_default c =
-    let rest = drop c.loop-at.start c.args.lexemes.now in
-    on_ok_weaker c.write_member.result (λ a. members_end _ (values_of rest) _ _ _ c.loop-at.invariant.1 (rw take_rest at a)) c.write_member.ensures
+pub loop-member-preserved : goal.loop-member-preserved
+loop-member-preserved c = members_adds _ _ _ _ _ _ _ _ c.in-Some.ensures.found c.loop-member.invariant c.in_ok-write_member.ensures c.in_ok-push.ensures.ok
 
-pub write_member-requires-in-loop-at-clause-writable : goal.write_member-requires-in-loop-at-clause-writable
-write_member-requires-in-loop-at-clause-writable c =
-    let rest = drop c.loop-at.start c.args.lexemes.now in
-    let ends = rw take_rest at c.in-Some.ensures.found in
-    rw (c.split_at.ensures.front, take_rest) (member_can _ (values_of rest) _ _ _ _ c.loop-at.invariant.1 ends.splits)
+pub write_member-requires-2-clause-writable : goal.write_member-requires-2-clause-writable
+write_member-requires-2-clause-writable c = c.loop-member.invariant.holds.can
 
-pub write_member-requires-in-loop-at-clause-member : goal.write_member-requires-in-loop-at-clause-member
-write_member-requires-in-loop-at-clause-member c =
-    let rest = drop c.loop-at.start c.args.lexemes.now in
-    let ends = rw take_rest at c.in-Some.ensures.found in
-    rw (c.split_at.ensures.front, take_rest) (member_known _ (values_of rest) _ _ _ _ c.loop-at.invariant.1 ends.splits)
+pub write_member-requires-2-clause-member : goal.write_member-requires-2-clause-member
+write_member-requires-2-clause-member c = last_known _ c.loop-member.invariant.holds.left c.in_default.ensures.none
 
-pub loop-at-preserved : goal.loop-at-preserved
-loop-at-preserved c =
-    let ls = c.args.lexemes.now in
-    let rest = drop c.loop-at.start ls in
-    let ends = rw take_rest at c.in-Some.ensures.found in
-    let within : c.in-Some.at < length rest = ends.within in (
-      omega (arith, within, length-drop c.loop-at.start ls),
-      rw (← drop-drop (c.in-Some.at + 1) c.loop-at.start ls)
-          (members_turn _ (values_of rest) _ _ _ _ _ _ c.loop-at.invariant.1 ends.splits (rw (c.split_at.ensures.front, take_rest) at c.in_ok-write_member.ensures) c.in_ok-push_comma.ensures),
-    )
+pub returns : goal.returns
+returns c = on_ok_weaker c.write_member-2.result (λ a. members_all _ _ _ _ _ c.loop-member.invariant a) c.write_member-2.ensures

@@ -1,10 +1,11 @@
-use Rattle.std.proofs.Common.{◌≤◌, ◌-◌, length, drop}
-use Rattle.address_grammar.specs.private.Views.{values_of}
+use Rattle.std.proofs.Common.{length}
+use Rattle.field_tokens.specs.Lexemes.{values_of}
+use Rattle.encoded_words.specs.Folding.{AddsLines}
 use Rattle.address_lists.proofs.KeptGroups.{WritesMembers}
 use Rattle.address_lists.proofs.written_groups.write_members.Given as goal
 
-abbrev pub invariant-loop-at : goal.invariant-loop-at
-invariant-loop-at l = (l.start ≤ length l.lexemes) × WritesMembers (values_of l.lexemes) l.fn.pieces.items l.pieces.items (values_of (drop l.start l.lexemes))
+abbrev pub invariant-loop-member : goal.invariant-loop-member
+invariant-loop-member l = AddsLines (WritesMembers (values_of l.lexemes) (values_of l.rest)) l.fn.made l.made
 
-abbrev pub decreases-loop-at : goal.decreases-loop-at
-decreases-loop-at l = length l.lexemes - l.start
+abbrev pub decreases-loop-member : goal.decreases-loop-member
+decreases-loop-member l = length (values_of l.rest)

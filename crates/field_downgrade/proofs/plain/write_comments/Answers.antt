@@ -1,29 +1,20 @@
-use Rattle.std.proofs.Common.{sym, ◌∙◌, arith}
-use Rattle.std.proofs.lemmas.List.{drop_all}
-use Rattle.field_downgrade.proofs.PlainReading.{PutsComments-none, token_there, PutsComments-all}
-use Rattle.field_downgrade.proofs.plain.write_comments.Goals.{then-is_comment+in_ok-write_comment, else-is_comment}
+use Rattle.std.proofs.Common.{sym, ◌∙◌}
+use Rattle.field_downgrade.proofs.PlainReading.{WritesRest-start, WritesRest-comment, WritesRest-other, WritesRest-end, comment_writable}
 use Rattle.field_downgrade.proofs.plain.write_comments.Goals as goal
 
 pub loop-token-init : goal.loop-token-init
-loop-token-init c = PutsComments-none c.args.style c.args.text.now c.args.tokens.now _ c.requires
-
-pub split_at-requires : goal.split_at-requires
-split_at-requires c = (token_there c.args.style c.args.text.now _ _ c.args.tokens.now c.loop-token.token-index c.loop-token.rest.now c.loop-token.invariant c.loop-token-test.true).within
+loop-token-init c = WritesRest-start _ _ c.requires
 
 pub write_comment-requires : goal.write_comment-requires
 write_comment-requires c =
-    let next = token_there c.args.style c.args.text.now _ _ c.args.tokens.now c.loop-token.token-index c.loop-token.rest.now c.loop-token.invariant c.loop-token-test.true in
-    rw (c.split_at.ensures.front) (record { comment = next.comment_is (sym c.is_comment.ensures ∙ c.if-is_comment.true); utf8 = next.utf8 })
+    let can = comment_writable _ _ _ _ _ (rw (c.in-Some.ensures.found) at c.loop-token.invariant) (sym c.is_comment.ensures ∙ c.if-is_comment.true) in record { comment = can.comment; utf8 = can.utf8 }
+
+pub loop-token-preserved-in_ok-write_comment : goal.loop-token-preserved-in_ok-write_comment
+loop-token-preserved-in_ok-write_comment c =
+    WritesRest-comment _ _ _ _ _ _ (rw (c.in-Some.ensures.found) at c.loop-token.invariant) (sym c.is_comment.ensures ∙ c.if-is_comment.true) c.in_ok-write_comment.ensures
 
 pub loop-token-preserved : goal.loop-token-preserved
-loop-token-preserved c =
-    let next = token_there c.args.style c.args.text.now _ _ c.args.tokens.now c.loop-token.token-index c.loop-token.rest.now c.loop-token.invariant c.loop-token-test.true in
-    elim c.if-is_comment.branch [
-      | then-is_comment+in_ok-write_comment w ↦
-          let put = next.comment _ (sym c.is_comment.ensures ∙ w.if-is_comment.true) (rw (c.split_at.ensures.front) at w.in_ok-write_comment.ensures) in
-          rw (w.pieces-is, w.rest-is, c.split_at.ensures.back) put
-      | else-is_comment w ↦ rw (w.pieces-is, w.rest-is, c.split_at.ensures.back) (next.other (sym c.is_comment.ensures ∙ w.if-is_comment.false))
-    ]
+loop-token-preserved c = WritesRest-other _ _ _ _ _ (rw (c.in-Some.ensures.found) at c.loop-token.invariant) (sym c.is_comment.ensures ∙ c.if-is_comment.false)
 
 pub returns : goal.returns
-returns c = PutsComments-all c.args.style c.args.text.now _ _ _ c.loop-token.rest.now c.loop-token.invariant (drop_all c.loop-token.token-index c.args.tokens.now (omega arith))
+returns c = WritesRest-end _ _ _ _ c.loop-token.invariant c.in_default.ensures.none

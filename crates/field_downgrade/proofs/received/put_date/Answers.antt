@@ -1,7 +1,12 @@
-use Rattle.std.proofs.Common.{[], ◌∷◌, subst}
-use Rattle.field_tokens.specs.Squeezed.{StandTogether}
-use Rattle.field_downgrade.proofs.ReceivedReading.{stand_rest}
+use Rattle.std.proofs.lemmas.Result.{on_ok_weaker}
+use Rattle.field_tokens.specs.Lexemes.{values_of}
+use Rattle.field_downgrade.proofs.ReceivedRewriting.{date_put, date_writable}
 use Rattle.field_downgrade.proofs.received.put_date.Goals as goal
 
-pub put_comments-requires : goal.put_comments-requires
-put_comments-requires c = stand_rest c.args.text.now (c.in-Some.field-0-0.now ∷ []) c.in-Some.behind.now (subst (StandTogether c.args.text.now) c.in-Some.ensures.cases.0 c.requires.stand)
+pub write_comments-requires : goal.write_comments-requires
+write_comments-requires c = date_writable _ (rw (c.in-Some.is) at c.requires.read)
+
+pub returns : goal.returns
+returns c =
+    on_ok_weaker c.write_comments.result
+    (λ adds. rw (c.in-Some.is) (date_put (values_of c.in-Some.behind) c.args.said.now _ _ _ (rw (c.in-Some.is) at c.requires.said) c.in_ok-put_word.ensures adds)) c.write_comments.ensures

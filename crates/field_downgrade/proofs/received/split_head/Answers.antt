@@ -1,6 +1,8 @@
-use Rattle.field_tokens.proofs.SqueezedLemmas.{no_token}
-use Rattle.field_downgrade.proofs.ReceivedReading.{stand_within}
+use Rattle.field_downgrade.proofs.ReceivedReading.{date_cut, no_date}
 use Rattle.field_downgrade.proofs.received.split_head.Goals as goal
 
-pub is_semicolon-requires : goal.is_semicolon-requires
-is_semicolon-requires c = stand_within c.args.text.now c.args.tokens.now c.loop-at.at no_token c.requires c.loop-at-test.true
+pub returns-in-Some : goal.returns-in-Some
+returns-in-Some c = let cut = c.in-Some.ensures.found in date_cut _ _ _ cut.at cut.whole cut.is_at cut.first
+
+pub returns-in-None : goal.returns-in-None
+returns-in-None c = no_date _ c.in-None.ensures.none

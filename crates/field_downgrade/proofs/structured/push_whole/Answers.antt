@@ -12,7 +12,7 @@ returns-then-keeps_name c =
 
 pub returns-else-keeps_name : goal.returns-else-keeps_name
 returns-else-keeps_name c =
-    OnOk-then c.push_encapsulated.result _ _
-    (Adds-encapsulated c.args.open_global (parts_value c.args.parts.now) c.args.value.now c.args.made.now c.push_encapsulated.new.made c.requires.other c.requires.none (sym c.keeps_name.ensures ∙ c.if-keeps_name.false)
+    OnOk-then c.push_kept-else-keeps_name.result _ _
+    (Adds-encapsulated c.args.open_global (parts_value c.args.parts.now) c.args.value.now c.args.made.now c.push_kept-else-keeps_name.new.made c.requires.other c.requires.none (sym c.keeps_name.ensures ∙ c.if-keeps_name.false)
     c.requires.value)
-    c.push_encapsulated.ensures
+    c.push_kept-else-keeps_name.ensures

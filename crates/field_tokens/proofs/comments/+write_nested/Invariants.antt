@@ -5,8 +5,8 @@ use Rattle.field_tokens.proofs.comments.+write_nested.Given as goal
 abbrev pub decreases-write_nested : goal.decreases-write_nested
 decreases-write_nested l = l.levels
 
-abbrev pub invariant-loop-after : goal.invariant-loop-after
-invariant-loop-after l = WritesOn l.levels l.initial.rest l.rest l.initial.pieces.items l.pieces.items
+abbrev pub invariant-loop-ascii_text : goal.invariant-loop-ascii_text
+invariant-loop-ascii_text l = WritesOn l.levels l.initial.rest l.rest l.ascii l.initial.made l.made
 
-abbrev pub decreases-loop-after : goal.decreases-loop-after
-decreases-loop-after l = length l.rest
+abbrev pub decreases-loop-ascii_text : goal.decreases-loop-ascii_text
+decreases-loop-ascii_text l = length l.rest

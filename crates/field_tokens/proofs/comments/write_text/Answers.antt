@@ -11,5 +11,5 @@ write_run-requires c =
 
 pub returns : goal.returns
 returns c =
-    WritesText-some c.args.octets.now c.split_white.result.0.now c.split_white.result.1.now c.split_run-len.result.1.now c.split_at.result.0.now c.split_run-len.result.0 _ _ c.split_white.ensures c.split_run-len.ensures c.if-len-eq0.false
-    c.split_at.ensures.front c.in_ok-write_run.ensures
+    WritesText-some c.args.octets.now c.split_white.result.0.now c.split_white.result.1.now c.split_run-len.result.1.now c.split_at.result.0.now c.split_run-len.result.0 _ _ _ c.split_white.ensures c.split_run-len.ensures c.if-len-eq0.false
+    c.split_at.ensures.front c.in_ok-ascii.ensures

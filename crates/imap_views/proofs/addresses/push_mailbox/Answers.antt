@@ -1,7 +1,7 @@
 use Rattle.std.proofs.Common.{◌≡◌, Err, ap}
 use Rattle.std.proofs.lemmas.Result.{err_from_is_err_and}
 use Rattle.address_grammar.specs.declared.AddressFault.TheVariants.{Malformed}
-use Rattle.address_grammar.specs.private.ListViews.{mailbox_value}
+use Rattle.address_grammar.specs.Found.{found_value}
 use Rattle.address_grammar.proofs.PathLemmas.{fault_is}
 use Rattle.imap_views.proofs.AddressForms.{mailbox_name}
 use Rattle.imap_views.proofs.addresses.push_mailbox.Goals as goal
@@ -13,4 +13,4 @@ returns-in_err-mailbox-clause-malformed c = λ e text is.
     c.in_err-mailbox.ensures.malformed (ap Err same) is.mailbox is.is_mailbox
 
 pub name_of-requires : goal.name_of-requires
-name_of-requires c = mailbox_name _ (mailbox_value c.in_ok-mailbox.mailbox) c.in_ok-mailbox.ensures.ok
+name_of-requires c = let found = c.in_ok-mailbox.ensures.ok in mailbox_name _ (found_value c.in_ok-mailbox.mailbox found.0) found.1

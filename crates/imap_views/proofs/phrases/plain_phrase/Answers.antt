@@ -1,19 +1,24 @@
 use Rattle.std.proofs.Common.{sym, ◌∙◌, append-nil}
-use Rattle.imap_views.proofs.PhraseLemmas.{blank_at, word_at}
-use Rattle.imap_views.proofs.phrases.plain_phrase.Goals.{then-is_blank, else-is_blank+in_ok-push_content, then-is_apart+in_ok-push, else-is_apart}
+use Rattle.field_tokens.specs.Lexemes.{values_of}
+use Rattle.imap_views.specs.Addresses.{plain_text}
+use Rattle.imap_views.proofs.PhraseLemmas.{blank_at, word_at, says_all}
+use Rattle.imap_views.proofs.phrases.plain_phrase.Goals.{then-is_apart+in_ok-push, else-is_apart}
 use Rattle.imap_views.proofs.phrases.plain_phrase.Goals as goal
+
+pub loop-lexeme-preserved-then-is_blank : goal.loop-lexeme-preserved-then-is_blank
+loop-lexeme-preserved-then-is_blank c =
+    let l = c.loop-lexeme in
+    blank_at _ _ _ l.is_first l.is_apart l.made (plain_text (values_of c.args.lexemes)) c.in-Some.ensures.found (sym c.is_blank.ensures ∙ c.if-is_blank.true) l.invariant
 
 pub loop-lexeme-preserved : goal.loop-lexeme-preserved
 loop-lexeme-preserved c =
     let l = c.loop-lexeme in
-    elim c.if-is_blank.branch [
-      | then-is_blank w ↦
-          rw (w.made-is, w.is_first-is, w.is_apart-is) (blank_at c.args.lexemes.now l.lexeme-index _ l.is_first l.is_apart l.made _ c.loop-lexeme-test.true (sym c.is_blank.ensures ∙ w.if-is_blank.true) l.invariant)
-      | else-is_blank+in_ok-push_content w ↦
-          let says = word_at c.args.lexemes.now l.lexeme-index _ l.is_first l.is_apart l.made _ c.loop-lexeme-test.true (sym c.is_blank.ensures ∙ w.if-is_blank.false) l.invariant in
-          rw (w.made-is, w.is_first-is, w.is_apart-is, w.in_ok-push_content.ensures)
-          (elim w.if-is_apart.branch [
-            | then-is_apart+in_ok-push v ↦ rw (v.made-is, v.in_ok-push.ensures.ok) (rw (v.if-is_apart.true) at says)
-            | else-is_apart v ↦ rw (v.made-is) (rw (v.if-is_apart.false, append-nil) at says)
-          ])
-    ]
+    let says = word_at _ _ _ l.is_first l.is_apart l.made (plain_text (values_of c.args.lexemes)) c.in-Some.ensures.found (sym c.is_blank.ensures ∙ c.if-is_blank.false) l.invariant in
+    rw (c.in_ok-push_content.ensures)
+    (elim c.if-is_apart.branch [
+      | then-is_apart+in_ok-push w ↦ rw (w.made-is, w.in_ok-push.ensures.ok) (rw (w.if-is_apart.true) at says)
+      | else-is_apart w ↦ rw (w.made-is) (rw (w.if-is_apart.false, append-nil) at says)
+    ])
+
+pub returns : goal.returns
+returns c = says_all c.loop-lexeme.is_first c.loop-lexeme.is_apart c.loop-lexeme.made _ (plain_text (values_of c.args.lexemes)) c.in_default.ensures.none c.loop-lexeme.invariant

@@ -21,8 +21,8 @@ loop-token-preserved c =
     elim c.if-is_comment.branch [
       | then-is_comment+in_ok-write_comment w ↦
           let put = next.comment _ (sym c.is_comment.ensures ∙ w.if-is_comment.true) (rw (c.split_at.ensures.front) at w.in_ok-write_comment.ensures) in
-          rw (w.pieces-is, w.rest-is, c.split_at.ensures.back) put
-      | else-is_comment w ↦ rw (w.pieces-is, w.rest-is, c.split_at.ensures.back) (next.other (sym c.is_comment.ensures ∙ w.if-is_comment.false))
+          rw (w.made-is, w.rest-is, c.split_at.ensures.back) put
+      | else-is_comment w ↦ rw (w.made-is, w.rest-is, c.split_at.ensures.back) (next.other (sym c.is_comment.ensures ∙ w.if-is_comment.false))
     ]
 
 pub returns : goal.returns

@@ -8,7 +8,7 @@ use Rattle.param_2231.proofs.writing.push_param.Goals as goal
 
 pub returns-then-is_whole : goal.returns-then-is_whole
 returns-then-is_whole c =
-    on_ok_weaker c.push_whole.result (adds_whole c.args.name.now (value_of c.args.unit.now) c.args.whole _ _ (sym c.is_whole.ensures ∙ c.if-is_whole.true)) c.push_whole.ensures
+    on_ok_weaker c.push_whole.result (adds_whole c.args.lead.now c.args.name.now (value_of c.args.unit.now) c.args.whole _ _ (sym c.is_whole.ensures ∙ c.if-is_whole.true)) c.push_whole.ensures
 
 pub returns : goal.returns
 returns c =

@@ -1,7 +1,0 @@
-use Rattle.std.proofs.Common.{Err, ap}
-use Rattle.address_lists.proofs.AddressListTexts.{AddressesPieces-says}
-use Rattle.field_downgrade.proofs.structured.address_pieces.Goals as goal
-
-pub returns-in-Err-Malformed-clause-none : goal.returns-in-Err-Malformed-clause-none
-returns-in-Err-Malformed-clause-none c = λ pieces p.
-    let says = AddressesPieces-says c.args.value.now pieces p in c.in-Err-Malformed.ensures.malformed (ap Err c.in-Err-Malformed.field-0-is) says.0 says.1 says.2

@@ -1,0 +1,112 @@
+-- Tokens by their marks.
+use Rattle.std.proofs.Common.{◌≡◌, ℕ, zero, suc, ◌+◌, ◌-◌, ◌<◌, ◌≤◌, List, [], ◌∷◌, ◌++◌, length, min, take, drop, get_or, refl, sym, ap, ◌∙◌, subst, arith, Bool, ◌==◌, ◌↔◌, IsTrue}
+use Rattle.std.proofs.lemmas.Bool.Decides.{nat_tests}
+use Rattle.std.proofs.lemmas.List.{length-append, take_at, drop_at, take_more, take_all, take_min, drop_min}
+use Rattle.field_tokens.specs.declared.Style.{Style}
+use Rattle.field_tokens.specs.declared.TokenKind.{TokenKind}
+use Rattle.field_tokens.specs.declared.lexemes.Mark.{Mark}
+use Rattle.field_tokens.specs.Tokens.{BeginsToken, TokenValue, IsLine, HasTokenValues}
+use Rattle.field_tokens.specs.Lexemes.{marked_kind, marked_len, lexemes_in}
+use Rattle.field_tokens.proofs.TokenLists.{ReadsTokens, ReadsTokens-none, ReadsTokens-push, no_tokens, all_tokens, token_some}
+
+-- what stands behind the tokens of marks
+abbrev pub behind_marks : List ℕ → List Mark → List ℕ
+behind_marks text [] = text
+behind_marks text (m ∷ ms) = behind_marks (drop (marked_len m) text) ms
+
+lexemes_in-append : (text : List ℕ) (ms ns : List Mark) → lexemes_in text (ms ++ ns) ≡ lexemes_in text ms ++ lexemes_in (behind_marks text ms) ns
+lexemes_in-append text [] ns = refl
+lexemes_in-append text (m ∷ ms) ns = ap (λ r. record { kind = marked_kind m; octets = take (marked_len m) text } ∷ r) (lexemes_in-append (drop (marked_len m) text) ms ns)
+
+behind_marks-append : (text : List ℕ) (ms ns : List Mark) → behind_marks text (ms ++ ns) ≡ behind_marks (behind_marks text ms) ns
+behind_marks-append text [] ns = refl
+behind_marks-append text (m ∷ ms) ns = behind_marks-append (drop (marked_len m) text) ms ns
+
+pub lexemes_in-length : (text : List ℕ) (ms : List Mark) → length (lexemes_in text ms) ≡ length ms
+lexemes_in-length text [] = refl
+lexemes_in-length text (m ∷ ms) = ap suc (lexemes_in-length (drop (marked_len m) text) ms)
+
+pub lexemes_in-empty : (text : List ℕ) (ms : List Mark) (is_empty : Bool) → is_empty ≡ (length ms == 0) → IsTrue is_empty ↔ (lexemes_in text ms ≡ [])
+lexemes_in-empty text [] is_empty e = (λ _. refl, λ _. e)
+lexemes_in-empty text (m ∷ ms) is_empty e = (λ t. absurd (grind (arith, nat_tests, e, t)), λ none. cc none)
+
+lexemes_in-take : (n : ℕ) (text : List ℕ) (ms : List Mark) → lexemes_in text (take n ms) ≡ take n (lexemes_in text ms)
+lexemes_in-take zero text ms = refl
+lexemes_in-take (suc n) text [] = refl
+lexemes_in-take (suc n) text (m ∷ ms) = ap (λ r. record { kind = marked_kind m; octets = take (marked_len m) text } ∷ r) (lexemes_in-take n (drop (marked_len m) text) ms)
+
+lexemes_in-drop : (n : ℕ) (text : List ℕ) (ms : List Mark) → lexemes_in (behind_marks text (take n ms)) (drop n ms) ≡ drop n (lexemes_in text ms)
+lexemes_in-drop zero text ms = refl
+lexemes_in-drop (suc n) text [] = refl
+lexemes_in-drop (suc n) text (m ∷ ms) = lexemes_in-drop n (drop (marked_len m) text) ms
+
+-- the first so many marks are of the first tokens
+pub front_marks : (n k : ℕ) (text : List ℕ) (ms front : List Mark) → k ≡ min n (length ms) → front ≡ take k ms → lexemes_in text front ≡ take n (lexemes_in text ms)
+front_marks n k text ms front k_is e = ap (lexemes_in text) (e ∙ ap (λ j. take j ms) k_is ∙ take_min n ms) ∙ lexemes_in-take n text ms
+
+-- and those behind them of those behind
+pub later_marks : (n k : ℕ) (text : List ℕ) (ms front behind : List Mark) (rest : List ℕ) (i : ℕ) → length front ≤ i → k ≡ min n (length ms) → front ≡ take k ms → behind ≡ drop k ms
+    → rest ≡ behind_marks text (take i front) → lexemes_in rest behind ≡ drop n (lexemes_in text ms)
+later_marks n k text ms front behind rest i all k_is e f r =
+    let text_is : rest ≡ behind_marks text (take n ms) = r ∙ ap (behind_marks text) (take_all i front all ∙ e ∙ ap (λ j. take j ms) k_is ∙ take_min n ms) in
+    let marks_are : behind ≡ drop n ms = f ∙ ap (λ j. drop j ms) k_is ∙ drop_min n ms in
+    rw (text_is, marks_are) (lexemes_in-drop n text ms)
+
+-- one mark more
+pub behind_marks-turn : (text : List ℕ) (ms : List Mark) (i : ℕ) (d : Mark) (rest after : List ℕ) (len k : ℕ) → i < length ms → len ≡ marked_len (get_or ms i d) → rest ≡ behind_marks text (take i ms)
+    → k ≡ min len (length rest) → after ≡ drop k rest → after ≡ behind_marks text (take (i + 1) ms)
+behind_marks-turn text ms i d rest after len k h len_is e k_is cut =
+    let m : Mark = get_or ms i d in
+    let left : after ≡ drop (marked_len m) rest = cut ∙ ap (λ j. drop j rest) k_is ∙ drop_min len rest ∙ ap (λ j. drop j rest) len_is in
+    left ∙ ap (drop (marked_len m)) e ∙ sym (ap (behind_marks text) (take_more ms i d h) ∙ behind_marks-append text (take i ms) (m ∷ []))
+
+-- the marks of the tokens before rest
+pub record ReadsMarks (style : Style) (text : List ℕ) (marks : List Mark) (rest : List ℕ) : Type 0 where
+  pub reads : ReadsTokens style text (lexemes_in text marks) rest
+  pub behind : behind_marks text marks ≡ rest
+
+pub ReadsMarks-none : (style : Style) (text : List ℕ) (marks : List Mark) → marks ≡ [] → ReadsMarks style text marks text
+ReadsMarks-none style text marks e = rw e (record { reads = ReadsTokens-none style text; behind = refl })
+
+pub ReadsMarks-turn : (style : Style) (text rest after : List ℕ) (old new : List Mark) (m : Mark) (kind : TokenKind) → ReadsMarks style text old rest → 0 < length rest
+    → BeginsToken style kind rest after → marked_kind m ≡ kind → marked_len m ≡ length rest - length after → new ≡ old ++ m ∷ [] → ReadsMarks style text new after
+ReadsMarks-turn style text rest after old new m kind r some b kind_is len_is pushed =
+    let size : length b.octets ≡ marked_len m = omega (arith, ap length b.whole, length-append b.octets after, len_is) in
+    let octets : take (marked_len m) rest ≡ b.octets = ap (take (marked_len m)) b.whole ∙ take_at b.octets after (marked_len m) size in
+    let left : drop (marked_len m) rest ≡ after = ap (drop (marked_len m)) b.whole ∙ drop_at b.octets after (marked_len m) size in
+    let value : lexemes_in (behind_marks text old) (m ∷ []) ≡ record { kind = kind; octets = b.octets } ∷ []
+    = rw (r.behind, octets, kind_is) refl in
+    let values : lexemes_in text new ≡ lexemes_in text old ++ record { kind = kind; octets = b.octets } ∷ []
+    = ap (lexemes_in text) pushed ∙ lexemes_in-append text old (m ∷ []) ∙ ap (λ r. lexemes_in text old ++ r) value in
+    record {
+      reads = subst (λ done. ReadsTokens style text done after) (sym values) (ReadsTokens-push style kind text rest after (lexemes_in text old) r.reads some b);
+      behind = ap (behind_marks text) pushed ∙ behind_marks-append text old (m ∷ []) ∙ ap (drop (marked_len m)) r.behind ∙ left;
+    }
+
+pub never_marks : (style : Style) (text rest : List ℕ) (marks : List Mark) → ReadsMarks style text marks rest → 0 < length rest → ((kind : TokenKind) (after : List ℕ) → BeginsToken style kind rest after → ⊥)
+    → (tokens : List TokenValue) → HasTokenValues style text tokens → ⊥
+never_marks style text rest marks r some none tokens has = no_tokens style text rest (lexemes_in text marks) r.reads some none tokens has.are_tokens
+
+pub marks_found : (style : Style) (text rest : List ℕ) (marks : List Mark) → IsLine text → ReadsMarks style text marks rest → length rest ≡ 0 → HasTokenValues style text (lexemes_in text marks)
+marks_found style text rest marks line r end = record { is_line = line; are_tokens = all_tokens style text rest (lexemes_in text marks) r.reads end }
+
+-- so many tokens stand before rest
+pub record CountsTokens (style : Style) (text : List ℕ) (count : ℕ) (rest : List ℕ) : Type 0 where
+  pub done : List TokenValue
+  pub reads : ReadsTokens style text done rest
+  pub few : count + length rest ≤ length text
+
+pub CountsTokens-none : (style : Style) (text : List ℕ) → CountsTokens style text 0 text
+CountsTokens-none style text = record { done = []; reads = ReadsTokens-none style text; few = omega arith }
+
+pub CountsTokens-turn : (style : Style) (text rest after : List ℕ) (count : ℕ) (kind : TokenKind) → CountsTokens style text count rest → 0 < length rest → BeginsToken style kind rest after
+    → CountsTokens style text (count + 1) after
+CountsTokens-turn style text rest after count kind c some b = record {
+  done = c.done ++ record { kind = kind; octets = b.octets } ∷ [];
+  reads = ReadsTokens-push style kind text rest after c.done c.reads some b;
+  few = omega (arith, c.few, token_some style kind rest after b);
+}
+
+pub counts_never : (style : Style) (text rest : List ℕ) (count : ℕ) → CountsTokens style text count rest → 0 < length rest → ((kind : TokenKind) (after : List ℕ) → BeginsToken style kind rest after → ⊥)
+    → (tokens : List TokenValue) → HasTokenValues style text tokens → ⊥
+counts_never style text rest count c some none tokens has = no_tokens style text rest c.done c.reads some none tokens has.are_tokens
