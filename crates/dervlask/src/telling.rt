@@ -61,7 +61,8 @@ where
     }
 }
 
-/// Says why a connection failed. A call that waited too long is told so by either of two kinds.
+/// Says why a connection failed. A call that waited too long is told so by either of two kinds. Want of memory is told
+/// without asking for any.
 pub fn tell_connection<T: Eprint + Alloc<A = Global>>(
     rt: &T,
     number: u32,
@@ -71,6 +72,7 @@ pub fn tell_connection<T: Eprint + Alloc<A = Global>>(
         ErrorKind::WouldBlock | ErrorKind::TimedOut => {
             eprintln!(rt; "dervlask: connection {number}: timed out")
         }
+        ErrorKind::OutOfMemory => eprintln!(rt; "dervlask: connection {number}: out of memory"),
         _ => {
             let place = format!(in rt.alloc(); "connection {number}")?;
             tell(rt, place.as_str(), error)

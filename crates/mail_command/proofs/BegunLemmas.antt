@@ -66,7 +66,7 @@ all_made store after had has all due is follows =
     subst (HoldsFirst has all) (append-nil due) (HoldsFirst-made after has all due [] (followed store after had has all due is follows))
 
 -- the keeper opens with the records that it had and the first of those that are due
-first_held : {P : Type 0} (spelled : P → List ℕ) (store after : StoreState) (had has : Option (List ℕ)) (met : Option Fault) (all : List Record) (acts : List (Act P)) (given : List ℕ)
+pub first_held : {P : Type 0} (spelled : P → List ℕ) (store after : StoreState) (had has : Option (List ℕ)) (met : Option Fault) (all : List Record) (acts : List (Act P)) (given : List ℕ)
     → IsStoreOf store had all → IsDone spelled store after had has met acts given → HoldsFirst has all (records_of (changes_in acts))
 first_held spelled store after had has None all acts given is made = all_made store after had has all (records_of (changes_in acts)) is made.1
 first_held spelled store after had has (Some fault.Keeper) all acts given is made = failed_by spelled store after had has all acts given is made

@@ -15,3 +15,5 @@ pub mod SessionLemmas
 pub mod RelayLemmas
 pub mod ServeLemmas
 pub mod ConnectionLemmas
+pub mod CauseLemmas
+pub mod FirstLemmas

@@ -1,10 +1,11 @@
 -- What the command does that sends the queue on, exit by exit.
-use Rattle.std.proofs.Common.{◌≡◌, ◌≢◌, ◌⊎◌, ◌==◌, if◌then◌else◌, ℕ, Bool, true, false, List, [], Option, None, Some, Result, Ok, Err, refl, ap, inl, inr, arith}
+use Rattle.std.proofs.Common.{◌≡◌, ◌≢◌, ◌⊎◌, ◌==◌, if◌then◌else◌, ℕ, Bool, true, false, List, [], Option, None, Some, Result, Ok, Err, refl, ap, subst, inl, inr, arith}
 use Rattle.std.specs.Prelude.{IfOk, IfSome, codes}
+use Rattle.std.proofs.lemmas.Option.{IfSome_then}
 use Rattle.address_grammar.specs.declared.Address.{Address}
 use Rattle.journal_records.specs.declared.records.Record.{Record}
 use Rattle.mail_store.proofs.FollowLemmas.{Follows-nil}
-use Rattle.mail_store.specs.Answers.{IsJournalFault, LeavesRecords}
+use Rattle.mail_store.specs.Answers.{IsJournalFault, LeavesRecords, OpensTo}
 use Rattle.mail_store.specs.Following.{Follows}
 use Rattle.mail_store.specs.StoreState.{StoreState}
 use Rattle.mail_store.specs.declared.opening.OpenFault.{OpenFault}
@@ -15,27 +16,30 @@ use Rattle.mail_wire.specs.KeeperTelling.{KeeperTelling}
 use Rattle.mail_wire.specs.Keeping.{HasKeeperCause}
 use Rattle.mail_wire.specs.Moves.{HasWireCause}
 use Rattle.mail_wire.specs.Telling.{Telling}
+use Rattle.mail_wire.specs.Transcript.{given_of}
 use Rattle.mail_wire.specs.declared.outside.Entry.{Entry}
 use Rattle.mail_wire.specs.declared.outside.Fault.{Fault}
 use Rattle.mail_wire.specs.declared.outside.Fault.TheVariants as fault
 use Rattle.relay_choice.specs.declared.replies.Reply.{Reply}
-use Rattle.relay_session.specs.Dialling.{AroundDial, HasDialCause, RelaysQueue, RelaysQueueBy, connected, nobody_waits, unreached, unbegun as unbegun_queue}
+use Rattle.relay_session.specs.Dialling.{AroundDial, HasDialCause, RelaysQueue, RelaysQueueBy, connected, nobody_waits, over_wire, unreached, unbegun as unbegun_queue}
 use Rattle.relay_session.specs.Letters.{Mailbag}
-use Rattle.relay_session.specs.Relaying.{AnswersRelay, EndsRun, HasLeftCause, RelaysBy, begun, idle, unbegun}
+use Rattle.relay_session.specs.Relaying.{AnswersRelay, BreaksRunOff, EndsRun, HasLeftCause, RelaysBy, begun, idle, unbegun}
 use Rattle.relay_session.specs.declared.ends.LeftCause.{LeftCause}
 use Rattle.relay_session.specs.declared.ends.LeftCause.TheVariants as left_by
 use Rattle.relay_session.specs.declared.ends.RelayEnd.{RelayEnd}
 use Rattle.session_core.proofs.CaughtLemmas.{left_alone}
 use Rattle.session_core.proofs.MeaningLemmas.{meanings_given}
+use Rattle.session_core.specs.Acts.{changes_in}
 use Rattle.session_core.specs.Around.{Around}
 use Rattle.session_core.specs.Desks.{IsOpen}
 use Rattle.session_core.specs.declared.desk.Desk.{Desk}
 use Rattle.session_core.specs.declared.desk.Limits.{Limits}
 use Rattle.setup_command.proofs.AddingLemmas.{holds_by}
 use Rattle.setup_command.specs.AddingRuns.{TellsLine, TellsUnopened}
-use Rattle.setup_command.specs.Running.{BreaksSessionOff, HasStatusCause, OpensStore, place_line}
+use Rattle.setup_command.specs.Running.{BreaksSessionOff, HasStatusCause, HoldsBegun, OpensStore, place_line}
 use Rattle.setup_command.specs.Statuses.{status_of}
-use Rattle.mail_command.specs.RelayRuns.{Broken, InEnd, InJournal, InLine, InRelay, OutsideTelling, Relayed, RunsRelay, SendsQueue, Unopened, relay_line, relay_status}
+use Rattle.mail_command.specs.RelayRuns.{Broken, InEnd, InJournal, InLine, InRelay, KeepsFirst, KeepsFirstOf, OutsideTelling, Relayed, RunsRelay, SendsQueue, Unopened, relay_line, relay_status}
+use Rattle.mail_command.proofs.BegunLemmas.{begun_held}
 use Rattle.mail_command.proofs.SessionLemmas.{quiet}
 
 -- ---- what the relay leaves in the journal
@@ -86,6 +90,34 @@ puts_some : (host : List ℕ) (before now : AroundDial) (result : Result RelayEn
     → PutsSome before.desk.store now.desk.store before.keeper.octets now.keeper.octets
 puts_some host before now result relays = puts_by_dial meanings_given.0.path_of host before now result (relays meanings_given.0.path_of meanings_given.1.paths)
 
+-- ---- what it leaves where the keeper failed
+
+-- the run that the keeper broke off
+keeper_broke : (path_of : List ℕ → Option (Option Address)) (before now : Around) → RelaysBy path_of before now (Err fault.Keeper)
+    → (bag : Mailbag before.desk.store.kept) × (replies : List Reply) × (given : List ℕ) × BreaksRunOff path_of before now bag replies given fault.Keeper
+keeper_broke path_of before now (unbegun is same) = let bad : ⊥ = cc in absurd bad
+keeper_broke path_of before now (idle none same is) = let bad : ⊥ = cc in absurd bad
+keeper_broke path_of before now (begun bag some to) = (bag, to.replies, given_of to.entries, to.answers)
+
+keeps_over_wire : (path_of : List ℕ → Option (Option Address)) (old : Option (List ℕ)) (before now : Around) → IfSome old (λ octets. OpensTo octets before.keeper.octets before.desk.store.kept)
+    → RelaysBy path_of before now (Err fault.Keeper) → IfSome old (λ octets. KeepsFirst path_of before now.keeper.octets)
+keeps_over_wire path_of old before now opens relays =
+    let broke = keeper_broke path_of before now relays in
+    let breaks = broke.3 in
+    IfSome_then old {P = λ octets. HoldsBegun now.keeper.octets before.desk.store (changes_in breaks.acts)}
+    (begun_held (λ octets. octets) old before.desk.store now.desk.store before.keeper.octets now.keeper.octets (Some fault.Keeper) breaks.acts broke.2 opens breaks.done)
+    (λ octets holds. record { bag = broke.0; replies = broke.1; first = breaks.first; acts = breaks.acts; count = breaks.count; carried = breaks.carried; holds = holds })
+
+keeps_by_dial : (path_of : List ℕ → Option (Option Address)) (host : List ℕ) (old : Option (List ℕ)) (before now : AroundDial) → IfSome old (λ octets. OpensTo octets before.keeper.octets before.desk.store.kept)
+    → RelaysQueueBy path_of host before now (Err fault.Keeper) → IfSome old (λ octets. KeepsFirstOf path_of before.desk before.clock now.keeper.octets)
+keeps_by_dial path_of host old before now opens (unbegun_queue is home asked) = let bad : ⊥ = cc in absurd bad
+keeps_by_dial path_of host old before now opens (nobody_waits none same is) = let bad : ⊥ = cc in absurd bad
+keeps_by_dial path_of host old before now opens (unreached queue are some home asked rose is) = let bad : ⊥ = cc in absurd bad
+keeps_by_dial path_of host old before now opens (connected some over) =
+    let around = over_wire before over.opened over.loans in
+    IfSome_then old {P = λ octets. KeepsFirst path_of around now.keeper.octets}
+    (keeps_over_wire path_of old around (over_wire now over.closed over.loans) opens over.relays) (λ octets keeps. (around, refl, refl, keeps))
+
 -- ---- the journal isn't opened
 
 -- memory was wanting for the words
@@ -133,6 +165,11 @@ sends_queue limits host before now opened desk after result is = record {
   cause = is.cause;
   holds = λ other. let puts = puts_some host _ _ result is.relays other in
       holds_by before.keeper.octets opened.octets now.keeper.octets desk.store after.store puts.0 is.leaves is.opens.opens puts.1;
+  begun = λ broke path_of reads.
+      let around : AroundDial = record { dial = before.dial; keeper = opened; clock = before.clock; desk = desk } in
+      let left : AroundDial = record { dial = now.dial; keeper = now.keeper; clock = now.clock; desk = after } in
+      keeps_by_dial path_of host before.keeper.octets around left is.opens.opens
+      (subst (λ (answer : Result RelayEnd Fault). RelaysQueueBy path_of host around left answer) broke (is.relays path_of reads));
 }
 
 breaks_off : (met : Fault) → BreaksSessionOff (status_of (Err met))
@@ -161,10 +198,10 @@ relay_told limits host before now opened desk after result end told is ended tel
 
 -- ---- causes
 
-abbrev status_if : Bool → ℕ
+abbrev pub status_if : Bool → ℕ
 status_if is = if is then 0 else 8
 
-zero_or_eight : (is : Bool) → (status_if is ≡ 0) ⊎ (status_if is ≡ 8)
+pub zero_or_eight : (is : Bool) → (status_if is ≡ 0) ⊎ (status_if is ≡ 8)
 zero_or_eight true = inl refl
 zero_or_eight false = inr refl
 

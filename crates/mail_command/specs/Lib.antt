@@ -7,5 +7,7 @@ pub mod Giving
 pub mod Outcome
 pub mod Running
 pub mod RelayRuns
+pub mod Causes
+pub mod Begun
 pub mod Connections
 pub mod private

@@ -1,5 +1,7 @@
 -- What the command does that sends the queue to the next server, by its status.
-use Rattle.std.specs.Prelude.{◌≡◌, ◌≢◌, ℕ, List, [], ◌++◌, codes, decimal, Option, Result, Ok, Err, IfOk, ◌==◌, if◌then◌else◌}
+use Rattle.std.specs.Prelude.{◌≡◌, ◌≢◌, ℕ, List, [], ◌++◌, codes, decimal, Option, Result, Ok, Err, IfOk, IfSome, ◌==◌, if◌then◌else◌}
+use Rattle.address_grammar.specs.declared.Address.{Address}
+use Rattle.journal_records.specs.Addresses.{WithPaths}
 use Rattle.mail_wire.specs.DialTelling.{DialTelling}
 use Rattle.mail_wire.specs.KeeperTelling.{KeeperTelling}
 use Rattle.mail_wire.specs.Lines.{crlf}
@@ -8,13 +10,18 @@ use Rattle.mail_wire.specs.Telling.{Telling}
 use Rattle.mail_wire.specs.declared.outside.Fault.{Fault}
 use Rattle.mail_wire.specs.declared.outside.Fault.TheVariants as fault
 use Rattle.mail_store.specs.Answers.{LeavesRecords}
+use Rattle.relay_choice.specs.declared.letters.Act.{Act as ClientAct}
+use Rattle.relay_choice.specs.declared.replies.Reply.{Reply}
+use Rattle.session_core.specs.Acts.{Act, changes_in}
+use Rattle.session_core.specs.Around.{Around}
 use Rattle.session_core.specs.Desks.{IsOpen}
 use Rattle.session_core.specs.declared.desk.Desk.{Desk}
 use Rattle.session_core.specs.declared.desk.Limits.{Limits}
 use Rattle.relay_session.specs.Dialling.{HasDialCause, RelaysQueue}
-use Rattle.relay_session.specs.Relaying.{HasLeftCause}
+use Rattle.relay_session.specs.Letters.{Mailbag}
+use Rattle.relay_session.specs.Relaying.{Carried, HasLeftCause}
 use Rattle.relay_session.specs.declared.ends.RelayEnd.{RelayEnd}
-use Rattle.setup_command.specs.Running.{BreaksSessionOff, HoldsStore, IsBrokenOff, IsUnopened, OpensStore}
+use Rattle.setup_command.specs.Running.{BreaksSessionOff, HoldsBegun, HoldsStore, IsBrokenOff, IsUnopened, OpensStore}
 use Rattle.setup_command.specs.Statuses.{status_of}
 use Rattle.setup_command.specs.declared.statuses.TheConstants.{DONE, LEFT_QUEUED}
 
@@ -35,8 +42,22 @@ relay_line end =
 abbrev pub relay_status : RelayEnd → ℕ
 relay_status end = if end.left == 0 then DONE else LEFT_QUEUED
 
+-- The keeper opens with the records of the store, and the first of those that acts of the client's run bring.
+pub record KeepsFirst (path_of : List ℕ → Option (Option Address)) (before : Around) (octets : Option (List ℕ)) : Type 0 where
+  pub bag : Mailbag before.desk.store.kept
+  pub replies : List Reply
+  pub first : List ClientAct
+  pub acts : List (Act (List ℕ))
+  pub count : ℕ
+  pub carried : Carried path_of before bag replies first acts count
+  pub holds : HoldsBegun octets before.desk.store (changes_in acts)
+
+-- the same of a run from this desk
+abbrev pub KeepsFirstOf : (path_of : List ℕ → Option (Option Address)) → Desk → (clock : Option ℕ) → Option (List ℕ) → Type 0
+KeepsFirstOf path_of desk clock octets = (before : Around) × (before.desk ≡ desk) × (before.clock ≡ clock) × KeepsFirst path_of before octets
+
 -- A desk was opened over the keeper's records, and its queue was relayed to the host, with this answer. Unless the keeper failed, it holds the
--- journal of the store that came of it.
+-- journal of the store that came of it; and where it failed, it opens with the old records and the first of the new ones.
 pub record SendsQueue (limits : Limits) (host : List ℕ) (before now : OutsideTelling) (result : Result RelayEnd Fault) : Type 0 where
   pub desk : Desk
   pub after : Desk
@@ -49,6 +70,7 @@ pub record SendsQueue (limits : Limits) (host : List ℕ) (before now : OutsideT
   pub left : IfOk result HasLeftCause
   pub cause : IfOk result (HasDialCause before.dial now.dial)
   pub holds : result ≢ Err fault.Keeper → HoldsStore now.keeper.octets after.store
+  pub begun : result ≡ Err fault.Keeper → WithPaths (λ path_of. IfSome before.keeper.octets (λ octets. KeepsFirstOf path_of desk before.clock now.keeper.octets))
 
 -- how far the command came that was broken off and ended so
 pub data BreaksRelay (limits : Limits) (host : List ℕ) (before now : OutsideTelling) (ended : ℕ) : Type 0 where

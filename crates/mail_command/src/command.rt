@@ -13,6 +13,7 @@ ghost use Rattle.setup_command.specs.AddingRuns.{RunsAdding, IsExactAdding};
 ghost use Rattle.setup_command.specs.Running.{IsExactJournal, HasStatusCause};
 ghost use Rattle.setup_command.specs.Statuses.{status_of};
 ghost use Rattle.setup_command.specs.WordForms.{IsAccountCommand, IsDomainCommand, IsHelpCommand};
+ghost use Rattle.mail_command.specs.Causes.{HasStatusWords, IsCompleteRun};
 ghost use Rattle.mail_command.specs.Protocols.{protocol_for};
 ghost use Rattle.mail_command.specs.Words.{Names, IsNoCommand, IsDowngrade, IsCheck, IsGen, IsRelayCommand, IsSession, OpensJournal};
 ghost use Rattle.mail_command.specs.RelayRuns.{RunsRelay};
@@ -132,6 +133,7 @@ fn work<W: Wire, J: Keeper, L: Dial, C: Clock>(
     ensures untouched { ¬ OpensJournal words.now → J.tells keeper.new ≡ J.tells keeper.old }
     ensures undialled { ((host : List ℕ) → ¬ IsRelayCommand words.now host) → L.tells dial.new ≡ L.tells dial.old }
     ensures cause { HasStatusCause (W.tells wire.old) (W.tells wire.new) (J.tells keeper.old) (J.tells keeper.new) (status_of result) }
+    ensures statuses { HasStatusWords words.now (status_of result) }
 {
     match command_of(alloc, words)? {
         Some(Command::Apart(command)) => run_apart(alloc, command, wire),
@@ -198,6 +200,10 @@ pub fn run<W: Wire, J: Keeper, L: Dial, C: Clock>(
     ensures untouched { ¬ OpensJournal words.now → J.tells keeper.new ≡ J.tells keeper.old }
     ensures undialled { ((host : List ℕ) → ¬ IsRelayCommand words.now host) → L.tells dial.new ≡ L.tells dial.old }
     ensures cause { HasStatusCause (W.tells wire.old) (W.tells wire.new) (J.tells keeper.old) (J.tells keeper.new) result }
+    // A status comes only for words of a command that may end so.
+    ensures statuses { HasStatusWords words.now result }
+    // Where neither the wire nor the keeper failed, the command is carried out and told whole, or memory was wanting.
+    ensures complete { IsCompleteRun (W.tells wire.old) (W.tells wire.new) (J.tells keeper.old) (J.tells keeper.new) result }
 {
     status_after(work(alloc, words, wire, keeper, dial, clock))
 }

@@ -4,6 +4,7 @@ ghost use Rattle.session_core.specs.Desks.{IsOpen};
 ghost use Rattle.session_core.specs.Keeps.{Keeps};
 ghost use Rattle.session_core.specs.Served.{met_of};
 ghost use Rattle.session_core.specs.Serving.{ServesBy};
+ghost use Rattle.mail_command.specs.Causes.{IsCompleteSession};
 ghost use Rattle.mail_command.specs.Protocols.{patience_of, protocol_for};
 ghost use Rattle.mail_command.specs.Words.{role_word};
 ghost use Rattle.mail_command.specs.declared.roles.Role.{Role as RoleValue};
@@ -69,6 +70,8 @@ pub fn serve_one<W: Wire, J: Keeper, C: Clock>(role: Role, outside: &mut Outside
     // a session may take, and has not ended.
     ensures serves { ServesBy (protocol_for role) outside.old outside.new result }
     ensures keeps { Keeps outside.old outside.new (met_of result) }
+    // Where nothing failed it ends with that, or memory was wanting.
+    ensures complete { IsCompleteSession outside.old outside.new result }
 {
     match role {
         Role::Pop => serve_pop(outside),

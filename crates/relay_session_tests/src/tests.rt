@@ -326,6 +326,16 @@ fn where_the_wire_fails_what_is_open_is_left(rt: HostRuntime) -> Result<(), Fail
     Ok(())
 }
 
+#[test]
+fn where_a_later_take_fails_no_more_is_said(rt: HostRuntime) -> Result<(), Fail> {
+    // The greeting is a piece, and EHLO is given before the next take.
+    let came = relayed(rt.alloc(), FROM_ACCOUNT, EIGHT, 7, Some(2))?;
+    assert!(rt; counts(&came.end, 0, 0, 1) && matches!(came.end.cause, Some(LeftCause::Wire)));
+    assert!(rt; came.given.as_slice() == b"EHLO example.org\r\n".as_slice());
+    assert!(rt; came.kept.is_empty());
+    Ok(())
+}
+
 const SENT: &[u8] =
     b"EHLO example.org\r\nMAIL FROM:<a@example.org> BODY=8BITMIME SMTPUTF8\r\nRCPT TO:<jos\xC3\xA9@example.com>\r\nDATA\r\nSubject: \xC3\xA9\r\n\r\n.\r\nQUIT\r\n";
 

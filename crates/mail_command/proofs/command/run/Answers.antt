@@ -1,3 +1,4 @@
+use Rattle.mail_command.proofs.CauseLemmas.{complete_run}
 use Rattle.mail_command.proofs.command.run.Goals as goal
 
 pub returns-clause-generates : goal.returns-clause-generates
@@ -23,3 +24,9 @@ returns-clause-journal g c = rw c.status_after.ensures c.work.ensures.journal
 
 pub returns-clause-relay : goal.returns-clause-relay
 returns-clause-relay g c = rw c.status_after.ensures c.work.ensures.relay
+
+pub returns-clause-statuses : goal.returns-clause-statuses
+returns-clause-statuses g c = rw c.status_after.ensures c.work.ensures.statuses
+
+pub returns-clause-complete : goal.returns-clause-complete
+returns-clause-complete g c = rw c.status_after.ensures (complete_run _ _ _ _ _ c.work.ensures.cause)

@@ -6,6 +6,7 @@ use Rattle.address_grammar.specs.Addresses.{address_text}
 use Rattle.mail_store.specs.Changing.{account_refusal, domain_refusal}
 use Rattle.journal_records.specs.declared.records.Record.TheVariants as records
 use Rattle.session_core.specs.Serving.{OfCourse}
+use Rattle.session_core.proofs.MeaningLemmas.{meanings_given}
 use Rattle.session_core.specs.declared.desk.TheConstants.{LIMITS}
 use Rattle.setup_command.specs.AddingRuns.{RunsAdding, IsExactAdding}
 use Rattle.setup_command.specs.Statuses.{status_of}
@@ -15,6 +16,7 @@ use Rattle.mail_command.specs.RelayRuns.{RunsRelay}
 use Rattle.mail_command.specs.Running.{RunsSession}
 use Rattle.mail_command.specs.Words.{OfSession, OfAccount, OfDomain, OfRelay}
 use Rattle.mail_command.proofs.ApartLemmas.{apart_check, apart_downgrade, apart_few, apart_gen, apart_help, apart_names, apart_opens}
+use Rattle.mail_command.proofs.CauseLemmas.{account_words, apart_words, domain_words, no_words, relay_words, session_words, unread_words}
 use Rattle.mail_command.proofs.CommandLemmas.{account_at, domain_at, none_opens, not_begun, refusal_unbegun, relay_at}
 use Rattle.mail_command.proofs.RelayLemmas.{relay_unbegun}
 use Rattle.mail_command.proofs.WordsLemmas.{session_once}
@@ -160,3 +162,35 @@ returns-in-Some-Relay-clause-untouched g c never =
 pub returns-in-Some-Relay-clause-undialled : goal.returns-in-Some-Relay-clause-undialled
 returns-in-Some-Relay-clause-undialled g c never =
     absurd (never (string_bytes c.in-Some-Relay.host) (rw (c.in-Some-Relay.is, c.in-Some-Relay.field-0-is) at c.in_ok-command.ensures.names))
+
+pub returns-in_err-command-clause-statuses : goal.returns-in_err-command-clause-statuses
+returns-in_err-command-clause-statuses g c =
+    let failed = err_from_is_err_and c.from_residual.result c.from_residual.ensures.1 in
+    rw (failed.1, failed.2) (unread_words c.args.words.now)
+
+pub returns-in-Some-Apart-clause-statuses : goal.returns-in-Some-Apart-clause-statuses
+returns-in-Some-Apart-clause-statuses g c =
+    apart_words c.args.words.now c.in-Some-Apart.command _ _ _ (rw (c.in-Some-Apart.is, c.in-Some-Apart.field-0-is) at c.in_ok-command.ensures.names) c.run_apart.ensures.runs
+
+pub returns-in-Some-Session-clause-statuses : goal.returns-in-Some-Session-clause-statuses
+returns-in-Some-Session-clause-statuses g c =
+    session_words (protocol_for c.in-Some-Session.role) _ c.args.words.now c.in-Some-Session.role LIMITS _ _ _ _ _
+    (rw (c.in-Some-Session.is, c.in-Some-Session.field-0-is) at c.in_ok-command.ensures.names) c.run_session.ensures.runs
+
+pub returns-in-Some-Account-clause-statuses : goal.returns-in-Some-Account-clause-statuses
+returns-in-Some-Account-clause-statuses g c =
+    account_words _ _ c.args.words.now c.in-Some-Account.said.address c.in-Some-Account.said.password _ _ _ _ _
+    (rw (c.in-Some-Account.is, c.in-Some-Account.field-0-is) at c.in_ok-command.ensures.names) (c.run_account.ensures.runs meanings_given.0.path_of meanings_given.1.paths)
+
+pub returns-in-Some-Domain-clause-statuses : goal.returns-in-Some-Domain-clause-statuses
+returns-in-Some-Domain-clause-statuses g c =
+    domain_words _ _ c.args.words.now (string_bytes c.in-Some-Domain.name) _ _ _ _ _
+    (rw (c.in-Some-Domain.is, c.in-Some-Domain.field-0-is) at c.in_ok-command.ensures.names) c.run_domain.ensures.runs
+
+pub returns-in-Some-Relay-clause-statuses : goal.returns-in-Some-Relay-clause-statuses
+returns-in-Some-Relay-clause-statuses g c =
+    relay_words c.args.words.now LIMITS _ _ _ _ (rw (c.in-Some-Relay.is, c.in-Some-Relay.field-0-is) at c.in_ok-command.ensures.names)
+    (rw c.deref-in-Some-Relay.ensures at c.run_relay.ensures.runs)
+
+pub returns-in-None-clause-statuses : goal.returns-in-None-clause-statuses
+returns-in-None-clause-statuses g c = no_words c.args.words.now _ _ _ (rw c.in-None.is at c.in_ok-command.ensures.names) c.refuse_words.ensures.refuses
