@@ -20,7 +20,6 @@ from oracle.addresses import Uncertain
 from support.harness import differs, in_lanes, show
 
 SEED = 6859
-COUNT = 300
 
 NAMES = [name.decode().title() for name in sorted(layout.ADDRESSES)]
 DOMAINS = [
@@ -202,18 +201,18 @@ def field_faults(program, octets):
     return answer, told is not None, faults
 
 
-def cases_of(rng):
+def cases_of(rng, count):
     """Kind, octets, and the mailboxes and groups of which Python is asked, or None."""
-    for _ in range(COUNT):
+    for _ in range(count):
         elements = plain_list(rng)
         yield "list for Python", message_of(rng, rng.choice(NAMES), joined(rng, elements, COMMAS)), elements
     for maker in (any_list, near_list, address_soup):
-        for _ in range(COUNT):
+        for _ in range(count):
             yield maker.__name__, message_of(rng, *maker(rng)), None
 
 
 def check(program, tally):
-    cases = list(cases_of(random.Random(SEED)))
+    cases = list(cases_of(random.Random(SEED + program.seed), program.cases))
 
     def one(case):
         """Whether the oracle could tell, whether there is a list, and what is wrong."""

@@ -9,7 +9,6 @@ from oracle.downgrade_oracle import outcome
 from support.harness import differs, in_lanes
 
 SEED = 6857
-COUNT = 300
 
 SCRIPTS = {
     "Latin": "éüßñøçåæœŁżÉ",
@@ -125,8 +124,8 @@ def behind_header(octets):
 
 
 def check(program, tally):
-    rng = random.Random(SEED)
-    messages = [message(rng) for _ in range(COUNT)]
+    rng = random.Random(SEED + program.seed)
+    messages = [message(rng) for _ in range(program.cases)]
 
     def one(case):
         octets, fields = case

@@ -16,7 +16,6 @@ from generated.generated_messages import SCRIPTS
 from support.harness import differs, in_lanes, show
 
 SEED = 2231
-COUNT = 300
 
 DISPOSITIONS = ["attachment", "inline", "Form-Data", "x"]
 LETTERS = "abcXYZ019 .-_()%'*+,;=@\"\\"
@@ -152,18 +151,18 @@ def python_faults(text, given):
     return differs("defects", read.defects, []) + differs("the file name, as email reads it", read.get_filename(), text)
 
 
-def cases_of(rng):
+def cases_of(rng, count):
     """Kind, octets, and the file name that Python has to read, or None."""
-    for _ in range(COUNT):
+    for _ in range(count):
         name, value, text = certain_disposition(rng)
         yield "disposition", message_of(rng, name, value), text
     for maker in (near_disposition, parameter_soup, doubled):
-        for _ in range(COUNT):
+        for _ in range(count):
             yield maker.__name__, message_of(rng, "Content-Disposition", maker(rng)), None
 
 
 def check(program, tally):
-    cases = list(cases_of(random.Random(SEED)))
+    cases = list(cases_of(random.Random(SEED + program.seed), program.cases))
 
     def one(case):
         """Whether Python was asked, whether the field is in its grammar, and what is wrong."""
@@ -177,4 +176,4 @@ def check(program, tally):
     for number, ((kind, octets, _), (_, _, faults)) in enumerate(zip(cases, answers)):
         tally.note(f"generated {kind} {number}", [*faults, f"message: {show(octets)}"] if faults else [])
     asked, are_read = (sum(answer[at] for answer in answers) for at in (0, 1))
-    print(f"generated parameters: {are_read} of {len(cases)} are in their grammar; Python was asked for the file name of {asked} of {COUNT}")
+    print(f"generated parameters: {are_read} of {len(cases)} are in their grammar; Python was asked for the file name of {asked} of {program.cases}")

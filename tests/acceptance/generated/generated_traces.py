@@ -21,7 +21,6 @@ from oracle.downgrade_oracle import read_mail
 from support.harness import differs, in_lanes, show
 
 SEED = 5321
-COUNT = 300
 
 HOST_WORDS = ["from", "by", "From", "BY"]
 OTHER_WORDS = ["via", "with", "id", "for", "With", "ID", "FOR"]
@@ -154,14 +153,14 @@ CERTAIN = {
 }
 
 
-def cases_of(rng):
+def cases_of(rng, count):
     """Kind, octets, and a function that has what is wrong with the text of the made field, as Python reads it, or None."""
     for kind, (maker, faults) in CERTAIN.items():
-        for _ in range(COUNT):
+        for _ in range(count):
             name, text, wanted = maker(rng)
             yield kind, message_of(rng, name, text), lambda found, wanted=wanted, faults=faults: faults(wanted, found)
     for kind, maker in MAKERS.items():
-        for _ in range(COUNT):
+        for _ in range(count):
             yield kind, message_of(rng, *maker(rng)), None
 
 
@@ -173,7 +172,7 @@ def aside_faults(octets, found):
 
 
 def check(program, tally):
-    cases = list(cases_of(random.Random(SEED)))
+    cases = list(cases_of(random.Random(SEED + program.seed), program.cases))
 
     def one(case):
         """Whether the oracle could tell, whether the field is kept aside, and what is wrong."""

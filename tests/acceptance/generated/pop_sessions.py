@@ -11,8 +11,6 @@ from support.harness import in_lanes
 from support.talk import all_cuts, joined
 
 SEED = 6856
-SESSIONS = 300
-JOURNALS = 300
 
 NAMES = ["ann@example.org", "b@x", "a.b@x.org", "0@0.0", "jos\u00e9@b\u00fccher.example", '"a b"@X.org', "Stra\u00dfe.\u03c3@[1.2]"]
 FOLDERS = [b"INBOX", b"f", "\u00e9/f".encode()]
@@ -131,9 +129,9 @@ def some_journal(rng):
 
 
 def check(program, tally):
-    rng = random.Random(SEED)
-    cases = [(f"random session {number}", *some_session(rng)) for number in range(SESSIONS)]
-    cases += [(f"random journal {number}", *some_journal(rng)) for number in range(JOURNALS)]
+    rng = random.Random(SEED + program.seed)
+    cases = [(f"random session {number}", *some_session(rng)) for number in range(program.cases)]
+    cases += [(f"random journal {number}", *some_journal(rng)) for number in range(program.cases)]
 
     def one(case):
         """The status, or none where the oracle is uncertain, and what is wrong."""

@@ -11,7 +11,6 @@ from support.talk import SMTP, all_cuts
 from vectors.smtp_vectors import by_oracle
 
 SEED = 6531
-SESSIONS = 300
 
 AWAY = ["far@away.example", "é@away.example", "r@AWAY.example"]
 DOMAINS = [b"example.org", b"x", b"x.org", b"xn--bcher-kva.example", b"0.0"]
@@ -97,8 +96,8 @@ def some_session(rng):
 
 
 def check(program, tally):
-    rng = random.Random(SEED)
-    cases = [some_session(rng) for _ in range(SESSIONS)]
+    rng = random.Random(SEED + program.seed)
+    cases = [some_session(rng) for _ in range(program.cases)]
 
     def one(case):
         """How many records come, or none where the oracle is uncertain, and what is wrong."""

@@ -177,6 +177,8 @@ def of_modes(program, tally):
                 found = place.run(words, octets, before=change)
                 tally.note(name_of(words, f"the journal has the mode {mode:03o}"), ended(found, 2, line(KEPT, DENIED), b""))
             os.chmod(place.path, 0o755)
+            # its next octets are ours to write
+            os.chmod(place.journal, 0o644)
 
 
 def of_memory(program, tally):

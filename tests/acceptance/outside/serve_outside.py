@@ -1,12 +1,17 @@
 """What ends a connection of `serve`, and what ends the program: clients that hang up, journals that others change, ports that are taken."""
 
 import os
+import shutil
 import signal
 import socket
 import subprocess
 import tempfile
+import time
 
 from journal import FIRST_OCTETS, account, domain, journal
+from listening import free_port
+from oracle.pop_store import open_journal
+from outside.failures import Place, as_nobody
 from outside.smtp_outside import little_room
 from rows.downgrade_rows import little_memory
 from support.harness import SECONDS, TOLD, differs
@@ -20,6 +25,7 @@ LOGS_IN = b"USER a@x.org\r\nPASS p\r\n"
 COUNTS = LOGS_IN + b"STAT\r\nQUIT\r\n"
 SENDS = b"EHLO x\r\nMAIL FROM:<>\r\nRCPT TO:<a@x.org>\r\nDATA\r\nSubject: a\r\n\r\nb\r\n.\r\n"
 GREETING, BYE = b"+OK ready\r\n", b"+OK bye\r\n"
+SMTP_GREETING, SMTP_BYE = b"220 x.org ESMTP\r\n", b"221 2.0.0 bye\r\n"
 
 
 def connect(service):
@@ -176,6 +182,73 @@ def of_failures(program, tally, folder):
     tally.note("serve: memory is wanting", differs("status", status, 3) + service.faults(3, said=["dervlask: out of memory"]))
 
 
+def closed(handles):
+    """Has the program begin without these handles."""
+
+    def close():
+        for handle in handles:
+            os.close(handle)
+
+    return close
+
+
+def of_streams(program, tally, folder):
+    """Standard input, output and error that are closed: it serves as ever, and keeps the journal in none of their places."""
+    path = place_journal(folder, STORE)
+    for handles in ((0,), (1,), (0, 1)):
+        with Service(program.path, folder, "smtp", connections=1, preexec=closed(handles)) as service:
+            told, status = talk(service, b"NOOP\r\nQUIT\r\n"), service.end()
+        faults = differs("told", told, SMTP_GREETING + b"250 2.0.0 ok\r\n" + SMTP_BYE) + differs("status", status, 0) + service.faults(0)
+        tally.note(f"serve without the handles {handles}", faults + differs("journal", read_journal(path), STORE))
+    port = free_port()
+    words, how = [program.path, "serve", "smtp", str(port), "1"], {"stdin": subprocess.DEVNULL, "cwd": folder, "preexec_fn": closed((0, 1, 2))}
+    with subprocess.Popen(words, **how) as running:
+        # it can't tell where it listens, so it is asked until it does
+        told = b""
+        for _ in range(SECONDS * 100):
+            try:
+                with socket.create_connection(("127.0.0.1", port), timeout=SECONDS) as connection:
+                    connection.sendall(SENDS + b"QUIT\r\n")
+                    told = heard(connection)
+                break
+            except ConnectionRefusedError:
+                time.sleep(0.01)
+        status = running.wait(SECONDS)
+    records = read_journal(path)
+    faults = differs("told", told.endswith(b"250 2.0.0 stored\r\n" + SMTP_BYE), True) + differs("status", status, 0)
+    faults += differs("journal", (records.startswith(STORE), len(open_journal(records)[0].messages)), (True, 1))
+    tally.note("serve without the handles 0, 1 and 2", faults)
+
+
+def of_modes(program, tally, folder):
+    """The modes of the folder or of the journal are against it, from the first or between connections."""
+    change = as_nobody()
+    if not change:
+        print("there is no user whom modes bind, so serve wasn't tried against them")
+        return
+    denied = ["dervlask: mail.journal: Permission denied"]
+    with Place(program, STORE) as place:
+        path = shutil.copy(program.path, place.path)
+        os.chmod(path, 0o755)
+        for mode in (0o444, 0o000):
+            os.chmod(place.journal, mode)
+            with Service(path, place.path, preexec=change) as service:
+                status = service.end()
+            os.chmod(place.journal, 0o666)
+            tally.note(f"serve: the journal has the mode {mode:03o}", differs("status", status, 2) + service.faults(2, said=denied) + place.changes())
+        with Service(path, place.path, preexec=change) as service:
+            count = counted(service)
+            os.chmod(place.journal, 0o444)
+            told, status = talk(service, b""), service.end()
+        faults = differs("messages", count, 0) + differs("what its next client is told", told, b"") + differs("status", status, 2)
+        tally.note("serve: the mode of the journal changes", faults + service.faults(2, said=denied) + place.changes())
+        os.remove(place.journal)
+        os.chmod(place.path, 0o555)
+        with Service(path, place.path, preexec=change) as service:
+            status = service.end()
+        tally.note("serve: the folder is read-only", differs("status", status, 2) + service.faults(2, said=denied))
+
+
 def of_signals(program, tally, folder):
     """It ends by a signal, and leaves the journal as it was."""
     path = place_journal(folder, STORE)
@@ -188,6 +261,6 @@ def of_signals(program, tally, folder):
 
 
 def check(program, tally):
-    for checks in (of_clients, of_the_count, of_ports, of_others, of_bad_journals, of_failures, of_signals):
+    for checks in (of_clients, of_the_count, of_ports, of_others, of_bad_journals, of_failures, of_streams, of_modes, of_signals):
         with tempfile.TemporaryDirectory(dir=program.folder.name) as folder:
             checks(program, tally, folder)

@@ -49,6 +49,8 @@ class Program:
         self.patience = 20
         # rounds of the programs that run at once on one journal
         self.rounds = 10
+        # random cases of each kind, and which ones
+        self.cases, self.seed = 300, 0
         # runs, and what is wrong with what they said on standard error
         self.runs, self.misspoken = 0, []
 
