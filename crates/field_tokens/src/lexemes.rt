@@ -72,13 +72,13 @@ impl Mark {
         })
     }
 
-    fn kind(self) -> TokenKind
+    pub fn kind(self) -> TokenKind
         ensures { result ≡ marked_kind self }
     {
         kind_of(self.code % 8)
     }
 
-    fn len(self) -> usize
+    pub fn len(self) -> usize
         ensures { result ≡ marked_len self }
     {
         (self.code / 8) as usize

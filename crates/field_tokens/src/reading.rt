@@ -17,8 +17,11 @@ fn is_special(style: Style, octet: u8) -> bool
     ensures { result ≡ is_special_of style octet }
 {
     match style {
-        Style::Mail => b"<>:;@,.".contains(&octet),
-        Style::Mime => b"<>@,;:/[]?=".contains(&octet),
+        Style::Mail => matches!(octet, b'<' | b'>' | b':' | b';' | b'@' | b',' | b'.'),
+        Style::Mime => matches!(
+            octet,
+            b'<' | b'>' | b'@' | b',' | b';' | b':' | b'/' | b'[' | b']' | b'?' | b'='
+        ),
     }
 }
 
@@ -27,8 +30,8 @@ fn is_mark(style: Style, octet: u8) -> bool
     ensures { result ≡ is_mark_of style octet }
 {
     match style {
-        Style::Mail => b"()\"\\[]".contains(&octet),
-        Style::Mime => b"()\"\\".contains(&octet),
+        Style::Mail => matches!(octet, b'(' | b')' | b'"' | b'\\' | b'[' | b']'),
+        Style::Mime => matches!(octet, b'(' | b')' | b'"' | b'\\'),
     }
 }
 
