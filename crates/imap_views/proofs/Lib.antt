@@ -30,4 +30,5 @@ pub mod HeaderLemmas
 pub mod ChosenLemmas
 pub mod ParamLemmas
 pub mod SpacedLemmas
+pub mod PairLemmas
 pub mod EnvelopeLemmas

@@ -6,25 +6,39 @@ use Rattle.field_tokens.specs.declared.Token.{Token}
 use Rattle.field_tokens.specs.declared.TokenKind.TheVariants.{Atom}
 use Rattle.field_tokens.specs.Tokens.{TokenValue, tokens_from, HasTokens, octets_at}
 use Rattle.field_tokens.specs.Squeezed.{is_blank, words_of}
-use Rattle.field_tokens.specs.Trees.{Tree}
-use Rattle.field_tokens.proofs.TokenLists.{AreTokens-once}
+use Rattle.field_tokens.proofs.TokenLists.{AreTokens-once, HasTokens-once}
 use Rattle.field_tokens.proofs.SqueezedValues.{value_at, values_at}
+use Rattle.param_grammar.specs.declared.Body.{Body}
 use Rattle.param_grammar.specs.declared.ParamKind.{ParamKind}
-use Rattle.param_grammar.specs.declared.Piece.{Piece}
-use Rattle.param_grammar.specs.Bodies.{HasBody}
-use Rattle.param_grammar.specs.Joining.{ParamValue, AreParams}
+use Rattle.param_grammar.specs.Bodies.{HasBody, IsBody}
+use Rattle.param_grammar.specs.Joining.{ParamValue, HasSaidBody, params_of}
+use Rattle.param_grammar.specs.Placed.{HasBodyAt}
+use Rattle.param_grammar.proofs.BodyLemmas.{IsBody-once}
+use Rattle.param_2231.proofs.SaidTrees.{HasBodyAt-says, SaysParams-trees}
 use Rattle.mime_tree.proofs.WordLemmas.{is_word, one_word}
-use Rattle.imap_views.specs.Parts.{IsNoField, IsSoleAtom}
+use Rattle.imap_views.specs.Parts.{HasPieces, IsNoField, IsSoleAtom}
 
 -- ---- pieces
 
-pub not-HasPieces-body : (kind : ParamKind) (text : List ℕ) → ((main : List ℕ) (pieces : List Piece) (comments : List Tree) → HasBody kind text main pieces comments → ⊥) → IsNoField kind text
-not-HasPieces-body kind text none main pieces has = none main pieces has.comments has.has_body
+-- a text without a body that says parameters has no pieces
+pub IsNoField-read : (kind : ParamKind) (text : List ℕ) → ((main : List ℕ) (params : List ParamValue) → HasSaidBody kind text main params → ⊥) → IsNoField kind text
+IsNoField-read kind text none main pieces has =
+    let body = has.has_body in
+    none main has.params (record { tokens = body.tokens; has_tokens = body.has_tokens; pieces = pieces; is_body = body.is_body; are_params = has.are_params })
 
-pub not-HasPieces-params : (kind : ParamKind) (text : List ℕ) (found : List Piece) → ((main : List ℕ) (pieces : List Piece) (comments : List Tree) → HasBody kind text main pieces comments → found ≡ pieces)
-    → ((params : List ParamValue) → AreParams found params → ⊥) → IsNoField kind text
-not-HasPieces-params kind text found exact none main pieces has =
-    none has.params (subst (λ ps. AreParams ps has.params) (sym (exact main pieces has.comments has.has_body)) has.are_params)
+pub HasPieces-read : (kind : ParamKind) (text : List ℕ) (body : Body) → (has : HasBodyAt kind text body) → HasPieces kind text body.main has.pieces
+HasPieces-read kind text body has =
+    let said = HasBodyAt-says kind text body has in
+    let trees = SaysParams-trees kind text body.main (params_of has.pieces) said.0 said.1 in
+    let seen = trees.1 in
+    let moved = subst (λ ts. IsBody kind text ts body.main seen.pieces) (HasTokens-once Mime text seen.body.tokens has.tokens seen.body.has_tokens has.has_tokens) seen.body.is_body in
+    let same : seen.pieces ≡ has.pieces = (IsBody-once kind text has.tokens body.main body.main seen.pieces has.pieces moved has.is_body).1 in
+    record {
+      comments = trees.0;
+      has_body = subst (λ ps. HasBody kind text body.main ps trees.0) same seen.body;
+      params = params_of has.pieces;
+      are_params = record { are_numbered = has.has_placed.are_numbered; params_are = refl };
+    }
 
 -- ---- one atom
 

@@ -1,9 +1,7 @@
 -- Texts with spaces between them.
-use Rattle.std.proofs.Common.{◌≡◌, ℕ, List, [], ◌∷◌, ◌++◌, map, refl, sym, ap, ◌∙◌, append_assoc}
+use Rattle.std.proofs.Common.{◌≡◌, ℕ, List, [], ◌∷◌, ◌++◌, refl, sym, ap, ◌∙◌, append_assoc}
 use Rattle.std.proofs.lemmas.List.{append-nil}
-use Rattle.param_grammar.specs.declared.Piece.{Piece}
 use Rattle.imap_views.specs.Strings.{spaced}
-use Rattle.imap_views.specs.Parts.{pair_of}
 use Rattle.imap_views.specs.Structures.{behind_spaces}
 
 -- each text but the first one stands behind a space
@@ -11,11 +9,6 @@ pub spaced_behind : (text : List ℕ) (texts : List (List ℕ)) → spaced (text
 unfolding spaced
 spaced_behind text [] = sym (append-nil text)
 spaced_behind text (next ∷ texts) = ap (λ r. text ++ 32 ∷ r) (spaced_behind next texts)
-
--- the first pair of a list
-pub pairs_begun : (pieces others : List Piece) (first : Piece) (begun made : List ℕ) → pieces ≡ first ∷ others → begun ≡ 40 ∷ [] → made ≡ begun ++ pair_of first
-    → made ++ behind_spaces (map pair_of others) ≡ 40 ∷ spaced (map pair_of pieces)
-pairs_begun pieces others first begun made whole is_begun is_made = rw (is_made, is_begun, whole, spaced_behind) refl
 
 -- ---- texts that are put last
 

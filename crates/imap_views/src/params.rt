@@ -1,5 +1,8 @@
 //! Parameters as they are written, types, dispositions and encodings.
 ghost use Rattle.std.specs.Prelude.{◌≡◌, ◌++◌, ℕ, List, IfOk, OnOk, IfSome, IfNone};
+ghost use Rattle.param_grammar.specs.declared.Piece.{Piece};
+ghost use Rattle.param_grammar.specs.Placed.{HasPlaced};
+ghost use Rattle.param_grammar.specs.Places.{IsPlaced, ArePlaced};
 ghost use Rattle.imap_views.specs.Parts.{HasPieces, IsNoField, IsDispositionBy, IsEncodingBy, IsSoleAtom, IsTypeBy, TypeValue, disposition_form, pair_of, pairs_of, value_said, usual_params, usual_type};
 
 use crate::strings::split_mark;
@@ -7,22 +10,20 @@ use address_grammar::push_quoted_string;
 use field_tokens::{Style, TokenKind, read_tokens};
 use mail_wire::{Memory, Octets};
 use mime_tree::only_word;
-use param_grammar::{Body, ParamFault, ParamKind, Piece, inner, read_body, roles, unquoted};
+use param_grammar::{
+    Body, ParamFault, ParamKind, Piece, Place, inner, piece_at, read_body, unquoted,
+};
 use std::alloc::Global;
 
 // The main part and the parameters of a field, and nothing where it is malformed.
 fn read_pieces(alloc: Global, kind: ParamKind, text: &[u8]) -> Result<Option<Body>, Memory>
-    ensures found { IfOk result (λ o. IfSome o (λ body. HasPieces kind text.now body.main body.pieces)) }
+    ensures found { IfOk result (λ o. IfSome o (λ body. (pieces : List Piece) × HasPieces kind text.now body.main pieces × HasPlaced text.now body.placed pieces)) }
     ensures none { IfOk result (λ o. IfNone o (IsNoField kind text.now)) }
 {
-    let body = match read_body(alloc, kind, text) {
-        Ok(body) => body,
-        Err(ParamFault::Malformed) => return Ok(None),
-        Err(ParamFault::Memory) => return Err(Memory),
-    };
-    match roles(alloc, body.pieces.as_slice())? {
-        Some(_) => Ok(Some(body)),
-        None => Ok(None),
+    match read_body(alloc, kind, text) {
+        Ok(body) => Ok(Some(body)),
+        Err(ParamFault::Malformed) => Ok(None),
+        Err(ParamFault::Memory) => Err(Memory),
     }
 }
 
@@ -46,18 +47,28 @@ fn push_pair(alloc: Global, made: &mut Octets, piece: &Piece) -> Result<(), Memo
     push_quoted_string(made, value_said(alloc, value)?.as_slice())
 }
 
-// The names and the values of parameters, or NIL.
-fn pairs_of(alloc: Global, pieces: &[Piece]) -> Result<Octets, Memory>
-    ensures { IfOk result (λ made. made ≡ pairs_of pieces.now) }
+// Puts the name and the value of the parameter at a place last.
+fn push_pair_at(alloc: Global, made: &mut Octets, text: &[u8], place: Place) -> Result<(), Memory>
+    requires { (piece : Piece) × IsPlaced text.now place piece }
+    ensures { (piece : Piece) → IsPlaced text.now place piece → OnOk result (made.new ≡ made.old ++ pair_of piece) }
 {
-    let Some((first, others)) = pieces.split_first() else {
+    let piece = piece_at(alloc, text, place)?;
+    push_pair(alloc, made, &piece)
+}
+
+// The names and the values of parameters, or NIL.
+fn pairs_of(alloc: Global, text: &[u8], places: &[Place]) -> Result<Octets, Memory>
+    requires { (pieces : List Piece) × ArePlaced text.now places.now pieces }
+    ensures { (pieces : List Piece) → ArePlaced text.now places.now pieces → IfOk result (λ made. made ≡ pairs_of pieces) }
+{
+    let Some((first, others)) = places.split_first() else {
         return Octets::from_slice(alloc, b"NIL");
     };
     let mut made = Octets::from_slice(alloc, b"(")?;
-    push_pair(alloc, &mut made, first)?;
-    for piece in others {
+    push_pair_at(alloc, &mut made, text, *first)?;
+    for place in others {
         made.push(b' ')?;
-        push_pair(alloc, &mut made, piece)?;
+        push_pair_at(alloc, &mut made, text, *place)?;
     }
     made.push(b')')?;
     Ok(made)
@@ -94,7 +105,7 @@ pub fn type_of(
     };
     match read_pieces(alloc, ParamKind::Content, text.as_slice())? {
         Some(body) => {
-            let params = pairs_of(alloc, body.pieces.as_slice())?;
+            let params = pairs_of(alloc, text.as_slice(), &body.placed.places)?;
             Ok((body.main, params))
         }
         None => usual_type(alloc, false),
@@ -102,13 +113,14 @@ pub fn type_of(
 }
 
 // The form of a disposition.
-fn disposition_form(alloc: Global, body: &Body) -> Result<Octets, Memory>
-    ensures { IfOk result (λ made. made ≡ disposition_form body.now.main body.now.pieces) }
+fn disposition_form(alloc: Global, text: &[u8], body: &Body) -> Result<Octets, Memory>
+    requires { (pieces : List Piece) × ArePlaced text.now body.now.placed.places.items pieces }
+    ensures { (pieces : List Piece) → ArePlaced text.now body.now.placed.places.items pieces → IfOk result (λ made. made ≡ disposition_form body.now.main pieces) }
 {
     let mut made = Octets::from_slice(alloc, b"(")?;
     push_quoted_string(&mut made, body.main.as_slice())?;
     made.push(b' ')?;
-    made.push_slice(pairs_of(alloc, body.pieces.as_slice())?.as_slice())?;
+    made.push_slice(pairs_of(alloc, text, &body.placed.places)?.as_slice())?;
     made.push(b')')?;
     Ok(made)
 }
@@ -121,7 +133,7 @@ pub fn disposition_of(alloc: Global, value: &Option<Octets>) -> Result<Octets, M
         return Octets::from_slice(alloc, b"NIL");
     };
     match read_pieces(alloc, ParamKind::Disposition, text.as_slice())? {
-        Some(body) => disposition_form(alloc, &body),
+        Some(body) => disposition_form(alloc, text.as_slice(), &body),
         None => Octets::from_slice(alloc, b"NIL"),
     }
 }

@@ -1,48 +1,93 @@
 -- How an entity is opened by its parameters, and which field says it.
-use Rattle.std.proofs.Common.{◌≡◌, ◌≢◌, ℕ, ◌+◌, ◌<◌, ◌≤◌, true, false, inl, inr, List, ◌∷◌, ◌++◌, length, take, drop, get_or, map, Option, Some, None, Result, Ok, Err, refl, sym, ap, ◌∙◌, subst}
-use Rattle.std.proofs.lemmas.List.{drop_more}
+use Rattle.std.proofs.Common.{◌≡◌, ◌≢◌, ℕ, ◌+◌, ◌<◌, ◌≤◌, Bool, true, false, not, ◌&&◌, if◌then◌else◌, inl, inr, List, [], ◌∷◌, ◌++◌, length, take, drop, get_or, map, Option, Some, None, Result, Ok, Err, refl, sym, ap, ◌∙◌, subst, arith}
+use Rattle.std.proofs.lemmas.List.{drop_more, take_more}
 use Rattle.std.proofs.Math.ListN.{drop_of_length-le}
 use Rattle.std.proofs.Math.Seq.{take-append_seam}
 use Rattle.std.specs.Prelude.{codes, IfOk}
-use Rattle.std.specs.Str.{bytes_eq}
+use Rattle.std.specs.Str.{bytes_eq, str_to_ascii_lowercase}
 use Rattle.mail_wire.specs.Octets.{same_name}
 use Rattle.utf8_fields.specs.declared.block.Field.{Field}
 use Rattle.utf8_fields.specs.Parts.{FieldParts, HasParts, IsField, HasValue}
 use Rattle.utf8_fields.specs.Block.{raw_of}
-use Rattle.encoded_words.specs.private.Values.{value_of}
-use Rattle.field_tokens.specs.Trees.{Tree}
-use Rattle.param_grammar.specs.declared.Param.{Param}
+use Rattle.param_grammar.specs.declared.Body.{Body}
 use Rattle.param_grammar.specs.declared.ParamKind.TheVariants.{Content}
-use Rattle.param_grammar.specs.Joining.{ParamValue, param_value, HasParams}
-use Rattle.param_2231.proofs.SaidTrees.{HasParams-says, SaysParams-trees}
+use Rattle.param_grammar.specs.declared.Piece.{Piece}
+use Rattle.param_grammar.specs.declared.places.Place.{Place}
+use Rattle.param_grammar.specs.declared.role.Placed.{Placed}
+use Rattle.param_grammar.specs.declared.role.Role.{Role}
+use Rattle.param_grammar.specs.declared.role.Role.TheVariants.{Begins}
+use Rattle.param_grammar.specs.Joining.{ParamValue, HasSaidBody, IsRole, goes_on, params_behind, params_of, unit_at}
+use Rattle.param_grammar.specs.Placed.{HasPlaced, HasBodyAt}
+use Rattle.param_grammar.specs.Places.{IsPlaced, no_piece, piece_in}
+use Rattle.param_grammar.proofs.PlaceLemmas.{ArePlaced-at, ArePlaced-length}
+use Rattle.param_2231.proofs.SaidTrees.{HasBodyAt-says}
 use Rattle.mime_tree.specs.declared.openings.Opening.{Opening}
 use Rattle.mime_tree.specs.declared.openings.Opening.TheVariants.{Nothing, Message}
 use Rattle.mime_tree.specs.Openings.{is_message_type, is_multipart_type, is_digest_type, boundary_in, usable_of, divided, opening_said, OpensByText, IsFirstValue, AreFieldsWithin}
 use Rattle.mime_tree.specs.private.Types.{IsNotNamed}
 use Rattle.mime_tree.proofs.PlainNames.{other_length}
 
--- what the parameters from a place on say of a boundary is what all say
-pub record GoesOnFor (params : List Param) (k : ℕ) : Type 0 where
-  pub same : boundary_in (map param_value params) ≡ boundary_in (map param_value (drop k params))
+-- what the parameters from a piece on say of a boundary is what all say
+pub record GoesOnFor (pieces : List Piece) (k : ℕ) : Type 0 where
+  pub same : boundary_in (params_of pieces) ≡ boundary_in (params_behind pieces (take k pieces) (drop k pieces))
 
-boundary_at : (params : List Param) (k : ℕ) (param : Param) → param ≡ get_or params k param → k < length params
-    → boundary_in (map param_value (drop k params)) ≡ boundary_in (param_value param ∷ map param_value (drop (k + 1) params))
-boundary_at params k param is below =
-    ap (λ all. boundary_in (map param_value all)) (drop_more params k param below) ∙ ap (λ p. boundary_in (param_value p ∷ map param_value (drop (k + 1) params))) (sym is)
+-- whether a piece begins the parameter
+abbrev begins : List Piece → ℕ → Bool
+begins pieces k = not (goes_on (take k pieces) (piece_in pieces k)) && bytes_eq (piece_in pieces k).base (codes "boundary")
 
-pub boundary-here : (params : List Param) (k : ℕ) (param : Param) → GoesOnFor params k → param ≡ get_or params k param → k < length params → bytes_eq param.name (codes "boundary") ≡ true
-    → boundary_in (map param_value params) ≡ Some (value_of param.value)
+boundary_at : (pieces : List Piece) (k : ℕ) → k < length pieces
+    → boundary_in (params_behind pieces (take k pieces) (drop k pieces)) ≡ boundary_in (params_behind pieces (take k pieces) (piece_in pieces k ∷ drop (k + 1) pieces))
+boundary_at pieces k below = ap (λ rest. boundary_in (params_behind pieces (take k pieces) rest)) (drop_more pieces k no_piece below)
+
+named_first : (g : Bool) (param : ParamValue) (params : List ParamValue) → (not g && bytes_eq param.name (codes "boundary")) ≡ true
+    → boundary_in (if g then params else param ∷ params) ≡ Some param.unit
 unfolding boundary_in
-boundary-here params k param goes is below named = goes.same ∙ boundary_at params k param is below ∙ rw (named) refl
+named_first true param params e = cc e
+named_first false param params e = rw (e) refl
 
-pub boundary-later : (params : List Param) (k : ℕ) (param : Param) → GoesOnFor params k → param ≡ get_or params k param → k < length params → bytes_eq param.name (codes "boundary") ≡ false
-    → GoesOnFor params (k + 1)
+named_later : (g : Bool) (param : ParamValue) (params : List ParamValue) → (not g && bytes_eq param.name (codes "boundary")) ≡ false
+    → boundary_in (if g then params else param ∷ params) ≡ boundary_in params
 unfolding boundary_in
-boundary-later params k param goes is below other = record { same = goes.same ∙ boundary_at params k param is below ∙ rw (other) refl }
+named_later true param params e = refl
+named_later false param params e = rw (e) refl
 
-pub boundary-none : (params : List Param) (k : ℕ) → GoesOnFor params k → length params ≤ k → boundary_in (map param_value params) ≡ None
+abbrev param_at : List Piece → ℕ → ParamValue
+param_at pieces k = record { name = (piece_in pieces k).base; unit = unit_at pieces (piece_in pieces k) }
+
+pub boundary-here : (pieces : List Piece) (k : ℕ) → GoesOnFor pieces k → k < length pieces → begins pieces k ≡ true → boundary_in (params_of pieces) ≡ Some (unit_at pieces (piece_in pieces k))
+boundary-here pieces k goes below is =
+    goes.same ∙ boundary_at pieces k below
+    ∙ named_first (goes_on (take k pieces) (piece_in pieces k)) (param_at pieces k) (params_behind pieces (take k pieces ++ piece_in pieces k ∷ []) (drop (k + 1) pieces)) is
+
+pub boundary-later : (pieces : List Piece) (k : ℕ) → GoesOnFor pieces k → k < length pieces → begins pieces k ≡ false → GoesOnFor pieces (k + 1)
+boundary-later pieces k goes below other = record {
+  same = goes.same ∙ boundary_at pieces k below
+      ∙ named_later (goes_on (take k pieces) (piece_in pieces k)) (param_at pieces k) (params_behind pieces (take k pieces ++ piece_in pieces k ∷ []) (drop (k + 1) pieces)) other
+      ∙ ap (λ before. boundary_in (params_behind pieces before (drop (k + 1) pieces))) (sym (take_more pieces k no_piece below));
+}
+
+pub boundary-none : (pieces : List Piece) (k : ℕ) → GoesOnFor pieces k → length pieces ≤ k → boundary_in (params_of pieces) ≡ None
 unfolding boundary_in
-boundary-none params k goes past = goes.same ∙ ap (λ all. boundary_in (map param_value all)) (drop_of_length-le params past)
+boundary-none pieces k goes past = goes.same ∙ ap (λ rest. boundary_in (params_behind pieces (take k pieces) rest)) (drop_of_length-le pieces past)
+
+-- the number of a place is that of a piece
+pub piece_below : (text : List ℕ) (placed : Placed) (pieces : List Piece) (k : ℕ) → HasPlaced text placed pieces → k < length placed.places.items → k < length pieces
+piece_below text placed pieces k has below = omega (arith, below, ArePlaced-length text placed.places.items pieces has.are_placed)
+
+pub piece_past : (text : List ℕ) (placed : Placed) (pieces : List Piece) (k : ℕ) → HasPlaced text placed pieces → length placed.places.items ≤ k → length pieces ≤ k
+piece_past text placed pieces k has past = omega (arith, past, ArePlaced-length text placed.places.items pieces has.are_placed)
+
+-- a piece that its role and its name, as it is written, tell to begin the parameter
+pub begins_here : (text : List ℕ) (placed : Placed) (pieces : List Piece) (k : ℕ) (role : Role) (a b : Bool) (place : Place) (written : List ℕ) (same : Bool) → HasPlaced text placed pieces
+    → k < length placed.places.items → role ≡ get_or placed.roles.items k role → role ≡ Begins a b → place ≡ get_or placed.places.items k place
+    → ((piece : Piece) → IsPlaced text place piece → piece.base ≡ str_to_ascii_lowercase written) → same ≡ same_name written (codes "boundary") → same ≡ begins pieces k
+unfolding same_name
+begins_here text placed pieces k role a b place written same has below at is place_at named same_is =
+    let piece = piece_in pieces k in
+    let said = has.roles k role (piece_below text placed pieces k has below) in
+    let begun : IsRole pieces (take k pieces) piece (Begins a b) = subst (IsRole pieces (take k pieces) piece) (sym at ∙ is) said in
+    let placed_at : IsPlaced text place piece = subst (λ p. IsPlaced text p piece) (sym place_at) (ArePlaced-at text placed.places.items pieces k place has.are_placed below) in
+    same_is ∙ ap (λ base. bytes_eq base (codes "boundary")) (sym (named piece placed_at)) ∙ ap (λ g. not g && bytes_eq piece.base (codes "boundary")) (sym begun.0)
 
 -- The opening of each type.
 pub said-message : (main : List ℕ) (params : List ParamValue) → is_message_type main ≡ true → Message ≡ opening_said main params
@@ -56,17 +101,16 @@ pub said-parts : (main : List ℕ) (params : List ParamValue) (usable : Option (
 said-parts main params usable no_message parts is = rw (no_message, parts, is) refl
 
 -- A text that was read opens an entity by what it says, and one that can't be read doesn't open it.
-pub text-opens : (text main : List ℕ) (params : List ParamValue) (comments : List Tree) (opening : Opening) → HasParams Content text main params comments → opening ≡ opening_said main params
-    → OpensByText text opening
-text-opens text main params comments opening has is = let says = HasParams-says Content text main params comments has in inl (main, params, says.0, says.1, is)
+text_opens : (text : List ℕ) (body : Body) (opening : Opening) → (has : HasBodyAt Content text body) → opening ≡ opening_said body.main (params_of has.pieces) → OpensByText text opening
+text_opens text body opening has is = let said = HasBodyAt-says Content text body has in inl (body.main, params_of has.pieces, said.0, said.1, is)
 
-pub opens-where : {E : Type 0} (text main : List ℕ) (params : List ParamValue) (comments : List Tree) (opened : Result Opening E) → HasParams Content text main params comments
-    → IfOk opened (λ opening. opening ≡ opening_said main params) → IfOk opened (OpensByText text)
-opens-where text main params comments (Ok opening) has is = text-opens text main params comments opening has is
-opens-where text main params comments (Err fault) has is = tt
+pub opens-where : {E : Type 0} (text : List ℕ) (body : Body) (opened : Result Opening E) → (has : HasBodyAt Content text body)
+    → IfOk opened (λ opening. opening ≡ opening_said body.main (params_of has.pieces)) → IfOk opened (OpensByText text)
+opens-where text body (Ok opening) has is = text_opens text body opening has is
+opens-where text body (Err fault) has is = tt
 
-pub text-malformed : (text : List ℕ) → ((main : List ℕ) (params : List ParamValue) (comments : List Tree) → HasParams Content text main params comments → ⊥) → OpensByText text Nothing
-text-malformed text none = inr (λ main params comments says. let trees = SaysParams-trees Content text main params comments says in none main params trees.0 trees.1, refl)
+pub text-malformed : (text : List ℕ) → ((main : List ℕ) (params : List ParamValue) → HasSaidBody Content text main params → ⊥) → OpensByText text Nothing
+text-malformed text none = inr (λ main params comments says. none main params says.body, refl)
 
 -- a field as the code reads it past the end of a list
 abbrev pub no_field : Field

@@ -1,5 +1,5 @@
 //! How an entity is opened, by the fields of its block (RFC 2045, 5 and 6; RFC 2046, 5).
-ghost use Rattle.std.specs.Prelude.{◌≡◌, ◌≢◌, ◌↔◌, ◌+◌, ◌≤◌, ◌∷◌, [], ◌||◌, ℕ, Bool, List, Some, true, false, length, take, map, filter, not, codes, IfOk, IfSome, IfNone, IsTrue};
+ghost use Rattle.std.specs.Prelude.{◌≡◌, ◌≢◌, ◌↔◌, ◌+◌, ◌<◌, ◌≤◌, ◌∷◌, [], ◌&&◌, ◌||◌, ℕ, Bool, List, Some, true, false, length, take, map, filter, not, codes, IfOk, IfSome, IfNone, IsTrue};
 ghost use Rattle.std.specs.Str.{bytes_eq};
 ghost use Rattle.std.specs.List.{All, list_all};
 ghost use Rattle.mail_wire.specs.Octets.{same_name};
@@ -7,14 +7,17 @@ ghost use Rattle.utf8_fields.specs.Block.{raw_of};
 ghost use Rattle.encoded_words.specs.private.Values.{value_of};
 ghost use Rattle.field_tokens.specs.declared.TokenKind.TheVariants.{Atom};
 ghost use Rattle.field_tokens.specs.Squeezed.{is_blank};
-ghost use Rattle.param_grammar.specs.Joining.{param_value};
+ghost use Rattle.param_grammar.specs.declared.Piece.{Piece};
+ghost use Rattle.param_grammar.specs.Joining.{goes_on, params_of};
+ghost use Rattle.param_grammar.specs.Placed.{HasPlaced};
+ghost use Rattle.param_grammar.specs.Places.{piece_in};
 ghost use Rattle.mime_tree.specs.private.Types.{begins_other, IsNotNamed};
 ghost use Rattle.mime_tree.specs.Openings.{is_letter, is_digit_or_sign, is_other_sign, is_boundary_octet, is_usable, is_message_type, is_multipart_type, is_digest_type, is_identity_name, boundary_in, opening_said, opening_by_default, Opens, OpensByType, OpensByText, IsFirstValue, IsIdentity, KeepsOctets, AreFieldsWithin, usable_of, divided};
 
 use encoded_words::Unit;
 use field_tokens::{Style, Token, TokenFault, TokenKind, is_blank, tokens};
 use mail_wire::{Memory, Octets, is_same_name};
-use param_grammar::{Param, ParamFault, ParamKind, Params, read_params};
+use param_grammar::{Body, ParamFault, ParamKind, Placed, Role, base_at, read_body};
 use std::alloc::Global;
 use utf8_fields::{Field, split_field, value_of};
 
@@ -103,19 +106,26 @@ fn is_digest_type(main: &[u8]) -> bool
     main == b"multipart/digest".as_slice()
 }
 
-fn is_boundary_name(name: &[u8]) -> bool
-    ensures { result ≡ bytes_eq name.now (codes "boundary") }
+// Whether a parameter `boundary` begins with a piece.
+fn begins_boundary(text: &[u8], placed: &Placed, number: usize) -> bool
+    requires number { number < length placed.now.places.items }
+    requires placed { (pieces : List Piece) × HasPlaced text.now placed.now pieces }
+    ensures { (pieces : List Piece) → HasPlaced text.now placed.now pieces
+        → result ≡ (not (goes_on (take number pieces) (piece_in pieces number)) && bytes_eq (piece_in pieces number).base (codes "boundary")) }
 {
-    name == b"boundary".as_slice()
+    matches!(placed.roles[number], Role::Begins { .. })
+        && is_same_name(base_at(text, placed.places[number]), b"boundary")
 }
 
 // The text of the first parameter `boundary`, where it may be used.
-fn usable_boundary(alloc: Global, params: &[Param]) -> Result<Option<Octets>, Memory>
-    ensures { IfOk result (λ o. o ≡ usable_of (boundary_in (map param_value params.now))) }
+fn usable_boundary(alloc: Global, text: &[u8], placed: &Placed) -> Result<Option<Octets>, Memory>
+    requires { (pieces : List Piece) × HasPlaced text.now placed.now pieces }
+    ensures { (pieces : List Piece) → HasPlaced text.now placed.now pieces → IfOk result (λ o. o ≡ usable_of (boundary_in (params_of pieces))) }
 {
-    for param in params {
-        if is_boundary_name(param.name.as_slice()) {
-            return usable_text(alloc, &param.value);
+    for number in 0..placed.places.len() {
+        if begins_boundary(text, placed, number) {
+            let unit = placed.unit(alloc, text, number)?;
+            return usable_text(alloc, &unit);
         }
     }
     Ok(None)
@@ -138,17 +148,18 @@ fn usable_text(alloc: Global, unit: &Unit) -> Result<Option<Octets>, Memory>
 }
 
 // How an entity is opened whose type this is.
-fn opening_said(alloc: Global, params: &Params) -> Result<Opening, Memory>
-    ensures { IfOk result (λ opening. opening ≡ opening_said params.now.main (map param_value params.now.list)) }
+fn opening_said(alloc: Global, text: &[u8], body: &Body) -> Result<Opening, Memory>
+    requires { (pieces : List Piece) × HasPlaced text.now body.now.placed pieces }
+    ensures { (pieces : List Piece) → HasPlaced text.now body.now.placed pieces → IfOk result (λ opening. opening ≡ opening_said body.now.main (params_of pieces)) }
 {
-    let main = params.main.as_slice();
+    let main = body.main.as_slice();
     if is_message_type(main) {
         return Ok(Opening::Message);
     }
     if !is_multipart_type(main) {
         return Ok(Opening::Nothing);
     }
-    match usable_boundary(alloc, params.list.as_slice())? {
+    match usable_boundary(alloc, text, &body.placed)? {
         Some(boundary) => Ok(Opening::Parts {
             boundary,
             digest: is_digest_type(main),
@@ -174,8 +185,8 @@ fn opening_by_text(alloc: Global, text: &[u8]) -> Result<Opening, Memory>
     if begins_other(text) {
         return Ok(Opening::Nothing);
     }
-    match read_params(alloc, ParamKind::Content, text) {
-        Ok(params) => opening_said(alloc, &params),
+    match read_body(alloc, ParamKind::Content, text) {
+        Ok(body) => opening_said(alloc, text, &body),
         Err(ParamFault::Malformed) => Ok(Opening::Nothing),
         Err(ParamFault::Memory) => Err(Memory),
     }

@@ -11,6 +11,7 @@ use Rattle.field_tokens.specs.declared.Token.{Token}
 use Rattle.field_tokens.specs.Tokens.{octets_at}
 use Rattle.field_tokens.specs.Squeezed.{run_octets, is_atom_kind}
 use Rattle.param_grammar.specs.declared.ParamKind.{ParamKind}
+use Rattle.param_grammar.specs.declared.Piece.{Piece}
 use Rattle.param_grammar.specs.Escapes.{EscapedItem, Plain, Escape, IsEscapedItem, item_spelling, IsEscaped, BeginsEscaped}
 use Rattle.param_grammar.specs.Extended.{IsExtended}
 use Rattle.mail_wire.specs.Numbers.{is_digit}
@@ -19,8 +20,10 @@ use Rattle.param_grammar.specs.Names.{leads_with_zero, IsNumber, NameParts, IsBa
 use Rattle.param_grammar.specs.Bodies.{is_mark_at, are_quoted, are_plain, is_parameter, is_main, is_filled, solid, sections_of, value_content, is_first, SaysOctets, IsParameterOf, IsPieceOf, IsPiece, ArePieces, IsBody}
 use Rattle.param_grammar.proofs.EscapeLemmas.{ReadsTo, ReadsTo-none, ReadsTo-push, IsEscaped-read, not-IsEscaped, BeginsEscaped-plain, BeginsEscaped-escape}
 use Rattle.param_grammar.proofs.ExtendedLemmas.{not-IsExtended-first, not-IsExtended-second, not-IsExtended-charset}
-use Rattle.param_grammar.proofs.NameLemmas.{not-HasSuffix, HasNameParts-made, not-HasNameParts-base, not-HasNameParts-behind}
-use Rattle.param_grammar.proofs.ReadLemmas.{not-SaysOctets-text, not-IsPieceOf-octets, not-IsPiece-parameter, not-IsPiece-piece}
+use Rattle.param_grammar.proofs.NameLemmas.{not-HasSuffix, HasNameParts-once, HasNameParts-made, not-HasNameParts-base, not-HasNameParts-behind}
+use Rattle.param_grammar.proofs.ReadLemmas.{not-SaysOctets-text}
+use Rattle.param_grammar.proofs.BodyLemmas.{piece_moved}
+use Rattle.param_grammar.proofs.PlaceLemmas.{not-IsPiece-sides}
 
 -- some value is right, or none
 abbrev pub Found : {V : Type 0} → (V → Type 0) → Type 0
@@ -210,11 +213,17 @@ decide_parameter text (a ∷ e ∷ value) = elim (cases_Bool (is_parameter text 
         subst (λ t. is_parameter text t e value ≡ true) first
         (subst (λ t. is_parameter text atom t value ≡ true) second (subst (λ r. is_parameter text atom equals r ≡ true) behind made))
 
+none_says : (text name : List ℕ) (value : List Token) (p : NameParts) → HasNameParts name p
+    → ((charset octets : List ℕ) → SaysOctets p.is_extended (is_first p.number) (value_content text value) charset octets → ⊥) → (piece : Piece) → IsPieceOf text name value piece → ⊥
+none_says text name value p has none piece is =
+    let parts = HasNameParts-once name is.parts p is.has_parts has in
+    none piece.charset piece.octets (subst (λ (n : NameParts). SaysOctets n.is_extended (is_first n.number) (value_content text value) piece.charset piece.octets) parts is.says)
+
 decide_piece_of : (text name : List ℕ) (value : List Token) → Found (IsPieceOf text name value)
 decide_piece_of text name value = elim (decide_name name) [
   | inr none ↦ inr (λ piece is. none is.parts is.has_parts)
   | inl n ↦ elim (decide_says n.0.is_extended (is_first n.0.number) (value_content text value)) [
-    | inr none ↦ inr (not-IsPieceOf-octets text name value n.0 n.1 none)
+    | inr none ↦ inr (none_says text name value n.0 n.1 none)
     | inl s ↦ inl (
       record { base = str_to_ascii_lowercase n.0.base; number = n.0.number; charset = s.0; octets = s.1; written = name ++ 61 ∷ run_octets text value },
       record {
@@ -231,9 +240,9 @@ decide_piece_of text name value = elim (decide_name name) [
 
 decide_piece : (text : List ℕ) (section : List Token) → Found (IsPiece text section)
 decide_piece text section = elim (decide_parameter text (solid section)) [
-  | inr none ↦ inr (not-IsPiece-parameter text section (solid section) refl none)
+  | inr none ↦ inr (not-IsPiece-sides text section none)
   | inl p ↦ elim (decide_piece_of text p.0 p.1) [
-    | inr none ↦ inr (not-IsPiece-piece text section (solid section) p.0 p.1 refl p.2 none)
+    | inr none ↦ inr (λ piece is. none piece (piece_moved text section p.0 p.1 piece p.2 is))
     | inl q ↦ inl (q.0, record { name = p.0; value = p.1; is_parameter = p.2; is_piece = q.1 })
   ]
 ]

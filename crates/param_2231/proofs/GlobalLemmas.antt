@@ -1,5 +1,5 @@
 -- A Content-Type that names message/global, and the same with `rfc822` in its place.
-use Rattle.std.proofs.Common.{◌≡◌, ℕ, ◌+◌, ◌<◌, Bool, true, false, ◌⊎◌, inl, inr, List, [], ◌∷◌, ◌++◌, length, take, drop, Option, Some, None, ◌≢◌, ◌≤◌, slice_index_or, refl, sym, ap, ◌∙◌, subst, arith, not}
+use Rattle.std.proofs.Common.{◌≡◌, ℕ, ◌+◌, ◌<◌, Bool, true, false, ◌⊎◌, inl, inr, List, [], ◌∷◌, ◌++◌, length, take, drop, Option, Some, None, ◌≢◌, refl, sym, ap, ◌∙◌, subst, arith, not}
 use Rattle.std.proofs.lemmas.Bool.{cases_Bool, and_parts, and_from, true≢false}
 use Rattle.std.proofs.lemmas.List.{append_assoc, append-nil, length-append, take_at, drop_at}
 use Rattle.std.proofs.lemmas.List.Elements.{filter-append}
@@ -384,29 +384,22 @@ global_read text at main params comments names says =
 pub not-NamesGlobal-says : (text : List ℕ) → ((main : List ℕ) (params : List ParamValue) (comments : List CommentValue) → SaysParams Content text main params comments → ⊥) → (at : ℕ) → ¬ NamesGlobal text at
 not-NamesGlobal-says text nothing at names = nothing (codes "message/global") names.params names.comments names.says
 
-pub not-NamesGlobal-tokens : (text : List ℕ) → ((tokens : List Token) → HasTokens Mime text tokens → ⊥) → (at : ℕ) → ¬ NamesGlobal text at
-not-NamesGlobal-tokens text none at names = none names.says.body.tokens names.says.body.has_tokens
-
 -- the third word's place, where there is one
 abbrev pub IsThirdPlace : List Token → ℕ → Type 0
 IsThirdPlace words at = (first : Token) × (second : Token) × (third : Token) × (more : List Token) × (words ≡ first ∷ second ∷ third ∷ more) × (third.span.at ≡ at)
 
-pub third_indexed : (words : List Token) (d : Token) → 3 ≤ length words → IsThirdPlace words (slice_index_or words 2 d).span.at
-third_indexed [] d some = absurd (omega (arith, some))
-third_indexed (a ∷ []) d some = absurd (omega (arith, some))
-third_indexed (a ∷ b ∷ []) d some = absurd (omega (arith, some))
-third_indexed (a ∷ b ∷ c ∷ more) d some = (a, b, c, more, refl, refl)
+-- there are fewer words than three
+abbrev pub HasNoThird : List Token → Type 0
+HasNoThird words = (first second third : Token) (more : List Token) → words ≢ first ∷ second ∷ third ∷ more
 
-pub global_found : (text main : List ℕ) (params : List ParamValue) (comments : List CommentValue) (tokens words : List Token) (place : Option ℕ) → SaysParams Content text main params comments
-    → bytes_eq main (codes "message/global") ≡ true → HasTokens Mime text tokens → words ≡ solid tokens → IfSome place (IsThirdPlace words) → IfSome place (NamesGlobal text)
-global_found text main params comments tokens words None says is has same found = tt
-global_found text main params comments tokens words (Some at) says is has same found =
+pub global_found : (text main : List ℕ) (params : List ParamValue) (comments : List CommentValue) (tokens : List Token) (place : Option ℕ) → SaysParams Content text main params comments
+    → bytes_eq main (codes "message/global") ≡ true → HasTokens Mime text tokens → IfSome place (IsThirdPlace (solid tokens)) → IfSome place (NamesGlobal text)
+global_found text main params comments tokens None says is has found = tt
+global_found text main params comments tokens (Some at) says is has found =
     let names = names_global_says text params comments (subst (λ m. SaysParams Content text m params comments) ((bytes_eq-Decides main (codes "message/global")).0 is) says) in
-    let third : IsThird (solid tokens) at = record { first = found.0; second = found.1; third = found.2; more = found.3; are = sym same ∙ found.4; at_is = found.5 } in
+    let third : IsThird (solid tokens) at = record { first = found.0; second = found.1; third = found.2; more = found.3; are = found.4; at_is = found.5 } in
     subst (NamesGlobal text) (third_once (solid tokens) names.0 at (subtype_third text names.0 tokens names.1.subtype has) third) names.1
 
-pub global_not_found : (text : List ℕ) (tokens words : List Token) (place : Option ℕ) → HasTokens Mime text tokens → words ≡ solid tokens
-    → IfNone place ((first second third : Token) (more : List Token) → words ≢ first ∷ second ∷ third ∷ more) → IfNone place ((at : ℕ) → ¬ NamesGlobal text at)
-global_not_found text tokens words (Some at) has same none = tt
-global_not_found text tokens words None has same none =
-    λ at names. let third = subtype_third text at tokens names.subtype has in none third.first third.second third.third third.more (same ∙ third.are)
+pub global_not_found : (text : List ℕ) (tokens : List Token) (place : Option ℕ) → HasTokens Mime text tokens → IfNone place (HasNoThird (solid tokens)) → IfNone place ((at : ℕ) → ¬ NamesGlobal text at)
+global_not_found text tokens (Some at) has none = tt
+global_not_found text tokens None has none = λ at names. let third = subtype_third text at tokens names.subtype has in none third.first third.second third.third third.more third.are

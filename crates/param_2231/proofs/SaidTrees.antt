@@ -6,8 +6,6 @@ use Rattle.mail_wire.specs.declared.values.Span.{Span}
 use Rattle.encoded_words.specs.CommentUnits.{TextItem}
 use Rattle.encoded_words.specs.Words.{UnitValue}
 use Rattle.field_tokens.specs.declared.Style.TheVariants.{Mime}
-use Rattle.field_tokens.specs.declared.TokenKind.{TokenKind}
-use Rattle.field_tokens.specs.declared.TokenKind.TheVariants.{Atom, Quoted, Literal, Special, Gap, Comment}
 use Rattle.field_tokens.specs.Tokens.{TokenValue, tokens_from}
 use Rattle.field_tokens.specs.Squeezed.{octets_of, is_comment, comments_of}
 use Rattle.field_tokens.specs.Trees.{Body, Last, Before, body_octets, spelling, Tree, End, NestedThen, GivesRun, run_then, HasItems}
@@ -15,9 +13,11 @@ use Rattle.field_tokens.specs.Comments.{CommentValue, CommentsSay, TextSays, Bod
 use Rattle.field_tokens.proofs.Parts.{octets_of-tokens}
 use Rattle.field_tokens.proofs.TokenLines.{comments_are_writable}
 use Rattle.field_tokens.proofs.CommentValues.{CommentsSay-some}
+use Rattle.param_grammar.specs.declared.Body.{Body as BodyOf}
 use Rattle.param_grammar.specs.declared.ParamKind.{ParamKind}
 use Rattle.param_grammar.specs.Bodies.{HaveComments}
-use Rattle.param_grammar.specs.Joining.{ParamValue, HasParams, SaysParams}
+use Rattle.param_grammar.specs.Joining.{ParamValue, params_of, HasSaidBody, HasParams, SaysParams}
+use Rattle.param_grammar.specs.Placed.{HasBodyAt}
 use Rattle.param_2231.proofs.ChangedTokens.{octets_between}
 
 said_run : (at : ℕ) (text : List TextItem) (units : Option (List UnitValue)) → TextSays text units → (run : Option Span) × GivesRun at text run
@@ -87,14 +87,27 @@ SaysParams-trees kind text main params said says =
       },
     )
 
+-- the comments of a text with parameters say something
+said_comments : (kind : ParamKind) (text main : List ℕ) (params : List ParamValue) → HasSaidBody kind text main params → (said : List CommentValue) × SaysParams kind text main params said
+said_comments kind text main params body =
+    let tokens = body.has_tokens in
+    let said = CommentsSay-some (comments_of tokens.values) (comments_are_writable Mime tokens.values text tokens.are_tokens tokens.is_line) in
+    (said.0, record { body = body; comments_say = said.1 })
+
 pub HasParams-says : (kind : ParamKind) (text main : List ℕ) (params : List ParamValue) (trees : List Tree) → HasParams kind text main params trees
     → (said : List CommentValue) × SaysParams kind text main params said
 HasParams-says kind text main params trees has =
-    let tokens = has.body.has_tokens in
-    let said = CommentsSay-some (comments_of tokens.values) (comments_are_writable Mime tokens.values text tokens.are_tokens tokens.is_line) in (
-      said.0,
-      record {
-        body = record { tokens = has.body.tokens; has_tokens = tokens; pieces = has.pieces; is_body = has.body.is_body; are_params = has.are_params };
-        comments_say = said.1;
-      },
-    )
+    said_comments kind text main params
+    (record { tokens = has.body.tokens; has_tokens = has.body.has_tokens; pieces = has.pieces; is_body = has.body.is_body; are_params = has.are_params })
+
+pub HasBodyAt-says : (kind : ParamKind) (text : List ℕ) (body : BodyOf) → (has : HasBodyAt kind text body)
+    → (said : List CommentValue) × SaysParams kind text body.main (params_of has.pieces) said
+HasBodyAt-says kind text body has =
+    said_comments kind text body.main (params_of has.pieces)
+    (record {
+      tokens = has.tokens;
+      has_tokens = has.has_tokens;
+      pieces = has.pieces;
+      is_body = has.is_body;
+      are_params = record { are_numbered = has.has_placed.are_numbered; params_are = refl };
+    })

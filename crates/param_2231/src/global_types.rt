@@ -4,12 +4,14 @@ ghost use Rattle.std.specs.Str.{bytes_eq};
 ghost use Rattle.field_tokens.specs.Comments.{CommentValue};
 ghost use Rattle.field_tokens.specs.declared.Token.{Token};
 ghost use Rattle.param_grammar.specs.declared.ParamKind.TheVariants.{Content};
+ghost use Rattle.param_grammar.specs.Bodies.{solid};
 ghost use Rattle.param_grammar.specs.Joining.{ParamValue, SaysParams};
+ghost use Rattle.param_grammar.specs.private.Marked.{tokens_of};
 ghost use Rattle.param_2231.specs.GlobalTypes.{NamesGlobal};
 
-use field_tokens::{Style, Token, read_tokens};
+use field_tokens::{Style, read_marks};
 use mail_wire::{Memory, Octets};
-use param_grammar::{ParamFault, ParamKind, read_params, solid};
+use param_grammar::{ParamFault, ParamKind, Tokens, next_solid, read_body};
 use std::alloc::Global;
 
 // The main part of a Content-Type, in lower case, and nothing exactly where the text is none.
@@ -19,8 +21,8 @@ fn read_type(alloc: Global, text: &[u8]) -> Result<Option<Octets>, Memory>
     ensures none { IfOk result (λ o. IfNone o ((main : List ℕ) (params : List ParamValue) (comments : List CommentValue)
         → ¬ SaysParams Content text.now main params comments)) }
 {
-    match read_params(alloc, ParamKind::Content, text) {
-        Ok(params) => Ok(Some(params.main)),
+    match read_body(alloc, ParamKind::Content, text) {
+        Ok(body) => Ok(Some(body.main)),
         Err(ParamFault::Malformed) => Ok(None),
         Err(ParamFault::Memory) => Err(Memory),
     }
@@ -32,15 +34,21 @@ fn is_global(main: &[u8]) -> bool
     main == b"message/global".as_slice()
 }
 
-// Where the third token stands.
-fn third_place(tokens: &[Token]) -> Option<usize>
+// Where the third token stands that is no gap and no comment.
+fn third_place(tokens: Tokens<'_>) -> Option<usize>
     ensures found { IfSome result (λ at. (first second third : Token) × (more : List Token)
-        × (tokens.now ≡ first ∷ second ∷ third ∷ more) × (third.span.at ≡ at)) }
-    ensures none { IfNone result ((first second third : Token) (more : List Token) → tokens.now ≢ first ∷ second ∷ third ∷ more) }
+        × (solid (tokens_of tokens.entry) ≡ first ∷ second ∷ third ∷ more) × (third.span.at ≡ at)) }
+    ensures none { IfNone result ((first second third : Token) (more : List Token) → solid (tokens_of tokens.entry) ≢ first ∷ second ∷ third ∷ more) }
 {
-    match tokens {
-        [_, _, third, ..] => Some(third.span.at),
-        _ => None,
+    let Some((_, behind)) = next_solid(tokens) else {
+        return None;
+    };
+    let Some((_, behind)) = next_solid(behind) else {
+        return None;
+    };
+    match next_solid(behind) {
+        Some((third, _)) => Some(third.span.at),
+        None => None,
     }
 }
 
@@ -56,9 +64,8 @@ pub fn find_global(alloc: Global, text: &[u8]) -> Result<Option<usize>, Memory>
     if !is_global(main.as_slice()) {
         return Ok(None);
     }
-    let Some(tokens) = read_tokens(alloc, Style::Mime, text)? else {
+    let Some(marks) = read_marks(alloc, Style::Mime, text)? else {
         return Ok(None);
     };
-    let words = solid(alloc, &tokens)?;
-    Ok(third_place(&words))
+    Ok(third_place(Tokens::new(text, &marks)))
 }

@@ -1,32 +1,37 @@
 //! The rewriting of parameters in ASCII.
-ghost use Rattle.std.specs.Prelude.{◌≡◌, ◌<◌, ◌++◌, ◌∷◌, [], ℕ, true, false, List, length, codes, IfOk, OnOk};
+ghost use Rattle.std.specs.Prelude.{◌≡◌, ◌<◌, ◌++◌, ℕ, [], true, false, List, length, take, codes, IfOk, IfSome, IfNone, OnOk};
 ghost use Rattle.std.specs.Str.{str_to_ascii_lowercase};
-ghost use Rattle.field_tokens.specs.declared.Style.TheVariants.{Mime};
-ghost use Rattle.field_tokens.specs.Tokens.{HasTokens};
 ghost use Rattle.encoded_words.specs.Folding.{AddsLines};
-ghost use Rattle.field_tokens.specs.Comments.{CommentValue};
-ghost use Rattle.param_grammar.specs.Joining.{ParamValue, params_of, AreRoles, HasSaidBody, SaysParams};
+ghost use Rattle.field_tokens.specs.declared.Style.TheVariants.{Mime};
+ghost use Rattle.field_tokens.specs.Comments.{AreWritableComments, CommentValue, CommentsPieces};
+ghost use Rattle.field_tokens.specs.Lexemes.{values_of};
+ghost use Rattle.field_tokens.specs.Squeezed.{comments_of};
+ghost use Rattle.field_tokens.specs.Tokens.{TokenValue, HasTokenValues};
+ghost use Rattle.param_grammar.specs.declared.Piece.{Piece};
+ghost use Rattle.param_grammar.specs.Joining.{ParamValue, params_of, unit_at, HasSaidBody, SaysParams};
+ghost use Rattle.param_grammar.specs.Placed.{HasPlaced};
+ghost use Rattle.param_grammar.specs.Places.{IsPlaced, piece_in};
+ghost use Rattle.param_2231.specs.Layout.{ParamPieces, PieceGives, PiecesGive, is_global as is_global_of, written_main as written_main_of, ParamsPieces};
 ghost use Rattle.param_2231.specs.ParamsReadBack.{AreParamsAgain};
-ghost use Rattle.encoded_words.specs.Words.{Text};
-ghost use Rattle.encoded_words.specs.private.Values.{value_of};
-ghost use Rattle.param_2231.specs.private.Parts.{IsWritableUnit};
-ghost use Rattle.param_2231.specs.Layout.{GivesWhere, PiecesGive, is_global as is_global_of, written_main as written_main_of, ParamsPieces};
+ghost use Rattle.param_2231.specs.private.Given.{is_ascii_role, SaysPlaced};
 ghost use Rattle.param_2231.specs.private.Lines.{AddsBehind, line_behind};
-ghost use Rattle.param_2231.specs.private.Given.{RoleGives, IsWritableRole, GiveBody, ValueBodyPieces, AreNoBody, GiveComments};
 
 use crate::writing::{begin_line, push_param};
-use encoded_words::{Unit, push_line};
-use field_tokens::{Style, Token, is_comment, read_tokens, write_comment};
+use encoded_words::{lower_case, push_line};
+use field_tokens::{Lexemes, Style, is_comment, read_marks, write_comment};
 use mail_wire::{Memory, Octets};
-use param_grammar::{ParamFault, ParamKind, Piece, Role, read_parts, roles};
+use param_grammar::{
+    ParamFault, ParamKind, Place, Placed, Role, Tokens, base_at, place_pieces, push_written,
+    read_parts,
+};
 use std::alloc::Global;
 
-// Puts a piece last, on a line behind a semicolon.
-fn push_copy(octets: &[u8], made: &mut Octets) -> Result<(), Memory>
-    ensures { OnOk result (made.new ≡ made.old ++ line_behind (codes ";") octets.now) }
+// Puts the piece at a place last as it is written, on a line behind a semicolon.
+fn push_copy(text: &[u8], place: Place, made: &mut Octets) -> Result<(), Memory>
+    ensures { (piece : Piece) → IsPlaced text.now place piece → OnOk result (made.new ≡ made.old ++ line_behind (codes ";") piece.written) }
 {
     begin_line(made, b";")?;
-    made.push_slice(octets)
+    push_written(made, text, place)
 }
 
 // Whether a main part is the type of messages whose headers are UTF-8.
@@ -49,142 +54,124 @@ fn written_main(kind: ParamKind, open_global: bool, main: &[u8]) -> &[u8]
     main
 }
 
-// Puts what a piece gives last that goes on with its parameter.
-fn push_more(piece: &Piece, is_ascii: bool, made: &mut Octets) -> Result<(), Memory>
-    ensures { OnOk result (AddsBehind (codes ";") (GivesWhere is_ascii true false piece.now.written piece.now.base (Text [])) made.old made.new) }
-{
-    if is_ascii {
-        return push_copy(piece.written.as_slice(), made);
-    }
-    Ok(())
-}
-
-// Puts what a piece gives last that begins a parameter.
+// Puts the pieces of the parameter last that begins with a piece.
 fn push_begun(
-    piece: &Piece,
-    unit: &Unit,
-    is_ascii: bool,
+    alloc: Global,
+    text: &[u8],
+    placed: &Placed,
+    number: usize,
     is_doubled: bool,
     made: &mut Octets,
 ) -> Result<(), Memory>
-    requires { IsWritableUnit (value_of unit.now) }
-    ensures { OnOk result (AddsBehind (codes ";") (GivesWhere is_ascii false is_doubled piece.now.written piece.now.base (value_of unit.now)) made.old made.new) }
+    requires number { number < length placed.now.places.items }
+    requires placed { (pieces : List Piece) × HasPlaced text.now placed.now pieces }
+    ensures { (pieces : List Piece) → HasPlaced text.now placed.now pieces
+        → OnOk result (AddsBehind (codes ";") (ParamPieces is_doubled (piece_in pieces number).base (unit_at pieces (piece_in pieces number))) made.old made.new) }
 {
-    if is_ascii {
-        return push_copy(piece.written.as_slice(), made);
+    let name = lower_case(alloc, base_at(text, placed.places[number]))?;
+    let unit = placed.unit(alloc, text, number)?;
+    push_param(name.as_slice(), &unit, is_doubled, b";", made)
+}
+
+// Whether a role is that of a piece of an ASCII parameter.
+fn is_ascii(role: Role) -> bool
+    ensures { result ≡ is_ascii_role role }
+{
+    match role {
+        Role::GoesOn { is_ascii } => is_ascii,
+        Role::Begins { is_ascii, .. } => is_ascii,
     }
-    push_param(piece.base.as_slice(), unit, is_doubled, b";", made)
 }
 
 // Puts what a piece gives last.
-fn push_given(piece: &Piece, role: &Role, made: &mut Octets) -> Result<(), Memory>
-    requires { IsWritableRole role.now }
-    ensures { OnOk result (AddsBehind (codes ";") (RoleGives piece.now role.now) made.old made.new) }
+fn push_given(
+    alloc: Global,
+    text: &[u8],
+    placed: &Placed,
+    number: usize,
+    made: &mut Octets,
+) -> Result<(), Memory>
+    requires number { number < length placed.now.places.items }
+    requires placed { (pieces : List Piece) × HasPlaced text.now placed.now pieces }
+    ensures { (pieces : List Piece) → HasPlaced text.now placed.now pieces
+        → OnOk result (AddsBehind (codes ";") (PieceGives pieces (params_of pieces) (take number pieces) (piece_in pieces number)) made.old made.new) }
 {
-    match role {
-        Role::GoesOn { is_ascii } => push_more(piece, *is_ascii, made),
-        Role::Begins {
-            unit,
-            is_ascii,
-            is_doubled,
-        } => push_begun(piece, unit, *is_ascii, *is_doubled, made),
+    let role = placed.roles[number];
+    if is_ascii(role) {
+        return push_copy(text, placed.places[number], made);
     }
-}
-
-// The first piece, and those behind it.
-fn split_piece(pieces: &[Piece]) -> (&Piece, &[Piece])
-    requires { 0 < length pieces.now }
-    ensures { pieces.now ≡ result.0.now ∷ result.1.now }
-{
-    (&pieces[0], &pieces[1..])
-}
-
-// The first role, and those behind it.
-fn split_role(roles: &[Role]) -> (&Role, &[Role])
-    requires { 0 < length roles.now }
-    ensures { roles.now ≡ result.0.now ∷ result.1.now }
-{
-    (&roles[0], &roles[1..])
+    match role {
+        Role::GoesOn { .. } => Ok(()),
+        Role::Begins { is_doubled, .. } => {
+            push_begun(alloc, text, placed, number, is_doubled, made)
+        }
+    }
 }
 
 // Puts what the pieces give last, each line behind a semicolon.
-fn push_all_given(pieces: &[Piece], roles: &[Role], made: &mut Octets) -> Result<(), Memory>
-    requires { AreRoles pieces.now [] pieces.now roles.now }
-    ensures { OnOk result (AddsBehind (codes ";") (PiecesGive pieces.now (params_of pieces.now) [] pieces.now) made.old made.new) }
-{
-    let mut behind = pieces;
-    let mut left = roles;
-    while !behind.is_empty() {
-        let (piece, more) = split_piece(behind);
-        let (role, others) = split_role(left);
-        push_given(piece, role, made)?;
-        behind = more;
-        left = others;
-    }
-    Ok(())
-}
-
-// Puts the pieces of the comments among all tokens of a text last.
-fn write_comments(
+fn push_all_given(
     alloc: Global,
     text: &[u8],
-    tokens: &[Token],
+    placed: &Placed,
     made: &mut Octets,
 ) -> Result<(), Memory>
-    requires { HasTokens Mime text.now tokens.now }
-    ensures { OnOk result (AddsLines (GiveComments text.now tokens.now) made.old made.new) }
+    requires { (pieces : List Piece) × HasPlaced text.now placed.now pieces }
+    ensures { (pieces : List Piece) → HasPlaced text.now placed.now pieces
+        → OnOk result (AddsBehind (codes ";") (PiecesGive pieces (params_of pieces) [] pieces) made.old made.new) }
 {
-    let mut rest = text;
-    for token in tokens {
-        let (octets, after) = rest.split_at(token.span.len);
-        if is_comment(token.kind) {
-            write_comment(alloc, octets, made)?;
-        }
-        rest = after;
+    for number in 0..placed.places.len() {
+        push_given(alloc, text, placed, number, made)?;
     }
     Ok(())
 }
 
-// Puts a main part and what the pieces give last.
-fn write_given(
-    main: &[u8],
-    pieces: &[Piece],
-    roles: &[Role],
-    made: &mut Octets,
-) -> Result<(), Memory>
-    requires { AreRoles pieces.now [] pieces.now roles.now }
-    ensures { OnOk result (AddsLines (GiveBody pieces.now main.now) made.old made.new) }
+// Puts the pieces of comments among tokens last.
+fn push_comments(alloc: Global, tokens: Lexemes<'_, '_>, made: &mut Octets) -> Result<(), Memory>
+    requires { AreWritableComments (comments_of (values_of tokens)) }
+    ensures { OnOk result (AddsLines (CommentsPieces (comments_of (values_of tokens.entry))) made.old made.new) }
 {
-    push_line(made, main)?;
-    push_all_given(pieces, roles, made)
+    let mut rest = tokens;
+    while let Some((token, behind)) = rest.split_first() {
+        if is_comment(token.kind) {
+            write_comment(alloc, token.octets, made)?;
+        }
+        rest = behind;
+    }
+    Ok(())
 }
 
-// Puts the pieces of the main part and the parameters last that a text's tokens are. Answers whether they are any.
-fn write_body(
+// Puts the pieces of the comments of a text last.
+fn write_comments(alloc: Global, text: &[u8], made: &mut Octets) -> Result<(), Memory>
+    requires { (tokens : List TokenValue) × HasTokenValues Mime text.now tokens }
+    ensures { (tokens : List TokenValue) → HasTokenValues Mime text.now tokens → OnOk result (AddsLines (CommentsPieces (comments_of tokens)) made.old made.new) }
+{
+    let Some(marks) = read_marks(alloc, Style::Mime, text)? else {
+        unreachable!();
+    };
+    push_comments(alloc, Lexemes::new(text, &marks), made)
+}
+
+// The pieces of a text by their places, and its main part as it is written. Nothing exactly where it has no parameters.
+fn read_placed(
     alloc: Global,
     kind: ParamKind,
     text: &[u8],
-    tokens: &[Token],
-    open_global: bool,
-    made: &mut Octets,
-) -> Result<bool, Memory>
-    ensures found { IfOk result (λ is. is ≡ true → AddsLines (ValueBodyPieces kind open_global text.now tokens.now) made.old made.new) }
-    ensures none { IfOk result (λ is. is ≡ false → AreNoBody kind text.now tokens.now) }
-    ensures unchanged { IfOk result (λ is. is ≡ false → made.new ≡ made.old) }
+) -> Result<Option<(Octets, Placed)>, Memory>
+    ensures found { IfOk result (λ o. IfSome o (λ x. SaysPlaced kind text.now x.0 x.1)) }
+    ensures none { IfOk result (λ o. IfNone o ((main : List ℕ) (params : List ParamValue) → ¬ HasSaidBody kind text.now main params)) }
 {
-    let Some((main, pieces)) = read_parts(alloc, kind, text, tokens)? else {
-        return Ok(false);
+    let Some(marks) = read_marks(alloc, Style::Mime, text)? else {
+        return Ok(None);
     };
-    let Some(roles) = roles(alloc, &pieces)? else {
-        return Ok(false);
+    let parts = read_parts(alloc, kind, text, Tokens::new(text, &marks));
+    drop(marks);
+    let Some((main, places)) = parts? else {
+        return Ok(None);
     };
-    write_given(
-        written_main(kind, open_global, main.as_slice()),
-        &pieces,
-        &roles,
-        made,
-    )?;
-    Ok(true)
+    match place_pieces(alloc, text, places)? {
+        Some(placed) => Ok(Some((main, placed))),
+        None => Ok(None),
+    }
 }
 
 // Puts the pieces of a text last. Answers whether it has parameters.
@@ -199,13 +186,13 @@ fn write_all(
     ensures none { IfOk result (λ is. is ≡ false → (main : List ℕ) (params : List ParamValue) → ¬ HasSaidBody kind text.now main params) }
     ensures unchanged { IfOk result (λ is. is ≡ false → made.new ≡ made.old) }
 {
-    let Some(tokens) = read_tokens(alloc, Style::Mime, text)? else {
+    let Some((main, placed)) = read_placed(alloc, kind, text)? else {
         return Ok(false);
     };
-    if !write_body(alloc, kind, text, &tokens, open_global, made)? {
-        return Ok(false);
-    }
-    write_comments(alloc, text, &tokens, made)?;
+    push_line(made, written_main(kind, open_global, main.as_slice()))?;
+    push_all_given(alloc, text, &placed, made)?;
+    drop(placed);
+    write_comments(alloc, text, made)?;
     Ok(true)
 }
 

@@ -33,11 +33,11 @@ SaysOctets-once true true content c o d p a b =
     let once = IsExtended-once content c a.0 d b.0 a.1 b.1 in
     (once.0, IsEscaped-once b.0 o p (subst (λ t. IsEscaped t o) once.1 a.2) b.2)
 
-abbrev piece : List ℕ → Option (List ℕ) → List ℕ → List ℕ → List ℕ → Piece
+abbrev pub piece : List ℕ → Option (List ℕ) → List ℕ → List ℕ → List ℕ → Piece
 piece base number charset octets written = record { base = base; number = number; charset = charset; octets = octets; written = written }
 
-made : (a b : List ℕ) (m n : Option (List ℕ)) (c d o p w x : List ℕ) → a ≡ b → m ≡ n → c ≡ d → o ≡ p → w ≡ x → piece a m c o w ≡ piece b n d p x
-made a b m n c d o p w x e f g h i = cc
+pub piece_made : (a b : List ℕ) (m n : Option (List ℕ)) (c d o p w x : List ℕ) → a ≡ b → m ≡ n → c ≡ d → o ≡ p → w ≡ x → piece a m c o w ≡ piece b n d p x
+piece_made a b m n c d o p w x e f g h i = cc
 
 pub IsPieceOf-once : (text name : List ℕ) (value : List Token) (p q : Piece) → IsPieceOf text name value p → IsPieceOf text name value q → p ≡ q
 IsPieceOf-once text name value p q a b =
@@ -45,7 +45,7 @@ IsPieceOf-once text name value p q a b =
     let moved : SaysOctets b.parts.is_extended (is_first b.parts.number) (value_content text value) p.charset p.octets =
     subst (λ (n : NameParts). SaysOctets n.is_extended (is_first n.number) (value_content text value) p.charset p.octets) parts a.says in
     let says = SaysOctets-once b.parts.is_extended (is_first b.parts.number) (value_content text value) p.charset p.octets q.charset q.octets moved b.says in
-    made p.base q.base p.number q.number p.charset q.charset p.octets q.octets p.written q.written
+    piece_made p.base q.base p.number q.number p.charset q.charset p.octets q.octets p.written q.written
     (a.base_is ∙ ap (λ (n : NameParts). str_to_ascii_lowercase n.base) parts ∙ sym b.base_is) (a.number_is ∙ ap (λ (n : NameParts). n.number) parts ∙ sym b.number_is) says.0 says.1
     (a.written_is ∙ sym b.written_is)
 

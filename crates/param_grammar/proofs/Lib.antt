@@ -7,7 +7,11 @@ pub mod ReadLemmas
 pub mod NumberLemmas
 pub mod SlotLemmas
 pub mod RoleLemmas
-pub mod NamedParts
-pub mod BegunLemmas
-pub mod NamedLemmas
+pub mod RunLemmas
 pub mod ParamLemmas
+pub mod MarkedLemmas
+pub mod PlacingLemmas
+pub mod PlaceLemmas
+pub mod OrderLemmas
+pub mod PlacedFacts
+pub mod PlacedUnits

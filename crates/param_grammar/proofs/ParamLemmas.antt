@@ -1,68 +1,94 @@
 -- The parameters of pieces with their roles.
-use Rattle.std.proofs.Common.{◌≡◌, ℕ, ◌+◌, ◌<◌, ◌≤◌, Bool, true, false, if◌then◌else◌, List, [], ◌∷◌, ◌++◌, length, take, drop, get_or, Result, Err, refl, sym, ap, ◌∙◌, subst, arith}
-use Rattle.std.proofs.lemmas.List.{append-nil, append_assoc, take_more, drop_more, drop_all}
+use Rattle.std.proofs.Common.{◌≡◌, ℕ, ◌+◌, ◌<◌, ◌≤◌, Bool, true, false, if◌then◌else◌, List, [], ◌∷◌, ◌++◌, length, take, drop, map, get_or, Result, Err, refl, sym, ap, ◌∙◌, subst, arith}
+use Rattle.std.proofs.lemmas.List.{append-nil, append_assoc, map-append, take_more, drop_more, drop_all}
+use Rattle.encoded_words.specs.Words.{UnitValue}
+use Rattle.encoded_words.specs.private.Values.{value_of}
 use Rattle.field_tokens.specs.Trees.{Tree}
+use Rattle.field_tokens.specs.declared.Style.TheVariants.{Mime}
+use Rattle.field_tokens.specs.declared.Token.{Token}
+use Rattle.field_tokens.specs.Squeezed.{is_comment}
+use Rattle.field_tokens.specs.Tokens.{HasTokens}
+use Rattle.field_tokens.proofs.TokenLists.{HasTokens-once}
+use Rattle.param_grammar.specs.declared.Body.{Body}
+use Rattle.param_grammar.specs.declared.Param.{Param}
 use Rattle.param_grammar.specs.declared.ParamFault.{ParamFault}
-use Rattle.param_grammar.specs.declared.ParamFault.TheVariants.{Malformed}
+use Rattle.param_grammar.specs.declared.ParamFault.TheVariants.{Malformed, Memory}
 use Rattle.param_grammar.specs.declared.ParamKind.{ParamKind}
 use Rattle.param_grammar.specs.declared.Piece.{Piece}
+use Rattle.param_grammar.specs.declared.role.Placed.{Placed}
 use Rattle.param_grammar.specs.declared.role.Role.{Role}
-use Rattle.param_grammar.specs.Bodies.{HasBody}
-use Rattle.param_grammar.specs.Joining.{AreParams, AreRoles, HasParams, IsRole, ParamValue, goes_on, params_behind, params_of, unit_at}
-use Rattle.param_grammar.proofs.BodyLemmas.{HasBody-once, HasParams-once}
+use Rattle.param_grammar.specs.declared.role.Role.TheVariants.{GoesOn, Begins}
+use Rattle.param_grammar.specs.Bodies.{HaveComments, IsBody, WritesBody}
+use Rattle.param_grammar.specs.Joining.{AreParams, HasParams, HasSaidBody, IsRole, ParamValue, goes_on, param_value, params_behind, params_of, unit_at}
+use Rattle.param_grammar.specs.Placed.{HasPlaced, HasBodyAt}
+use Rattle.param_grammar.specs.Places.{no_piece, piece_in}
+use Rattle.param_grammar.specs.private.Beginning.{begun_at}
+use Rattle.param_grammar.proofs.BodyLemmas.{IsBody-once}
+use Rattle.param_grammar.proofs.PlaceLemmas.{ArePlaced-length}
+use Rattle.std.specs.Str.{str_to_ascii_lowercase}
+use Rattle.std.specs.Prelude.{filter}
 
--- The parameters are made of the pieces before, and the rest has these roles.
-pub record ParamsGo (pieces before rest : List Piece) (roles : List Role) (made : List ParamValue) : Type 0 where
-  pub are : AreRoles pieces before rest roles
-  pub params : params_of pieces ≡ made ++ params_behind pieces before rest
+-- ---- one piece
 
-pub ParamsGo-start : (pieces : List Piece) (roles : List Role) → AreRoles pieces [] pieces roles → ParamsGo pieces [] pieces roles []
-ParamsGo-start pieces roles are = record { are = are; params = refl }
+abbrev param_at : List Piece → ℕ → ParamValue
+param_at pieces number = record { name = (piece_in pieces number).base; unit = unit_at pieces (piece_in pieces number) }
 
-abbrev begun : List Piece → List Piece → Piece → List ParamValue
-begun pieces before piece = if goes_on before piece then [] else record { name = piece.base; unit = unit_at pieces piece } ∷ []
+pub begun-goes_on : (pieces : List Piece) (number : ℕ) (role : Role) (said : Bool) → role ≡ GoesOn said → IsRole pieces (take number pieces) (piece_in pieces number) role → begun_at pieces number ≡ []
+begun-goes_on pieces number (GoesOn ascii) said e is = ap (λ b. if b then [] else param_at pieces number ∷ []) is.0
+begun-goes_on pieces number (Begins ascii doubled) said e is = absurd cc
+
+pub begun-begins : (pieces : List Piece) (number : ℕ) (role : Role) (said also : Bool) → role ≡ Begins said also → IsRole pieces (take number pieces) (piece_in pieces number) role
+    → begun_at pieces number ≡ param_at pieces number ∷ []
+begun-begins pieces number (GoesOn ascii) said also e is = absurd cc
+begun-begins pieces number (Begins ascii doubled) said also e is = ap (λ b. if b then [] else param_at pieces number ∷ []) is.0
+
+pub nothing_begun : (old : List Param) (pieces : List Piece) (number : ℕ) → begun_at pieces number ≡ [] → map param_value old ≡ map param_value old ++ begun_at pieces number
+nothing_begun old pieces number none = sym (ap (λ r. map param_value old ++ r) none ∙ append-nil (map param_value old))
+
+pub one_begun : (old : List Param) (param : Param) (pieces : List Piece) (number : ℕ) → begun_at pieces number ≡ param_at pieces number ∷ [] → param.name ≡ (piece_in pieces number).base
+    → value_of param.value ≡ unit_at pieces (piece_in pieces number) → map param_value (old ++ param ∷ []) ≡ map param_value old ++ begun_at pieces number
+one_begun old param pieces number one name unit =
+    let same : param_value param ≡ param_at pieces number = made _ _ _ _ name unit in
+    map-append param_value old (param ∷ []) ∙ ap (λ p. map param_value old ++ p ∷ []) same ∙ ap (λ r. map param_value old ++ r) (sym one)
+  where
+    value : List ℕ → UnitValue → ParamValue
+    value a u = record { name = a; unit = u }
+
+    made : (a b : List ℕ) (u v : UnitValue) → a ≡ b → u ≡ v → value a u ≡ value b v
+    made a b u v e f = ap (λ n. value n u) e ∙ ap (value b) f
+
+-- ---- all pieces
 
 behind_one : (b : Bool) (param : ParamValue) (params : List ParamValue) → (if b then params else param ∷ params) ≡ (if b then [] else param ∷ []) ++ params
 behind_one true param params = refl
 behind_one false param params = refl
 
-step : (pieces before behind : List Piece) (piece : Piece) (roles others : List Role) (role : Role) (made new : List ParamValue) → ParamsGo pieces before (piece ∷ behind) roles made → roles ≡ role ∷ others
-    → ((ps bs : List Piece) → IsRole ps bs piece role → new ≡ made ++ begun ps bs piece) → ParamsGo pieces (before ++ piece ∷ []) behind others new
-step pieces before behind piece roles others role made new go cut puts =
-    let a = go.are in
-    let same : role ∷ others ≡ a.0 ∷ a.1 = sym cut ∙ a.2 in
-    let first : a.0 ≡ role = cc same in
-    let rest : a.1 ≡ others = cc same in
-    let made_is = puts pieces before (subst (λ r. IsRole pieces before piece r) first a.3) in
-    record {
-      are = subst (λ rs. AreRoles pieces (before ++ piece ∷ []) behind rs) rest a.4;
-      params = go.params ∙ ap (λ ps. made ++ ps) (behind_one (goes_on before piece) (record { name = piece.base; unit = unit_at pieces piece }) (params_behind pieces (before ++ piece ∷ []) behind))
-          ∙ sym (append_assoc made (begun pieces before piece) (params_behind pieces (before ++ piece ∷ []) behind)) ∙ ap (λ ps. ps ++ params_behind pieces (before ++ piece ∷ []) behind) (sym made_is);
-    }
+-- The parameters are made of the first pieces.
+abbrev pub ParamsGo : List Piece → ℕ → List ParamValue → Type 0
+ParamsGo pieces number made = params_of pieces ≡ made ++ params_behind pieces (take number pieces) (drop number pieces)
 
-at_piece : (pieces : List Piece) (i : ℕ) (piece : Piece) → piece ≡ get_or pieces i piece → i < length pieces → drop i pieces ≡ piece ∷ drop (i + 1) pieces
-at_piece pieces i piece e l = drop_more pieces i piece l ∙ ap (λ p. p ∷ drop (i + 1) pieces) (sym e)
+pub ParamsGo-turn : (pieces : List Piece) (number : ℕ) (made new : List ParamValue) → number < length pieces → new ≡ made ++ begun_at pieces number → ParamsGo pieces number made
+    → ParamsGo pieces (number + 1) new
+ParamsGo-turn pieces number made new l more go =
+    let rest = drop (number + 1) pieces in
+    let past : take number pieces ++ piece_in pieces number ∷ [] ≡ take (number + 1) pieces = sym (take_more pieces number no_piece l) in
+    let next = params_behind pieces (take number pieces ++ piece_in pieces number ∷ []) rest in
+    go ∙ ap (λ r. made ++ params_behind pieces (take number pieces) r) (drop_more pieces number no_piece l)
+    ∙ ap (λ r. made ++ r) (behind_one (goes_on (take number pieces) (piece_in pieces number)) (param_at pieces number) next)
+    ∙ sym (append_assoc made (begun_at pieces number) next) ∙ ap (λ r. r ++ next) (sym more) ∙ ap (λ before. new ++ params_behind pieces before rest) past
 
-pub ParamsGo-turn : (pieces : List Piece) (i : ℕ) (piece : Piece) (roles others : List Role) (role : Role) (made new : List ParamValue) → ParamsGo pieces (take i pieces) (drop i pieces) roles made
-    → piece ≡ get_or pieces i piece → i < length pieces → roles ≡ role ∷ others → ((ps bs : List Piece) → IsRole ps bs piece role → new ≡ made ++ begun ps bs piece)
-    → ParamsGo pieces (take (i + 1) pieces) (drop (i + 1) pieces) others new
-ParamsGo-turn pieces i piece roles others role made new go e l cut puts =
-    let at = at_piece pieces i piece e l in
-    let past : take i pieces ++ piece ∷ [] ≡ take (i + 1) pieces = ap (λ p. take i pieces ++ p ∷ []) e ∙ sym (take_more pieces i piece l) in
-    subst (λ before. ParamsGo pieces before (drop (i + 1) pieces) others new) past
-    (step pieces (take i pieces) (drop (i + 1) pieces) piece roles others role made new (subst (λ rest. ParamsGo pieces (take i pieces) rest roles made) at go) cut puts)
+pub ParamsGo-end : (pieces : List Piece) (number : ℕ) (made : List ParamValue) → length pieces ≤ number → ParamsGo pieces number made → made ≡ params_of pieces
+ParamsGo-end pieces number made l go =
+    sym (go ∙ ap (λ rest. made ++ params_behind pieces (take number pieces) rest) (drop_all number pieces l) ∙ append-nil made)
 
-pub ParamsGo-stuck : (pieces : List Piece) (i : ℕ) (piece : Piece) (roles : List Role) (made : List ParamValue) → ParamsGo pieces (take i pieces) (drop i pieces) roles made
-    → piece ≡ get_or pieces i piece → i < length pieces → length roles ≡ 0 → ⊥
-ParamsGo-stuck pieces i piece roles made go e l none =
-    let a = (subst (λ rest. ParamsGo pieces (take i pieces) rest roles made) (at_piece pieces i piece e l) go).are in
-    let long = ap length a.2 in
-    omega (arith, long, none)
+pub placed_count : (text : List ℕ) (placed : Placed) (pieces : List Piece) → HasPlaced text placed pieces → length pieces ≡ length placed.places.items
+placed_count text placed pieces has = ArePlaced-length text placed.places.items pieces has.are_placed
 
-pub ParamsGo-end : (pieces : List Piece) (i : ℕ) (roles : List Role) (made : List ParamValue) → ParamsGo pieces (take i pieces) (drop i pieces) roles made → length pieces ≤ i
-    → made ≡ params_of pieces
-ParamsGo-end pieces i roles made go l =
-    sym (go.params ∙ ap (λ rest. made ++ params_behind pieces (take i pieces) rest) (drop_all i pieces l) ∙ append-nil made)
+pub role_read : (text : List ℕ) (placed : Placed) (pieces : List Piece) (number : ℕ) (role : Role) → HasPlaced text placed pieces → number < length placed.places.items
+    → role ≡ get_or placed.roles.items number role → IsRole pieces (take number pieces) (piece_in pieces number) role
+role_read text placed pieces number role has l e =
+    let n = placed_count text placed pieces has in
+    subst (IsRole pieces (take number pieces) (piece_in pieces number)) (sym e) (has.roles number role (omega (arith, n, l)))
 
 -- ---- of a text
 
@@ -70,13 +96,56 @@ ParamsGo-end pieces i roles made go l =
 pub fault_is : {T : Type 0} (r : Result T ParamFault) (f g : ParamFault) → r ≡ Err f → f ≡ g → r ≡ Err Malformed → g ≡ Malformed
 fault_is r f g p q e = let same : f ≡ Malformed = cc (sym p ∙ e) in sym q ∙ same
 
-pub params_once : (kind : ParamKind) (text main other : List ℕ) (pieces seen : List Piece) (params others : List ParamValue) (trees those : List Tree) → HasBody kind text main pieces trees → seen ≡ pieces
-    → AreParams seen params → HasParams kind text other others those → (main ≡ other) × (params ≡ others) × (trees ≡ those)
-params_once kind text main other pieces seen params others trees those body same are has =
-    HasParams-once kind text main other params others trees those (record { pieces = pieces; body = body; are_params = subst (λ ps. AreParams ps params) same are }) has
+pub fault_memory : (f : ParamFault) → (f ≡ Malformed → ⊥) → f ≡ Memory
+fault_memory Malformed not = absurd (not refl)
+fault_memory Memory not = refl
 
-pub no_params : (kind : ParamKind) (text main : List ℕ) (pieces seen : List Piece) (trees : List Tree) → HasBody kind text main pieces trees → seen ≡ pieces
-    → ((params : List ParamValue) → AreParams seen params → ⊥) → (other : List ℕ) (params : List ParamValue) (those : List Tree) → HasParams kind text other params those → ⊥
-no_params kind text main pieces seen trees body same none other params those has =
-    let once = HasBody-once kind text main other pieces has.pieces trees those body has.body in
-    none params (subst (λ ps. AreParams ps params) (sym (same ∙ once.1)) has.are_params)
+pub HasParams-said : (kind : ParamKind) (text main : List ℕ) (params : List ParamValue) (comments : List Tree) → HasParams kind text main params comments → HasSaidBody kind text main params
+HasParams-said kind text main params comments has = record {
+  tokens = has.body.tokens;
+  has_tokens = has.body.has_tokens;
+  pieces = has.pieces;
+  is_body = has.body.is_body;
+  are_params = has.are_params;
+}
+
+pub HasParams-at : (kind : ParamKind) (text : List ℕ) (body : Body) (params : List ParamValue) (comments : List Tree) (tokens : List Token) → (has : HasBodyAt kind text body) → HasTokens Mime text tokens
+    → HaveComments text (filter (λ (token : Token). is_comment token.kind) tokens) comments → params ≡ params_of has.pieces → HasParams kind text body.main params comments
+HasParams-at kind text body params comments tokens has also have are = record {
+  pieces = has.pieces;
+  body = record {
+    tokens = has.tokens;
+    has_tokens = has.has_tokens;
+    is_body = has.is_body;
+    have_comments = subst (λ ts. HaveComments text (filter (λ (token : Token). is_comment token.kind) ts) comments) (HasTokens-once Mime text tokens has.tokens also has.has_tokens) have;
+  };
+  are_params = record { are_numbered = has.has_placed.are_numbered; params_are = are };
+}
+
+-- ---- bodies
+
+pub HasBodyAt-read : (kind : ParamKind) (text written : List ℕ) (body : Body) (tokens : List Token) (pieces : List Piece) → HasTokens Mime text tokens → WritesBody kind text tokens written pieces
+    → body.main ≡ str_to_ascii_lowercase written → HasPlaced text body.placed pieces → HasBodyAt kind text body
+HasBodyAt-read kind text written body tokens pieces has writes e placed = record {
+  tokens = tokens;
+  has_tokens = has;
+  pieces = pieces;
+  is_body = subst (λ m. IsBody kind text tokens m pieces) (sym e) writes.body;
+  has_placed = placed;
+}
+
+pub not-HasSaidBody-tokens : (kind : ParamKind) (text : List ℕ) → ((tokens : List Token) → HasTokens Mime text tokens → ⊥)
+    → (main : List ℕ) (params : List ParamValue) → HasSaidBody kind text main params → ⊥
+not-HasSaidBody-tokens kind text none main params has = none has.tokens has.has_tokens
+
+pub not-HasSaidBody-parts : (kind : ParamKind) (text : List ℕ) (tokens : List Token) → HasTokens Mime text tokens → ((main : List ℕ) (pieces : List Piece) → IsBody kind text tokens main pieces → ⊥)
+    → (main : List ℕ) (params : List ParamValue) → HasSaidBody kind text main params → ⊥
+not-HasSaidBody-parts kind text tokens also none main params has =
+    none main has.pieces (subst (λ ts. IsBody kind text ts main has.pieces) (HasTokens-once Mime text has.tokens tokens has.has_tokens also) has.is_body)
+
+pub not-HasSaidBody-params : (kind : ParamKind) (text written : List ℕ) (tokens : List Token) (pieces : List Piece) → HasTokens Mime text tokens → WritesBody kind text tokens written pieces
+    → ((params : List ParamValue) → AreParams pieces params → ⊥) → (main : List ℕ) (params : List ParamValue) → HasSaidBody kind text main params → ⊥
+not-HasSaidBody-params kind text written tokens pieces also writes none main params has =
+    let same = subst (λ ts. IsBody kind text ts main has.pieces) (HasTokens-once Mime text has.tokens tokens has.has_tokens also) has.is_body in
+    let once = IsBody-once kind text tokens main (str_to_ascii_lowercase written) has.pieces pieces same writes.body in
+    none params (subst (λ ps. AreParams ps params) once.1 has.are_params)

@@ -1,24 +1,18 @@
 -- Values, parameters and bodies are read.
-use Rattle.std.proofs.Common.{◌≡◌, ◌≢◌, ℕ, ◌==◌, Bool, true, false, List, [], ◌∷◌, ◌++◌, length, filter, refl, sym, ap, ◌∙◌, subst, arith}
+use Rattle.param_grammar.proofs.MarkedLemmas.{is_main-front, is_main-short}
+use Rattle.std.proofs.Common.{◌≡◌, ◌≢◌, ℕ, ◌==◌, Bool, true, false, List, [], ◌∷◌, ◌++◌, length, take, filter, refl, sym, ap, ◌∙◌, subst, arith}
 use Rattle.std.proofs.lemmas.Bool.{cond-true, cond-false, true≢false}
 use Rattle.std.proofs.lemmas.Bool.Decides.{nat_tests}
 use Rattle.std.proofs.lemmas.List.{append-nil}
-use Rattle.field_tokens.specs.declared.Style.TheVariants.{Mime}
 use Rattle.field_tokens.specs.declared.Token.{Token}
 use Rattle.std.specs.Str.{str_to_ascii_lowercase}
-use Rattle.field_tokens.specs.Squeezed.{is_comment, run_octets}
-use Rattle.field_tokens.specs.Tokens.{HasTokens}
-use Rattle.field_tokens.specs.Trees.{Tree}
-use Rattle.field_tokens.proofs.TokenLists.{HasTokens-once}
+use Rattle.field_tokens.specs.Squeezed.{run_octets}
 use Rattle.param_grammar.specs.declared.ParamKind.{ParamKind}
 use Rattle.param_grammar.specs.declared.Piece.{Piece}
 use Rattle.param_grammar.specs.Escapes.{IsEscaped}
 use Rattle.param_grammar.specs.Extended.{IsExtended}
-use Rattle.param_grammar.specs.Names.{NameParts, HasNameParts}
-use Rattle.param_grammar.specs.Bodies.{unquoted, is_main, is_filled, HaveComments, IsBody, sections_of, solid, value_content, is_first, SaysOctets, SplitsSection, IsParameterOf, IsPieceOf, IsPiece, ArePieces, HasBody, WritesBody}
+use Rattle.param_grammar.specs.Bodies.{unquoted, is_main, is_filled, IsBody, sections_of, solid, SaysOctets, SplitsSection, ArePieces, WritesBody}
 use Rattle.param_grammar.proofs.ExtendedLemmas.{IsExtended-once}
-use Rattle.param_grammar.proofs.NameLemmas.{HasNameParts-once}
-use Rattle.param_grammar.proofs.BodyLemmas.{piece_moved}
 
 -- quoted pairs
 pub unquoted_other : (octets after : List ℕ) (first : ℕ) → octets ≡ first ∷ after → first ≢ 92 → unquoted octets ≡ first ∷ unquoted after
@@ -54,33 +48,9 @@ not-SaysOctets-more true false content e f none charset octets says = none octet
 not-SaysOctets-more false first content e f none charset octets says = absurd (true≢false (sym e))
 not-SaysOctets-more true true content e f none charset octets says = absurd (true≢false f)
 
-pub not-IsPieceOf-octets : (text name : List ℕ) (value : List Token) (p : NameParts) → HasNameParts name p
-    → ((charset octets : List ℕ) → SaysOctets p.is_extended (is_first p.number) (value_content text value) charset octets → ⊥) → (piece : Piece) → IsPieceOf text name value piece → ⊥
-not-IsPieceOf-octets text name value p has none piece is =
-    let parts = HasNameParts-once name is.parts p is.has_parts has in
-    none piece.charset piece.octets (subst (λ (n : NameParts). SaysOctets n.is_extended (is_first n.number) (value_content text value) piece.charset piece.octets) parts is.says)
-
-pub not-IsPiece-parameter : (text : List ℕ) (section solids : List Token) → solids ≡ solid section → ((name : List ℕ) (value : List Token) → IsParameterOf text solids name value → ⊥)
-    → (piece : Piece) → IsPiece text section piece → ⊥
-not-IsPiece-parameter text section solids e none piece is = none is.name is.value (subst (λ s. IsParameterOf text s is.name is.value) (sym e) is.is_parameter)
-
-pub not-IsPiece-piece : (text : List ℕ) (section solids : List Token) (name : List ℕ) (value : List Token) → solids ≡ solid section → IsParameterOf text solids name value
-    → ((piece : Piece) → IsPieceOf text name value piece → ⊥) → (piece : Piece) → IsPiece text section piece → ⊥
-not-IsPiece-piece text section solids name value e is none piece has =
-    none piece (piece_moved text section name value piece (subst (λ s. IsParameterOf text s name value) e is) has)
-
 -- bodies
 abbrev filled : List ℕ → List Token → List (List Token)
 filled text tokens = filter is_filled (sections_of text tokens)
-
-pub not-HasBody-tokens : (kind : ParamKind) (text : List ℕ) → ((tokens : List Token) → HasTokens Mime text tokens → ⊥)
-    → (main : List ℕ) (pieces : List Piece) (trees : List Tree) → HasBody kind text main pieces trees → ⊥
-not-HasBody-tokens kind text none main pieces trees b = none b.tokens b.has_tokens
-
-pub not-HasBody-parts : (kind : ParamKind) (text : List ℕ) (tokens : List Token) → HasTokens Mime text tokens → ((main : List ℕ) (pieces : List Piece) → IsBody kind text tokens main pieces → ⊥)
-    → (main : List ℕ) (pieces : List Piece) (trees : List Tree) → HasBody kind text main pieces trees → ⊥
-not-HasBody-parts kind text tokens has none main pieces trees b =
-    none main pieces (subst (λ ts. IsBody kind text ts main pieces) (HasTokens-once Mime text b.tokens tokens b.has_tokens has) b.is_body)
 
 same_sections : (kind : ParamKind) (text : List ℕ) (tokens first behind : List Token) (main : List ℕ) (pieces : List Piece) → (s : SplitsSection text tokens first behind)
     → (b : IsBody kind text tokens main pieces) → b.first ∷ b.others ≡ first ∷ s.others
@@ -114,11 +84,17 @@ WritesBody-read kind text tokens first behind solids written pieces s e main are
   written_is = w ∙ ap (run_octets text) e;
 }
 
-pub HasBody-read : (kind : ParamKind) (text written main : List ℕ) (tokens : List Token) (pieces : List Piece) (trees : List Tree) → HasTokens Mime text tokens → WritesBody kind text tokens written pieces
-    → main ≡ str_to_ascii_lowercase written → HaveComments text (filter (λ (token : Token). is_comment token.kind) tokens) trees → HasBody kind text main pieces trees
-HasBody-read kind text written main tokens pieces trees has w e have = record {
-  tokens = tokens;
-  has_tokens = has;
-  is_body = subst (λ m. IsBody kind text tokens m pieces) (sym e) w.body;
-  have_comments = have;
-}
+-- ---- where the first tokens tell whether all are a main part
+
+few_main : (kind : ParamKind) (text : List ℕ) (first solids : List Token) → solids ≡ take 4 (solid first) → is_main kind text (solid first) ≡ is_main kind text solids
+few_main kind text first solids e = sym (is_main-front kind text (solid first)) ∙ ap (is_main kind text) (sym e)
+
+pub no_main : (kind : ParamKind) (text : List ℕ) (tokens first behind solids : List Token) → SplitsSection text tokens first behind → solids ≡ take 4 (solid first) → is_main kind text solids ≡ false
+    → (main : List ℕ) (pieces : List Piece) → IsBody kind text tokens main pieces → ⊥
+no_main kind text tokens first behind solids s e none = not-IsBody-main kind text tokens first behind (solid first) s refl (few_main kind text first solids e ∙ none)
+
+pub WritesBody-few : (kind : ParamKind) (text : List ℕ) (tokens first behind solids : List Token) (written : List ℕ) (pieces : List Piece) → SplitsSection text tokens first behind
+    → solids ≡ take 4 (solid first) → is_main kind text solids ≡ true → ArePieces text (filled text behind) pieces → written ≡ run_octets text solids → WritesBody kind text tokens written pieces
+WritesBody-few kind text tokens first behind solids written pieces s e main are w =
+    let all : solids ≡ solid first = e ∙ is_main-short kind text (solid first) (few_main kind text first solids e ∙ main) in
+    WritesBody-read kind text tokens first behind solids written pieces s all main are w

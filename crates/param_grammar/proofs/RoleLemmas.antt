@@ -21,22 +21,6 @@ is_whole_of name piece = not (is_some piece.number) && bytes_eq piece.base name
 turned : (name base : List ℕ) → bytes_eq base name ≡ bytes_eq name base
 turned name base = nat_list_eq_equiv.symm base name
 
-both : (n b : Bool) (piece : Piece) (ps qs rs : List Piece) → ps ≡ filter is_numbered rs → is_numbered piece ≡ n
-    → (if n && b then piece ∷ ps else ps) ≡ filter is_numbered (if b then piece ∷ rs else rs)
-both true true piece ps qs rs e is = e' where
-  e' : piece ∷ ps ≡ filter is_numbered (piece ∷ rs)
-  e' = rw is (ap (λ xs. piece ∷ xs) e)
-both true false piece ps qs rs e is = e
-both false true piece ps qs rs e is = e' where
-  e' : ps ≡ filter is_numbered (piece ∷ rs)
-  e' = rw is e
-both false false piece ps qs rs e is = e
-
-pub parts_of_named : (name : List ℕ) (pieces : List Piece) → parts_named name pieces ≡ filter is_numbered (filter (is_named name) pieces)
-parts_of_named name [] = refl
-parts_of_named name (piece ∷ pieces) =
-    rw (turned name piece.base) (both (is_some piece.number) (bytes_eq name piece.base) piece (parts_named name pieces) [] (filter (is_named name) pieces) (parts_of_named name pieces) refl)
-
 count_both : (n b : Bool) (piece : Piece) (ws ps ns : List Piece) → length ns ≡ length ws + length ps
     → length (if b then piece ∷ ns else ns) ≡ length (if not n && b then piece ∷ ws else ws) + length (if n && b then piece ∷ ps else ps)
 count_both true true piece ws ps ns e = omega (arith, e)
@@ -107,7 +91,7 @@ count_params name pieces before (piece ∷ more) =
     count_step test param rest piece (filter (is_whole_of name) more) (is_some piece.number) (list_any (is_part_of piece.base) before) (bytes_eq piece.base name) (list_any (is_part_of name) before)
     (list_any (is_part_of name) more) refl (λ e. ap (λ base. list_any (is_part_of base) before) ((bytes_eq-Decides piece.base name).0 e)) next
 
-any_counts : (name : List ℕ) (pieces : List Piece) → list_any (is_part_of name) pieces ≡ nat_lt 0 (length (parts_named name pieces))
+pub any_counts : (name : List ℕ) (pieces : List Piece) → list_any (is_part_of name) pieces ≡ nat_lt 0 (length (parts_named name pieces))
 any_counts name [] = refl
 any_counts name (piece ∷ pieces) = any_step (is_part_of name piece) piece (parts_named name pieces) _ (any_counts name pieces) where
   any_step : (b : Bool) (piece : Piece) (ps : List Piece) (rest : Bool) → rest ≡ nat_lt 0 (length ps) → (b || rest) ≡ nat_lt 0 (length (if b then piece ∷ ps else ps))

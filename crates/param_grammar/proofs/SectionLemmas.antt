@@ -1,9 +1,10 @@
 -- Tokens are cut at semicolons, and read section by section.
-use Rattle.std.proofs.Common.{◌≡◌, ℕ, ◌+◌, ◌<◌, ◌≤◌, Bool, true, false, List, [], ◌∷◌, ◌++◌, length, get_or, take, drop, map, filter, position, Some, None, All, refl, sym, ap, ◌∙◌, subst, arith, inl, inr}
+use Rattle.std.proofs.Common.{◌≡◌, ℕ, ◌+◌, ◌≤◌, Bool, true, false, List, [], ◌∷◌, ◌++◌, length, get_or, take, drop, map, filter, position, Some, None, All, refl, sym, ap, ◌∙◌, subst, arith, inl, inr}
 use Rattle.std.specs.List.{position_or_len}
 use Rattle.std.proofs.lemmas.Bool.{cond-true, cond-false}
 use Rattle.std.proofs.lemmas.Grind.{common_steps}
-use Rattle.std.proofs.lemmas.List.{append_assoc, append-nil, map-append, length-drop, get_or-take, length-take-le, take-append-drop, drop_more}
+use Rattle.std.specs.List.{Contains}
+use Rattle.std.proofs.lemmas.List.{length-append, get_or_at, append_assoc, append-nil, map-append, length-drop, get_or-take, length-take-le, take-append-drop, drop_more}
 use Rattle.std.proofs.lemmas.List.Elements.{All-from_get_or}
 use Rattle.std.proofs.lemmas.List.Quantifiers.{position-Some}
 use Rattle.std.proofs.lemmas.List.Splits.{slice_split_at, slice_split_none}
@@ -109,20 +110,39 @@ abbrev pub ReadsComments : List ℕ → List Token → List Comment → List Tok
 ReadsComments text tokens done rest =
     (trees : List Tree) → HaveComments text (comments_in rest) trees → HaveComments text (comments_in tokens) (map tree_of done ++ trees)
 
-pub ReadsComments-push : (text : List ℕ) (tokens : List Token) (done new : List Comment) (i : ℕ) → i < length tokens → ReadsComments text tokens done (drop i tokens)
-    → PushesComment text (get_or tokens i no_token) done new → ReadsComments text tokens new (drop (i + 1) tokens)
-ReadsComments-push text tokens done new i l r (inl other) =
+pub ReadsComments-push : (text : List ℕ) (tokens rest behind : List Token) (token : Token) (done new : List Comment) → rest ≡ token ∷ behind → ReadsComments text tokens done rest
+    → PushesComment text token done new → ReadsComments text tokens new behind
+ReadsComments-push text tokens rest behind token done new cut r (inl other) =
     let e : new ≡ done = other.1 in
-    let same : comments_in (drop i tokens) ≡ comments_in (drop (i + 1) tokens) = ap comments_in (drop_more tokens i no_token l) ∙ cond-false _ _ _ other.0 in
+    let same : comments_in rest ≡ comments_in behind = ap comments_in cut ∙ cond-false _ _ _ other.0 in
     λ trees have. rw e (r trees (subst (λ f. HaveComments text f trees) (sym same) have))
-ReadsComments-push text tokens done new i l r (inr is) =
-    let t = get_or tokens i no_token in
+ReadsComments-push text tokens rest behind token done new cut r (inr is) =
     let e : new ≡ done ++ is.0 ∷ [] = is.3 in
-    let same : comments_in (drop i tokens) ≡ t ∷ comments_in (drop (i + 1) tokens) = ap comments_in (drop_more tokens i no_token l) ∙ cond-true _ _ _ is.1 in
+    let same : comments_in rest ≡ token ∷ comments_in behind = ap comments_in cut ∙ cond-true _ _ _ is.1 in
     λ trees have. rw (e, map-append tree_of done (is.0 ∷ []), append_assoc (map tree_of done) (tree_of is.0 ∷ []) trees)
     (r (tree_of is.0 ∷ trees) (subst (λ f. HaveComments text f (tree_of is.0 ∷ trees)) (sym same) (tree_of is.0, trees, is.2, have, refl)))
 
-pub HaveComments-read : (text : List ℕ) (tokens : List Token) (done : List Comment) (i : ℕ) → ReadsComments text tokens done (drop i tokens) → drop i tokens ≡ []
-    → HaveComments text (comments_in tokens) (map tree_of done)
-HaveComments-read text tokens done i r end =
-    subst (HaveComments text (comments_in tokens)) (append-nil (map tree_of done)) (r [] (rw end refl))
+-- the comments so far, and where the tokens that are left stand
+pub record CommentsGo (text : List ℕ) (tokens : List Token) (done : List Comment) (rest : List Token) : Type 0 where
+  pub reads : ReadsComments text tokens done rest
+  pub front : List Token
+  pub whole : tokens ≡ front ++ rest
+
+pub CommentsGo-start : (text : List ℕ) (tokens : List Token) (done : List Comment) → done ≡ [] → CommentsGo text tokens done tokens
+CommentsGo-start text tokens done e = record { reads = λ trees have. rw e have; front = []; whole = refl }
+
+pub CommentsGo-push : (text : List ℕ) (tokens rest behind : List Token) (token : Token) (done new : List Comment) → rest ≡ token ∷ behind → CommentsGo text tokens done rest
+    → PushesComment text token done new → CommentsGo text tokens new behind
+CommentsGo-push text tokens rest behind token done new cut go put = record {
+  reads = ReadsComments-push text tokens rest behind token done new cut go.reads put;
+  front = go.front ++ token ∷ [];
+  whole = go.whole ∙ ap (λ r. go.front ++ r) cut ∙ sym (append_assoc go.front (token ∷ []) behind);
+}
+
+pub HaveComments-read : (text : List ℕ) (tokens rest : List Token) (done : List Comment) → CommentsGo text tokens done rest → rest ≡ [] → HaveComments text (comments_in tokens) (map tree_of done)
+HaveComments-read text tokens rest done go end =
+    subst (HaveComments text (comments_in tokens)) (append-nil (map tree_of done)) (go.reads [] (rw end refl))
+
+pub token_among : (tokens front behind : List Token) (token : Token) → tokens ≡ front ++ token ∷ behind → Contains tokens token
+token_among tokens front behind token cut =
+    (length front, let len = ap length cut in omega (arith, len, length-append front (token ∷ behind)), ap (λ ts. get_or ts (length front) token) cut ∙ get_or_at front token behind token (length front) refl)

@@ -120,14 +120,8 @@ is_doubled params name = nat_lt 1 (length (filter (λ param. bytes_eq param.name
 -- the role of a piece behind those before it
 abbrev pub IsRole : List Piece → List Piece → Piece → Role → Type 0
 IsRole pieces before piece (GoesOn is_ascii) = (goes_on before piece ≡ true) × (is_ascii ≡ is_ascii_parameter pieces piece)
-IsRole pieces before piece (Begins unit is_ascii is_doubled_name) = (goes_on before piece ≡ false) × (value_of unit ≡ unit_at pieces piece)
-    × (is_ascii ≡ is_ascii_parameter pieces piece) × (is_doubled_name ≡ is_doubled (params_of pieces) piece.base)
-
--- a role for each piece behind those before
-abbrev pub AreRoles : List Piece → List Piece → List Piece → List Role → Type 0
-AreRoles pieces before [] roles = roles ≡ []
-AreRoles pieces before (piece ∷ more) roles = (role : Role) × (others : List Role) × (roles ≡ role ∷ others) × IsRole pieces before piece role
-    × AreRoles pieces (before ++ piece ∷ []) more others
+IsRole pieces before piece (Begins is_ascii is_doubled_name) = (goes_on before piece ≡ false) × (is_ascii ≡ is_ascii_parameter pieces piece)
+    × (is_doubled_name ≡ is_doubled (params_of pieces) piece.base)
 
 -- what a parameter is seen as
 abbrev pub param_value : Param → ParamValue

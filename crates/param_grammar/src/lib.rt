@@ -2,17 +2,20 @@
 #![tactic(auto)]
 
 mod bodies;
-mod by_name;
+mod contents;
 mod escapes;
 mod extended;
 mod joining;
 mod names;
+mod names_order;
 mod numbers;
+mod places;
 mod reading;
 mod role;
 mod tokens;
 
-pub use bodies::{inner, read_body, read_parts, unquoted};
+pub use bodies::{read_body, read_parts};
+pub use contents::{inner, unquoted};
 use encoded_words::Unit;
 pub use escapes::{escaped_len, push_escaped, read_escaped};
 pub use extended::{split_extended, unit_of};
@@ -20,9 +23,10 @@ use field_tokens::Comment;
 use mail_wire::{Items, Octets};
 pub use names::{Name, read_name};
 pub use numbers::number_below;
+pub use places::{Place, base_at, piece_at, push_written};
 pub use reading::read_params;
-pub use role::{Role, roles};
-pub use tokens::solid;
+pub use role::{Placed, Role, place_pieces};
+pub use tokens::{Tokens, next_solid};
 
 /// Which of the two fields with parameters.
 #[derive(Clone, Copy, Debug, PartialEq, Eq)]
@@ -55,9 +59,6 @@ pub struct Param {
     pub value: Unit,
 }
 
-/// The pieces of a body, in the order of their places.
-pub type Pieces = Items<Piece>;
-
 /// Parameters, in the order of their first pieces.
 pub type ParamList = Items<Param>;
 
@@ -76,9 +77,7 @@ pub struct Params {
 pub struct Body {
     /// The main part in lower case.
     pub main: Octets,
-    pub pieces: Pieces,
-    /// The comments, in the order of their places.
-    pub comments: Vec<Comment>,
+    pub placed: Placed,
 }
 
 /// Why a text was not read.

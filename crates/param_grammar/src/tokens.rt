@@ -1,14 +1,14 @@
-//! Tokens of a body, and the sections between its semicolons.
-ghost use Rattle.std.specs.Prelude.{◌≡◌, ◌==◌, ◌+◌, ◌<◌, ◌∷◌, ℕ, length, not, filter, position, IfOk};
-ghost use Rattle.std.specs.List.{list_all};
-ghost use Rattle.field_tokens.specs.declared.Token.{Token};
+//! Tokens of a body, the sections between its semicolons, and where values stand.
+ghost use Rattle.std.specs.Prelude.{◌≡◌, ◌==◌, ◌&&◌, ◌+◌, ◌^◌, ◌<◌, ◌≤◌, ◌∷◌, [], false, length, take, IfOk, IfSome, IfNone, IsTrue, ◌↔◌};
 ghost use Rattle.field_tokens.specs.Tokens.{octets_at};
 ghost use Rattle.field_tokens.specs.Squeezed.{run_octets as run_octets_of, is_atom_kind as is_atom_of};
 ghost use Rattle.mail_wire.specs.Octets.{is_ascii as is_ascii_octet};
-ghost use Rattle.param_grammar.specs.Bodies.{is_quoted as is_quoted_of, is_mark_at, solid as solid_of, is_filled as is_filled_of, is_ascii_atom as is_ascii_atom_of, is_plain_token as is_plain_token_of, touch, touches_first, are_quoted as are_quoted_of, are_plain as are_plain_of, is_main as is_main_of, SplitsSection};
+ghost use Rattle.param_grammar.specs.Bodies.{is_quoted as is_quoted_of, is_mark_at, solid as solid_of, is_filled as is_filled_of, is_ascii_atom as is_ascii_atom_of, is_plain_token as is_plain_token_of, are_quoted as are_quoted_of, are_plain as are_plain_of, is_main as is_main_of, SplitsSection};
+ghost use Rattle.param_grammar.specs.private.Marked.{cut_to, tokens_in, tokens_of};
+ghost use Rattle.param_grammar.specs.private.Placing.{IsPlainAt, IsValueAt, is_value as is_value_of};
 
 use crate::ParamKind;
-use field_tokens::{Token, TokenKind, is_blank};
+use field_tokens::{Mark, Token, TokenKind, is_blank};
 use mail_wire::{Memory, Octets, Span, is_ascii};
 use std::alloc::Global;
 
@@ -46,48 +46,140 @@ pub(crate) fn is_mark(text: &[u8], mark: u8, token: Token) -> bool
     octets_of(text, token.span) == [mark].as_slice()
 }
 
-// The first token, and what follows it.
-pub(crate) fn split_token(tokens: &[Token]) -> (Token, &[Token])
-    requires { 0 < length tokens.now }
-    ensures { tokens.now ≡ result.0 ∷ result.1.now }
-{
-    (tokens[0], &tokens[1..])
+/// Tokens of a text, from some place of it on, as marks.
+#[derive(Clone, Copy)]
+pub struct Tokens<'a> {
+    end: usize,
+    at: usize,
+    marks: &'a [Mark],
 }
 
-// The place of the first semicolon.
-fn find_semicolon(text: &[u8], tokens: &[Token]) -> Option<usize>
-    ensures { result ≡ position (is_mark_at text.now 59) tokens.now }
-{
-    tokens.iter().position(|token| is_mark(text, b';', *token))
-}
+impl<'a> Tokens<'a> {
+    /// The tokens that marks tell of a text.
+    pub fn new(text: &[u8], marks: &'a [Mark]) -> Self
+        ensures { tokens_of result ≡ tokens_in (length text.now) 0 marks.now }
+    {
+        Tokens {
+            end: text.len(),
+            at: 0,
+            marks,
+        }
+    }
 
-// The tokens before the first semicolon, and those behind it.
-pub(crate) fn split_section<'a>(text: &[u8], tokens: &'a [Token]) -> (&'a [Token], &'a [Token])
-    ensures { SplitsSection text.now tokens.now result.0.now result.1.now }
-{
-    match find_semicolon(text, tokens) {
-        Some(at) => (&tokens[..at], &tokens[at + 1..]),
-        None => (tokens, &[]),
+    pub(crate) fn is_empty(self) -> bool
+        ensures { IsTrue result ↔ (tokens_of self.entry ≡ []) }
+    {
+        self.split_first().is_none()
+    }
+
+    /// The first token, and those behind it.
+    pub fn split_first(self) -> Option<(Token, Tokens<'a>)>
+        ensures found { IfSome result (λ x. tokens_of self.entry ≡ x.0 ∷ tokens_of x.1) }
+        ensures within { IfSome result (λ x. x.0.span.at + x.0.span.len < 2 ^ 64) }
+        ensures none { IfNone result (tokens_of self.entry ≡ []) }
+    {
+        let Some((mark, marks)) = self.marks.split_first() else {
+            return None;
+        };
+        let len = cut(mark.len(), self.end.saturating_sub(self.at));
+        let span = Span { at: self.at, len };
+        let kind = mark.kind();
+        Some((
+            Token { kind, span },
+            Tokens {
+                end: self.end,
+                at: self.at + len,
+                marks,
+            },
+        ))
+    }
+
+    // How many tokens there are.
+    fn len(self) -> usize
+        ensures { result ≡ length (tokens_of self.entry) }
+    {
+        self.marks.len()
+    }
+
+    // The first so many tokens.
+    fn front(self, count: usize) -> Tokens<'a>
+        requires { count ≤ length (tokens_of self) }
+        ensures { tokens_of result ≡ take count (tokens_of self.entry) }
+    {
+        let (marks, _) = self.marks.split_at(count);
+        Tokens {
+            end: self.end,
+            at: self.at,
+            marks,
+        }
     }
 }
 
-/// The tokens that are no gaps and no comments.
-pub fn solid(alloc: Global, tokens: &[Token]) -> Result<Vec<Token>, Memory>
-    ensures { IfOk result (λ found. found.items ≡ solid_of tokens.now) }
+// A length, and no more than what is left.
+fn cut(len: usize, left: usize) -> usize
+    ensures is { result ≡ cut_to left len }
+    ensures most { result ≤ left }
 {
-    let found = tokens
-        .iter()
-        .filter(|token| !is_blank(token.kind))
-        .copied()
-        .collect(alloc)?;
-    Ok(found)
+    if left < len { left } else { len }
+}
+
+// The tokens before the first semicolon, and those behind it.
+pub(crate) fn split_section<'a>(text: &[u8], tokens: Tokens<'a>) -> (Tokens<'a>, Tokens<'a>)
+    ensures { SplitsSection text.now (tokens_of tokens.entry) (tokens_of result.0) (tokens_of result.1) }
+{
+    let mut rest = tokens;
+    while let Some((token, behind)) = rest.split_first() {
+        if is_mark(text, b';', token) {
+            return (tokens.front(tokens.len() - rest.len()), behind);
+        }
+        rest = behind;
+    }
+    (tokens, rest)
+}
+
+/// The first token that is no gap and no comment, and those behind it.
+pub fn next_solid(tokens: Tokens<'_>) -> Option<(Token, Tokens<'_>)>
+    ensures found { IfSome result (λ x. solid_of (tokens_of tokens.entry) ≡ x.0 ∷ solid_of (tokens_of x.1)) }
+    ensures within { IfSome result (λ x. x.0.span.at + x.0.span.len < 2 ^ 64) }
+    ensures none { IfNone result (solid_of (tokens_of tokens.entry) ≡ []) }
+{
+    let mut rest = tokens;
+    while let Some((token, behind)) = rest.split_first() {
+        if !is_blank(token.kind) {
+            return Some((token, behind));
+        }
+        rest = behind;
+    }
+    None
 }
 
 // Whether there are other tokens than gaps and comments.
-pub(crate) fn is_filled(tokens: &[Token]) -> bool
-    ensures { result ≡ is_filled_of tokens.now }
+pub(crate) fn is_filled(tokens: Tokens<'_>) -> bool
+    ensures { result ≡ is_filled_of (tokens_of tokens.entry) }
 {
-    tokens.iter().any(|token| !is_blank(token.kind))
+    match next_solid(tokens) {
+        Some(_) => true,
+        None => false,
+    }
+}
+
+// How many tokens tell whether all are a main part.
+const FEW: usize = 4;
+
+// The first tokens that are no gaps and no comments: four, where there are so many.
+pub(crate) fn first_solid(alloc: Global, tokens: Tokens<'_>) -> Result<Vec<Token>, Memory>
+    ensures { IfOk result (λ found. found.items ≡ take 4 (solid_of (tokens_of tokens.entry))) }
+{
+    let mut found = Vec::new(alloc);
+    let mut rest = tokens;
+    for _ in 0..FEW {
+        let Some((token, behind)) = next_solid(rest) else {
+            return Ok(found);
+        };
+        found.push(token)?;
+        rest = behind;
+    }
+    Ok(found)
 }
 
 // The octets of tokens, one behind another.
@@ -134,57 +226,60 @@ fn is_plain_token(text: &[u8], token: Token) -> bool
     is_atom(token.kind) || b"/[]?=".iter().any(|mark| is_mark(text, *mark, token))
 }
 
-fn are_plain_tokens(text: &[u8], tokens: &[Token]) -> bool
-    ensures { result ≡ list_all (is_plain_token_of text.now) tokens.now }
+// Whether a token that stands there may go on with an unquoted value that ends there.
+fn goes_on(text: &[u8], end: usize, token: Token) -> bool
+    ensures { result ≡ ((end == token.span.at) && is_plain_token_of text.now token) }
 {
-    tokens.iter().all(|token| is_plain_token(text, *token))
+    end == token.span.at && is_plain_token(text, token)
 }
 
-// Whether a token stands directly behind another.
-fn follows(first: Token, second: Token) -> bool
-    ensures { result ≡ (first.span.at + first.span.len == second.span.at) }
+// The place of the unquoted value that a token and those behind it are, but for gaps and comments.
+fn plain_span(text: &[u8], first: Token, others: Tokens<'_>) -> Option<Span>
+    requires within { first.span.at + first.span.len < 2 ^ 64 }
+    ensures found { IfSome result (λ span. IsPlainAt text.now (first ∷ solid_of (tokens_of others.entry)) span) }
+    ensures none { IfNone result (are_plain_of text.now (first ∷ solid_of (tokens_of others.entry)) ≡ false) }
 {
-    first.span.at <= second.span.at && second.span.at - first.span.at == first.span.len
-}
-
-// Whether the first of other tokens, where there are any, stands directly behind a token.
-fn touches(token: Token, others: &[Token]) -> bool
-    ensures { result ≡ touches_first token others.now }
-{
-    match others {
-        [next, ..] => follows(token, *next),
-        [] => true,
+    if !is_plain_token(text, first) {
+        return None;
     }
-}
-
-// Whether each token stands directly behind the one before it.
-fn are_together(tokens: &[Token]) -> bool
-    ensures { result ≡ touch tokens.now }
-{
-    let mut rest = tokens;
-    while !rest.is_empty() {
-        let (first, others) = split_token(rest);
-        if !touches(first, others) {
-            return false;
+    let mut end = first.span.at + first.span.len;
+    let mut rest = others;
+    while let Some((token, behind)) = next_solid(rest) {
+        if !goes_on(text, end, token) {
+            return None;
         }
-        rest = others;
+        end = token.span.at + token.span.len;
+        rest = behind;
     }
-    true
+    Some(Span {
+        at: first.span.at,
+        len: end - first.span.at,
+    })
 }
 
-// Whether tokens are a quoted string alone.
-pub(crate) fn are_quoted(tokens: &[Token]) -> bool
-    ensures { result ≡ are_quoted_of tokens.now }
+// Whether a token is a quoted string, and all behind it are gaps and comments.
+fn is_quoted_alone(first: Token, others: Tokens<'_>) -> bool
+    ensures { result ≡ are_quoted_of (first ∷ solid_of (tokens_of others.entry)) }
 {
-    match tokens {
-        [token] => is_quoted(token.kind),
-        _ => false,
+    match next_solid(others) {
+        Some(_) => false,
+        None => is_quoted(first.kind),
     }
 }
 
-// Whether tokens are an unquoted value.
-pub(crate) fn are_plain(text: &[u8], tokens: &[Token]) -> bool
-    ensures { result ≡ are_plain_of text.now tokens.now }
+// The place of the value that tokens are, but for gaps and comments, and whether it is quoted.
+pub(crate) fn value_span(text: &[u8], tokens: Tokens<'_>) -> Option<(Span, bool)>
+    ensures found { IfSome result (λ x. IsValueAt text.now (solid_of (tokens_of tokens.entry)) x.0 x.1) }
+    ensures none { IfNone result (is_value_of text.now (solid_of (tokens_of tokens.entry)) ≡ false) }
 {
-    !tokens.is_empty() && are_plain_tokens(text, tokens) && are_together(tokens)
+    let Some((first, others)) = next_solid(tokens) else {
+        return None;
+    };
+    if is_quoted_alone(first, others) {
+        return Some((first.span, true));
+    }
+    let Some(span) = plain_span(text, first, others) else {
+        return None;
+    };
+    Some((span, false))
 }

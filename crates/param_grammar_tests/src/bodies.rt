@@ -1,5 +1,6 @@
 //! Texts, and the pieces of parameters in them.
-use param_grammar::{ParamFault, ParamKind, Piece, read_body};
+use param_grammar::{Body, ParamFault, ParamKind, Piece, piece_at, read_body};
+use std::alloc::Global;
 use std::test::Fail;
 
 fn is_read(piece: &Piece, base: &[u8], number: &[u8], charset: &[u8], octets: &[u8]) -> bool {
@@ -13,20 +14,30 @@ fn is_read(piece: &Piece, base: &[u8], number: &[u8], charset: &[u8], octets: &[
         && piece.octets.as_slice() == octets
 }
 
+fn pieces_of(alloc: Global, text: &[u8], body: &Body) -> Result<Vec<Piece>, Fail> {
+    let mut pieces = Vec::new(alloc);
+    for place in &body.placed.places {
+        let piece = piece_at(alloc, text, *place).map_err(|_| "memory")?;
+        pieces.push(piece).map_err(|_| "memory")?;
+    }
+    Ok(pieces)
+}
+
 #[test]
 fn a_file_name_is_read(rt: HostRuntime) -> Result<(), Fail> {
     let text =
-        "Attachment ; filename=\"é\\\".txt\"; (c);FileName*1*=%41;x*=UTF-8''b;a=b/=".as_bytes();
+        "Attachment ; filename=\"é\\\".txt\"; (c);FileName*0*=''%41;x*=UTF-8''b;a = b/=".as_bytes();
     let body = read_body(rt.alloc(), ParamKind::Disposition, text).map_err(|_| "no body")?;
     assert_eq!(rt; body.main.as_slice(), b"attachment".as_slice());
-    let [first, second, third, fourth] = body.pieces.as_slice() else {
+    let pieces = pieces_of(rt.alloc(), text, &body)?;
+    let [first, second, third, fourth] = pieces.as_slice() else {
         return Err(Fail::from("other pieces"));
     };
     assert!(rt; is_read(first, b"filename", b"", b"", "é\".txt".as_bytes()));
-    assert!(rt; is_read(second, b"filename", b"1", b"", b"A"));
+    assert!(rt; is_read(second, b"filename", b"0", b"", b"A"));
     assert!(rt; is_read(third, b"x", b"", b"UTF-8", b"b"));
     assert!(rt; is_read(fourth, b"a", b"", b"", b"b/="));
-    assert_eq!(rt; body.comments.len(), 1);
+    assert_eq!(rt; fourth.written.as_slice(), b"a=b/=".as_slice());
     Ok(())
 }
 
@@ -35,7 +46,8 @@ fn extended_pieces_are_read(rt: HostRuntime) -> Result<(), Fail> {
     let text = b"a/b; x*=utf-8'en'%C3%A9; y*0*=''%C3; y*1*=%A9;;";
     let body = read_body(rt.alloc(), ParamKind::Content, text).map_err(|_| "no body")?;
     assert_eq!(rt; body.main.as_slice(), b"a/b".as_slice());
-    let [first, second, third] = body.pieces.as_slice() else {
+    let pieces = pieces_of(rt.alloc(), text, &body)?;
+    let [first, second, third] = pieces.as_slice() else {
         return Err(Fail::from("other pieces"));
     };
     assert!(rt; is_read(first, b"x", b"", b"utf-8", "é".as_bytes()));

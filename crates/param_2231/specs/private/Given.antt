@@ -1,48 +1,25 @@
--- What the steps of the rewriting give.
-use Rattle.std.specs.Prelude.{◌≡◌, ℕ, Bool, true, false, List, [], ◌∷◌, ◌++◌}
-use Rattle.encoded_words.specs.Words.{Text}
-use Rattle.encoded_words.specs.private.Values.{value_of}
+-- What is told of a text that is rewritten.
+use Rattle.std.specs.Prelude.{ℕ, Bool, List}
 use Rattle.field_tokens.specs.declared.Style.TheVariants.{Mime}
 use Rattle.field_tokens.specs.declared.Token.{Token}
 use Rattle.field_tokens.specs.Tokens.{HasTokens}
-use Rattle.field_tokens.specs.Squeezed.{comments_of, run_octets}
-use Rattle.field_tokens.specs.Comments.{CommentsPieces}
 use Rattle.param_grammar.specs.declared.ParamKind.{ParamKind}
 use Rattle.param_grammar.specs.declared.Piece.{Piece}
+use Rattle.param_grammar.specs.declared.role.Placed.{Placed}
 use Rattle.param_grammar.specs.declared.role.Role.{Role}
 use Rattle.param_grammar.specs.declared.role.Role.TheVariants.{GoesOn, Begins}
-use Rattle.param_grammar.specs.Bodies.{solid, IsBody}
-use Rattle.param_grammar.specs.Joining.{ParamValue, AreParams, params_of}
-use Rattle.param_2231.specs.Layout.{GivesWhere, PiecesGive, with_semicolons, written_main}
-use Rattle.param_2231.specs.private.Parts.{IsWritableUnit}
+use Rattle.param_grammar.specs.Bodies.{WritesBody}
+use Rattle.param_grammar.specs.Placed.{HasPlaced}
 
--- what a piece of this role gives
-abbrev pub RoleGives : Piece → Role → List (List ℕ) → Type 0
-RoleGives piece (GoesOn is_ascii) pieces = GivesWhere is_ascii true false piece.written piece.base (Text []) pieces
-RoleGives piece (Begins unit is_ascii is_doubled) pieces = GivesWhere is_ascii false is_doubled piece.written piece.base (value_of unit) pieces
+-- the role is that of a piece of an ASCII parameter
+abbrev pub is_ascii_role : Role → Bool
+is_ascii_role (GoesOn is_ascii) = is_ascii
+is_ascii_role (Begins is_ascii doubled) = is_ascii
 
--- the unit of a parameter that begins can be written
-abbrev pub IsWritableRole : Role → Type 0
-IsWritableRole (GoesOn is_ascii) = IsWritableUnit (Text [])
-IsWritableRole (Begins unit is_ascii is_doubled) = IsWritableUnit (value_of unit)
-
--- these are a main part and what pieces give, with semicolons
-abbrev pub GiveBody : List Piece → List ℕ → List (List ℕ) → Type 0
-GiveBody pieces main made = (given : List (List ℕ)) × PiecesGive pieces (params_of pieces) [] pieces given × (made ≡ with_semicolons (main ∷ given))
-
--- The tokens of the text are a main part and parameters, and these are their pieces.
-pub record ValueBodyPieces (kind : ParamKind) (open_global : Bool) (text : List ℕ) (tokens : List Token) (made : List (List ℕ)) : Type 0 where
-  pub main : List ℕ
+-- The text has parameters and a main part, which is written so, and these are the places of its pieces.
+pub record SaysPlaced (kind : ParamKind) (text written : List ℕ) (placed : Placed) : Type 0 where
+  pub tokens : List Token
+  pub has_tokens : HasTokens Mime text tokens
   pub pieces : List Piece
-  pub is_body : IsBody kind text tokens main pieces
-  pub params : List ParamValue
-  pub are_params : AreParams pieces params
-  pub give : GiveBody pieces (written_main open_global kind main (run_octets text (solid is_body.first))) made
-
--- the tokens of the text are no main part and parameters
-abbrev pub AreNoBody : ParamKind → List ℕ → List Token → Type 0
-AreNoBody kind text tokens = (main : List ℕ) (pieces : List Piece) (params : List ParamValue) → IsBody kind text tokens main pieces → ¬ AreParams pieces params
-
--- these are the pieces of the comments among the tokens of the text
-abbrev pub GiveComments : List ℕ → List Token → List (List ℕ) → Type 0
-GiveComments text tokens pieces = (has : HasTokens Mime text tokens) → CommentsPieces (comments_of has.values) pieces
+  pub writes : WritesBody kind text tokens written pieces
+  pub has_placed : HasPlaced text placed pieces

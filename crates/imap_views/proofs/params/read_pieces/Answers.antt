@@ -1,11 +1,9 @@
 use Rattle.std.proofs.Common.{Err, ap}
-use Rattle.imap_views.proofs.ParamLemmas.{not-HasPieces-body, not-HasPieces-params}
+use Rattle.imap_views.proofs.ParamLemmas.{HasPieces-read, IsNoField-read}
 use Rattle.imap_views.proofs.params.read_pieces.Goals as goal
 
-pub returns-in-Err-Malformed-clause-none : goal.returns-in-Err-Malformed-clause-none
-returns-in-Err-Malformed-clause-none c = not-HasPieces-body c.args.kind c.args.text.now (c.in-Err-Malformed.ensures.malformed (ap Err c.in-Err-Malformed.field-0-is))
+pub returns-in-Ok-clause-found : goal.returns-in-Ok-clause-found
+returns-in-Ok-clause-found c = let has = c.in-Ok.ensures.ok in (has.pieces, HasPieces-read c.args.kind c.args.text.now c.in-Ok.body has, has.has_placed)
 
-pub returns-in-None-clause-none : goal.returns-in-None-clause-none
-returns-in-None-clause-none c =
-    not-HasPieces-params c.args.kind c.args.text.now c.in-Ok.body.pieces (λ main pieces comments has. (c.in-Ok.ensures.exact main pieces comments has).1)
-    (rw (c.in-None.is, c.as_slice.ensures) at c.in_ok-roles.ensures.none)
+pub returns-in-Err-Malformed-clause-none : goal.returns-in-Err-Malformed-clause-none
+returns-in-Err-Malformed-clause-none c = IsNoField-read c.args.kind c.args.text.now (c.in-Err-Malformed.ensures.malformed (ap Err c.in-Err-Malformed.field-0-is))

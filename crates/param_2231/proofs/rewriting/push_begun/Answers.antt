@@ -1,10 +1,15 @@
+use Rattle.std.proofs.Common.{sym, ◌∙◌}
 use Rattle.std.specs.Prelude.{codes}
 use Rattle.std.proofs.lemmas.Result.{on_ok_weaker}
-use Rattle.param_2231.proofs.GivenLemmas.{adds_written, adds_param}
+use Rattle.param_grammar.specs.Places.{piece_in}
+use Rattle.param_2231.proofs.GivenLemmas.{place_is, unit_placed, param_named}
 use Rattle.param_2231.proofs.rewriting.push_begun.Goals as goal
 
-pub returns-then-is_ascii : goal.returns-then-is_ascii
-returns-then-is_ascii c = on_ok_weaker c.push_copy.result (adds_written (codes ";") c.args.is_ascii _ _ _ _ _ _ _ c.if-is_ascii.true) (rw (c.as_slice.ensures) at c.push_copy.ensures)
+pub push_param-requires : goal.push_param-requires
+push_param-requires c = unit_placed c.requires.placed.0 c.args.number _ (c.in_ok-unit.ensures c.requires.placed.0 c.requires.placed.1)
 
 pub returns : goal.returns
-returns c = on_ok_weaker c.push_param.result (adds_param (codes ";") c.args.is_ascii c.args.is_doubled _ _ _ _ _ c.if-is_ascii.false) (rw (c.as_slice-2.ensures) at c.push_param.ensures)
+returns c = λ pieces has.
+    let is = place_is c.args.text.now c.args.placed.now pieces c.args.number c.index.result.now has c.requires.number c.index.ensures in
+    let named = c.as_slice.ensures ∙ c.in_ok-name.ensures ∙ sym (c.base_at.ensures (piece_in pieces c.args.number) is) in
+    on_ok_weaker c.push_param.result (param_named (codes ";") c.args.is_doubled _ _ _ _ _ _ named (c.in_ok-unit.ensures pieces has)) c.push_param.ensures

@@ -1,6 +1,10 @@
-use Rattle.param_grammar.specs.private.ByName.{pieces_in}
+use Rattle.std.proofs.Common.{◌<◌, List, length, map}
+use Rattle.std.specs.List.{All}
+use Rattle.param_grammar.specs.declared.Piece.{Piece}
+use Rattle.param_grammar.specs.Places.{ArePlaced, piece_in}
 use Rattle.param_grammar.proofs.SlotLemmas.{AreMade}
 use Rattle.param_grammar.proofs.joining.in_order.Given as goal
 
 abbrev pub invariant-loop-slot : goal.invariant-loop-slot
-invariant-loop-slot l = AreMade l.slot-index (pieces_in l.parts) (pieces_in l.made.items)
+invariant-loop-slot l = All (λ part. part < length l.places) l.made.items
+    × ((pieces : List Piece) → ArePlaced l.text l.places pieces → AreMade (piece_in pieces) l.slot-index (map (piece_in pieces) l.parts) (map (piece_in pieces) l.made.items))

@@ -1,7 +1,9 @@
-use Rattle.std.proofs.Common.{take, length}
-use Rattle.param_grammar.specs.private.ByName.{pieces_in}
-use Rattle.param_grammar.specs.private.Slots.{AreSlots}
+use Rattle.std.proofs.Common.{◌≡◌, List, length, map, take}
+use Rattle.param_grammar.specs.declared.Piece.{Piece}
+use Rattle.param_grammar.specs.Places.{ArePlaced, piece_in}
+use Rattle.param_grammar.specs.private.Slots.{AreSlots, HoldBelow}
 use Rattle.param_grammar.proofs.joining.slots_of.Given as goal
 
 abbrev pub invariant-loop-part : goal.invariant-loop-part
-invariant-loop-part l = AreSlots (length l.parts) (pieces_in (take l.part-index l.parts)) l.slots.items
+invariant-loop-part l = (length l.slots.items ≡ length l.parts) × HoldBelow (length l.places) l.slots.items
+    × ((pieces : List Piece) → ArePlaced l.text l.places pieces → AreSlots (piece_in pieces) (length l.parts) (map (piece_in pieces) (take l.part-index l.parts)) l.slots.items)

@@ -1,7 +1,0 @@
-use Rattle.std.specs.Prelude.{codes}
-use Rattle.std.proofs.lemmas.Result.{on_ok_weaker}
-use Rattle.param_2231.proofs.GivenLemmas.{adds_written}
-use Rattle.param_2231.proofs.rewriting.push_more.Goals as goal
-
-pub returns-then-is_ascii : goal.returns-then-is_ascii
-returns-then-is_ascii c = on_ok_weaker c.push_copy.result (adds_written (codes ";") c.args.is_ascii _ _ _ _ _ _ _ c.if-is_ascii.true) (rw (c.as_slice.ensures) at c.push_copy.ensures)
