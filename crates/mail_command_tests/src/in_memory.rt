@@ -20,6 +20,10 @@ pub const LEGACY: &[u8] = b"USER ann@example.org\r\nPASS pw\r\nUTF8\r\nSTAT\r\nL
 pub const LEGACY_REPLIES: &[u8] =
     b"+OK ready\r\n+OK\r\n+OK\r\n-ERR out of order\r\n+OK 1 44\r\n+OK 1 44\r\n+OK bye\r\n";
 
+/// A session of SMTP that sends a message to the account of the journal.
+pub const STREAM: &str =
+    "EHLO client\r\nMAIL FROM:<jos\u{e9}@example.com>\r\nMAIL FROM:<jos\u{e9}@example.com> SMTPUTF8\r\nRCPT TO:<ANN@example.org>\r\nRCPT TO:<bob@example.org>\r\nDATA\r\nSubject: \u{e9}\r\n\r\n..x\r\n.\r\nQUIT\r\n";
+
 /// A wire with this input, in pieces of these sizes, that fails so.
 pub fn wire_of(
     alloc: Global,
@@ -64,7 +68,27 @@ pub fn given(alloc: Global, wire: &MemWire) -> Result<Octets, Memory> {
     Ok(given)
 }
 
-/// The status of a command over this input, and what was given.
+/// The status of a command over this input, in pieces of these sizes, and what was given to a wire that fails so.
+pub fn answer_over(
+    alloc: Global,
+    words: &[&str],
+    input: (&[u8], &[usize]),
+    failures: &[Failure],
+    keeper: &mut MemKeeper,
+) -> Result<(u8, Octets), Memory> {
+    let mut said = Words::none(alloc);
+    for word in words {
+        said.push(word)?;
+    }
+    let (octets, sizes) = input;
+    let mut wire = wire_of(alloc, octets, sizes, failures)?;
+    let mut dial = dial_of(alloc, b"", &[])?;
+    let mut clock = FixedClock::new(0);
+    let status = run(alloc, &said, &mut wire, keeper, &mut dial, &mut clock);
+    Ok((status, given(alloc, &wire)?))
+}
+
+/// The status of a command over this input and an empty keeper, and what was given.
 pub fn answer(
     alloc: Global,
     words: &[&str],
@@ -72,14 +96,6 @@ pub fn answer(
     sizes: &[usize],
     failures: &[Failure],
 ) -> Result<(u8, Octets), Memory> {
-    let mut said = Words::none(alloc);
-    for word in words {
-        said.push(word)?;
-    }
-    let mut wire = wire_of(alloc, input, sizes, failures)?;
     let mut keeper = keeper_of(alloc, b"", &[])?;
-    let mut dial = dial_of(alloc, b"", &[])?;
-    let mut clock = FixedClock::new(0);
-    let status = run(alloc, &said, &mut wire, &mut keeper, &mut dial, &mut clock);
-    Ok((status, given(alloc, &wire)?))
+    answer_over(alloc, words, (input, sizes), failures, &mut keeper)
 }

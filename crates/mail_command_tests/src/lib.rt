@@ -2,11 +2,15 @@
 #![tactic(auto)]
 
 #[cfg(test)]
+mod cache_tests;
+#[cfg(test)]
 mod check_tests;
 #[cfg(test)]
 mod connection_tests;
 #[cfg(test)]
 mod downgrade_tests;
+#[cfg(test)]
+mod fault_tests;
 #[cfg(test)]
 mod imap_tests;
 #[cfg(test)]

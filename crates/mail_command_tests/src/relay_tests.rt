@@ -42,6 +42,17 @@ fn answer_of(
     Ok((status, given(alloc, &wire)?))
 }
 
+// What was given over the connection that was handed back last.
+fn sent_over(alloc: Global, dial: &MemDial) -> Result<Octets, Memory> {
+    let mut sent = Octets::new(alloc);
+    for entry in dial.entries() {
+        if let Entry::Given(octets) = entry {
+            sent.push_slice(octets.as_slice())?;
+        }
+    }
+    Ok(sent)
+}
+
 // Whether the dial was asked for no host.
 fn is_untouched(dial: &MemDial) -> bool {
     dial.asked().get(0).is_none()
@@ -91,13 +102,7 @@ fn a_message_is_sent_once(rt: HostRuntime) -> Result<(), Fail> {
     assert_eq!(rt; status, 0);
     assert!(rt; was_asked_once(&dial, "x"));
     assert!(rt; line.as_slice() == b"sent 1, reported 0, left 0\r\n".as_slice());
-    let mut sent = Octets::new(alloc);
-    for entry in dial.entries() {
-        if let Entry::Given(octets) = entry {
-            sent.push_slice(octets.as_slice())?;
-        }
-    }
-    assert!(rt; sent.as_slice() == SENT);
+    assert!(rt; sent_over(alloc, &dial)?.as_slice() == SENT);
     journal.push_slice(SETTLED)?;
     assert!(rt; keeper.octets() == journal.as_slice());
     // The queue of this journal is empty.
@@ -118,6 +123,76 @@ fn a_wire_that_fails_is_told(rt: HostRuntime) -> Result<(), Fail> {
     let (status, line) = answer_of(alloc, &["relay", "x"], &failures, &mut keeper, &mut dial)?;
     assert_eq!(rt; status, 1);
     assert!(rt; line.as_slice() == b"sent".as_slice());
+    Ok(())
+}
+
+// What came of a relay to `x`.
+#[derive(Drop)]
+struct Relayed {
+    status: u8,
+    line: Octets,
+    // what was sent, where the server was dialled
+    sent: Option<Octets>,
+    journal: Octets,
+}
+
+// What comes of a relay over this journal, where its keeper fails so.
+fn relay_over(alloc: Global, journal: &[u8], failures: &[Failure]) -> Result<Relayed, Memory> {
+    let mut keeper = keeper_of(alloc, journal, failures)?;
+    let mut dial = dial_of(alloc, SERVER, &[])?;
+    let (status, line) = answer_of(alloc, &["relay", "x"], &[], &mut keeper, &mut dial)?;
+    let sent = if is_untouched(&dial) {
+        None
+    } else {
+        Some(sent_over(alloc, &dial)?)
+    };
+    let journal = Octets::from_slice(alloc, keeper.octets())?;
+    Ok(Relayed {
+        status,
+        line,
+        sent,
+        journal,
+    })
+}
+
+// Whether a relay told nothing, and began a settlement just where all was sent but for the parting.
+fn is_broken_off(relayed: &Relayed, journal: &[u8]) -> bool {
+    let begun = relayed.journal.as_slice().strip_prefix(journal);
+    let is_first = match &relayed.sent {
+        Some(sent) => {
+            SENT.strip_suffix(b"QUIT\r\n") == Some(sent.as_slice()) && begun == SETTLED.get(..5)
+        }
+        None => begun == Some(&[]),
+    };
+    relayed.status == 2 && relayed.line.is_empty() && is_first
+}
+
+// Whether a relay cuts off what was begun behind the journal, and sends the message.
+fn is_sent_again(alloc: Global, journal: &[u8], octets: &[u8]) -> Result<bool, Memory> {
+    let again = relay_over(alloc, octets, &[])?;
+    Ok(
+        again.line.as_slice() == b"sent 1, reported 0, left 0\r\n".as_slice()
+            && again.journal.as_slice().strip_prefix(journal) == Some(SETTLED),
+    )
+}
+
+#[test]
+fn a_recipient_whose_settlement_is_not_kept_waits_on(rt: HostRuntime) -> Result<(), Fail> {
+    let alloc = rt.alloc();
+    let journal = journal_of(alloc, WAITING)?;
+    let mut was_dialled = false;
+    // The calls that open the journal, and then the one that takes the recipient off.
+    for call in 0..100 {
+        let cut = relay_over(alloc, journal.as_slice(), &[Failure { call, kept: 5 }])?;
+        if cut.status == 0 {
+            break;
+        }
+        assert!(rt; is_broken_off(&cut, journal.as_slice()), "at {call}");
+        was_dialled = was_dialled || cut.sent.is_some();
+        let again = is_sent_again(alloc, journal.as_slice(), cut.journal.as_slice())?;
+        assert!(rt; again, "at {call}");
+    }
+    assert!(rt; was_dialled);
     Ok(())
 }
 

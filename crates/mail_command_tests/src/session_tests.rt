@@ -1,6 +1,6 @@
 //! The rows of sessions, over wires and keepers in memory.
 use crate::in_memory::{
-    JOURNAL, LEGACY, LEGACY_REPLIES, WITHOUT_MESSAGE, dial_of, given, keeper_of, wire_of,
+    JOURNAL, LEGACY, LEGACY_REPLIES, STREAM, WITHOUT_MESSAGE, dial_of, given, keeper_of, wire_of,
 };
 use mail_command::{LIMITS, Limits, Outside, Role, Served, open_desk, run, serve_one};
 use mail_wire::{Failure, FixedClock, MemKeeper, MemWire, Memory, Octets, Words};
@@ -149,9 +149,6 @@ fn a_session_takes_no_more_than_its_limit(rt: HostRuntime) -> Result<(), Fail> {
     assert!(rt; all.as_slice() == LEGACY_REPLIES);
     Ok(())
 }
-
-const STREAM: &str =
-    "EHLO client\r\nMAIL FROM:<jos\u{e9}@example.com>\r\nMAIL FROM:<jos\u{e9}@example.com> SMTPUTF8\r\nRCPT TO:<ANN@example.org>\r\nRCPT TO:<bob@example.org>\r\nDATA\r\nSubject: \u{e9}\r\n\r\n..x\r\n.\r\nQUIT\r\n";
 
 const STREAM_REPLIES: &str =
     "220 example.org ESMTP\r\n250-example.org\r\n250-8BITMIME\r\n250-SIZE 1000\r\n250-SMTPUTF8\r\n250 ENHANCEDSTATUSCODES\r\n553 5.6.7 address needs SMTPUTF8\r\n250 2.1.0 ok\r\n250 2.1.5 ok\r\n550 5.1.1 no such mailbox\r\n354 go ahead\r\n250 2.0.0 stored\r\n221 2.0.0 bye\r\n";
