@@ -21,7 +21,7 @@ use Rattle.address_grammar.proofs.MailboxLemmas.{phrase_lacks}
 use Rattle.address_grammar.proofs.DividedLemmas.{divided_first, divided_last}
 use Rattle.address_grammar.proofs.ListLemmas.{one_walked, mailbox_not_blank, group_inner, members_once}
 use Rattle.address_lists.proofs.AddedPieces.{adds_piece, adds_comma, some_behind}
-use Rattle.address_lists.proofs.WritableTokens.{before_can, behind_can}
+use Rattle.address_lists.proofs.WritableTokens.{behind_can}
 use Rattle.address_lists.proofs.ServedMailboxes.{mailbox_some}
 
 -- ---- members

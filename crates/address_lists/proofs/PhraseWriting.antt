@@ -1,5 +1,5 @@
 -- Phrases are written.
-use Rattle.std.proofs.Common.{◌≡◌, ◌≢◌, ℕ, Bool, true, false, not, ◌&&◌, List, [], ◌∷◌, ◌++◌, refl, sym, ap, ◌∙◌, subst}
+use Rattle.std.proofs.Common.{◌≡◌, ℕ, Bool, true, false, ◌&&◌, List, [], ◌∷◌, ◌++◌, refl, sym, ap, ◌∙◌, subst}
 use Rattle.std.proofs.lemmas.Bool.{and_parts, and_from, both_ways}
 use Rattle.std.proofs.lemmas.List.{append_assoc, append-nil}
 use Rattle.std.proofs.lemmas.List.Folds.{list_all-append}
@@ -7,12 +7,12 @@ use Rattle.std.specs.List.{AllByRecursion, list_all}
 use Rattle.mail_wire.specs.Octets.{is_ascii}
 use Rattle.encoded_words.specs.Folding.{AddsLines}
 use Rattle.encoded_words.specs.PhraseUnits.{PhraseItem, IsUtf8Item}
-use Rattle.encoded_words.proofs.LineLemmas.{adds_none, adds_both, adds_as}
+use Rattle.encoded_words.proofs.LineLemmas.{adds_both}
 use Rattle.field_tokens.specs.declared.TokenKind.{TokenKind}
 use Rattle.field_tokens.specs.declared.TokenKind.TheVariants.{Atom, Quoted, Literal, Special, Gap, Comment}
 use Rattle.field_tokens.specs.Tokens.{TokenValue}
 use Rattle.field_tokens.specs.Squeezed.{is_gap, is_comment, octets_of, comments_of}
-use Rattle.field_tokens.specs.Comments.{AreWritableComments, CommentPieces, CommentsPieces}
+use Rattle.field_tokens.specs.Comments.{AreWritableComments, CommentsPieces}
 use Rattle.field_tokens.proofs.Parts.{comments_of-append}
 use Rattle.address_grammar.specs.private.Lexemes.{is_blank_token, are_blank}
 use Rattle.address_grammar.specs.Phrases.{may_stand_in_phrase, IsPhrase, phrase_items}
@@ -233,46 +233,8 @@ CommentsPieces-append [] ds ps qs a b = rw (a) b
 CommentsPieces-append (c ∷ cs) ds ps qs a b =
     (a.0, a.1 ++ qs, ap (λ r. r ++ qs) a.2 ∙ append_assoc a.0 a.1 qs, a.3, CommentsPieces-append cs ds a.1 qs a.4 b)
 
--- some comments were written, and those of the rest can be
-pub record WritesComments (all : List TokenValue) (old new : List ℕ) (rest : List TokenValue) : Type 0 where
-  pub done : List (List ℕ)
-  pub whole : comments_of all ≡ done ++ comments_of rest
-  pub adds : AddsLines (CommentsPieces done) old new
-  pub can : AreWritableComments (comments_of rest)
-
-pub comments_start : (ts : List TokenValue) (old : List ℕ) → AreWritableComments (comments_of ts) → WritesComments ts old old ts
-comments_start ts old can = record { done = []; whole = refl; adds = adds_none old refl; can = can }
-
 pub no_comment : (t : TokenValue) → is_comment t.kind ≡ false → comments_of (t ∷ []) ≡ []
 no_comment t h = rw h refl
-
-first_comment : (rest behind : List TokenValue) (t : TokenValue) → rest ≡ t ∷ behind → is_comment t.kind ≡ true → comments_of rest ≡ t.octets ∷ comments_of behind
-first_comment rest behind t e is = ap comments_of e ∙ rw is refl
-
-other_first : (rest behind : List TokenValue) (t : TokenValue) → rest ≡ t ∷ behind → is_comment t.kind ≡ false → comments_of rest ≡ comments_of behind
-other_first rest behind t e other = ap comments_of e ∙ rw other refl
-
-pub next_comment : (all : List TokenValue) (old mid : List ℕ) (rest behind : List TokenValue) (t : TokenValue) → WritesComments all old mid rest → rest ≡ t ∷ behind → is_comment t.kind ≡ true → AreWritableComments (t.octets ∷ [])
-next_comment all old mid rest behind t w e is = writable_front (t.octets ∷ []) (comments_of behind) (subst AreWritableComments (first_comment rest behind t e is) w.can)
-
-pub comment_turn : (all : List TokenValue) (old mid new : List ℕ) (rest behind : List TokenValue) (t : TokenValue) → WritesComments all old mid rest → rest ≡ t ∷ behind → is_comment t.kind ≡ true → AddsLines (CommentPieces t.octets) mid new
-    → WritesComments all old new behind
-comment_turn all old mid new rest behind t w e is a =
-    let first = first_comment rest behind t e is in
-    record {
-      done = w.done ++ t.octets ∷ [];
-      whole = w.whole ∙ ap (λ r. w.done ++ r) first ∙ sym (append_assoc w.done (t.octets ∷ []) (comments_of behind));
-      adds = adds_both (λ xs ys p q. CommentsPieces-append w.done (t.octets ∷ []) xs ys p (ys, [], sym (append-nil ys), q, refl)) w.adds a;
-      can = writable_rest (t.octets ∷ []) (comments_of behind) (subst AreWritableComments first w.can);
-    }
-
-pub other_turn : (all : List TokenValue) (old mid : List ℕ) (rest behind : List TokenValue) (t : TokenValue) → WritesComments all old mid rest → rest ≡ t ∷ behind → is_comment t.kind ≡ false → WritesComments all old mid behind
-other_turn all old mid rest behind t w e other =
-    let same = other_first rest behind t e other in
-    record { done = w.done; whole = w.whole ∙ ap (λ r. w.done ++ r) same; adds = w.adds; can = subst AreWritableComments same w.can }
-
-pub comments_all : (all : List TokenValue) (old new : List ℕ) (rest : List TokenValue) → WritesComments all old new rest → rest ≡ [] → AddsLines (CommentsPieces (comments_of all)) old new
-comments_all all old new rest w e = adds_as (λ xs p. subst (λ r. CommentsPieces r xs) (sym (w.whole ∙ ap (λ r. w.done ++ comments_of r) e ∙ append-nil w.done)) p) w.adds
 
 -- ---- octets
 

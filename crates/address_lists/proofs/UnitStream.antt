@@ -8,7 +8,7 @@ use Rattle.encoded_words.specs.Words.{UnitValue}
 use Rattle.encoded_words.specs.PhraseUnits.{IsUtf8Item, HasPhraseUnits}
 use Rattle.encoded_words.specs.Written.{IsWritable, AreWritable, WriteAll}
 use Rattle.encoded_words.specs.private.Merging.{all_units_then}
-use Rattle.encoded_words.proofs.LineLemmas.{adds_none, adds_both, adds_as}
+use Rattle.encoded_words.proofs.LineLemmas.{adds_none, adds_both}
 use Rattle.encoded_words.proofs.WritableUnits.{HasPhraseUnits-writable}
 use Rattle.field_tokens.specs.Tokens.{TokenValue}
 use Rattle.field_tokens.specs.Squeezed.{is_there}

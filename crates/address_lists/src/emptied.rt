@@ -17,12 +17,11 @@ ghost use Rattle.address_lists.specs.private.ListWriting.{CanBeWritten, IsServed
 ghost use Rattle.address_lists.specs.private.Emptied.{CanEnd, TakesUnits, TakesOut, TakesPhrase, TakesDisplay, TakesNotServed, TakesMember, TakesMembers, GivesMailboxUnits, GivesGroupUnits, NoMembersPieces};
 
 use crate::members::find_member;
-use crate::writing::write_comments;
 use address_grammar::{
     Address, FoundMailbox, PhraseReader, push_address, split_at_mark, split_place,
 };
 use encoded_words::{Merging, Unit, push_line, write_units};
-use field_tokens::Lexemes;
+use field_tokens::{Lexemes, write_comments};
 use mail_wire::{Memory, Octets};
 use std::alloc::Global;
 

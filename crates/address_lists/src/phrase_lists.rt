@@ -12,7 +12,6 @@ ghost use Rattle.address_grammar.specs.Phrases.{IsPhrase, phrase_items};
 ghost use Rattle.address_lists.specs.PhraseLists.{IsOnePhrase, SaysPhrases, PhrasesPieces};
 ghost use Rattle.address_lists.specs.private.PhraseListSteps.{GivesPhrase, GivesPhrases};
 
-use crate::rewriting::cut_back;
 use crate::writing::write_phrase;
 use address_grammar::{AddressFault, is_phrase, mail_marks, split_place};
 use encoded_words::push_line;
@@ -77,7 +76,7 @@ pub fn rewrite_phrases(alloc: Global, text: &[u8], made: &mut Octets) -> Result<
     match write_phrases(alloc, Lexemes::new(text, &marks), made) {
         Ok(()) => Ok(()),
         Err(AddressFault::Malformed) => {
-            cut_back(alloc, made, len);
+            made.truncate(len);
             Err(AddressFault::Malformed)
         }
         Err(AddressFault::Memory) => Err(AddressFault::Memory),

@@ -1,5 +1,5 @@
 //! The rewriting of lists of addresses.
-ghost use Rattle.std.specs.Prelude.{◌≡◌, ◌≢◌, ◌&&◌, ◌++◌, ℕ, true, not, List, take, OnOk};
+ghost use Rattle.std.specs.Prelude.{◌≡◌, ◌≢◌, ◌&&◌, ◌++◌, ℕ, true, not, List, OnOk};
 ghost use Rattle.std.specs.List.{list_any};
 ghost use Rattle.encoded_words.specs.Folding.{AddsLines};
 ghost use Rattle.field_tokens.specs.Comments.{CommentValue};
@@ -11,15 +11,13 @@ ghost use Rattle.address_grammar.specs.AddressLists.{ElementValue, AreDivided, I
 ghost use Rattle.address_lists.specs.ListPieces.{SaysAddresses, AddressesPieces};
 ghost use Rattle.address_lists.specs.private.ListWriting.{CanBeWritten, is_element_token, GivesElement, GivesPlace, GivesFollowed, GivesPlaces};
 
-use crate::writing::write_comments;
 use crate::written_groups::{write_group, write_single};
 use address_grammar::{
     AddressFault, are_blank, find_mailbox, is_blank, is_mark, mail_marks, split_name, split_place,
 };
-use field_tokens::Lexemes;
+use field_tokens::{Lexemes, write_comments};
 use mail_wire::{Memory, Octets};
 use std::alloc::Global;
-use std::mem;
 
 // Puts the pieces of the mailbox last that tokens are without a group's name.
 fn write_unnamed(
@@ -154,15 +152,6 @@ fn write_places(
     write_place(alloc, rest, made)
 }
 
-/// Takes away what stands behind so many octets.
-pub(crate) fn cut_back(alloc: Global, made: &mut Octets, len: usize)
-    ensures { made.new ≡ take len made.old }
-{
-    let mut octets = mem::replace(made, Octets::new(alloc)).into_vec();
-    octets.truncate(len);
-    *made = Octets::from_vec(octets);
-}
-
 /// Puts the pieces last that a list of addresses is written in, each of them ASCII, on a line of its own. After want of memory
 /// a front of these lines may have been put.
 pub fn rewrite_list(alloc: Global, text: &[u8], made: &mut Octets) -> Result<(), AddressFault>
@@ -176,7 +165,7 @@ pub fn rewrite_list(alloc: Global, text: &[u8], made: &mut Octets) -> Result<(),
     match write_places(alloc, Lexemes::new(text, &marks), made) {
         Ok(()) => Ok(()),
         Err(AddressFault::Malformed) => {
-            cut_back(alloc, made, len);
+            made.truncate(len);
             Err(AddressFault::Malformed)
         }
         Err(AddressFault::Memory) => Err(AddressFault::Memory),

@@ -7,10 +7,9 @@ ghost use Rattle.field_tokens.specs.Lexemes.{lexemes_in};
 ghost use Rattle.address_grammar.specs.declared.Address.{Address};
 
 use crate::serving::served;
-use crate::writing::write_comments;
 use crate::written_mailboxes::push_angled;
 use address_grammar::{Address, AddressFault, mail_marks, read_path};
-use field_tokens::{Lexemes, Mark};
+use field_tokens::{Lexemes, Mark, write_comments};
 use mail_wire::{Memory, Octets};
 use std::alloc::Global;
 

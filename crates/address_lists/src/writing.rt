@@ -4,7 +4,7 @@ ghost use Rattle.std.specs.List.{AllByRecursion, list_all};
 ghost use Rattle.mail_wire.specs.Octets.{is_ascii as is_ascii_octet};
 ghost use Rattle.encoded_words.specs.Folding.{AddsLines};
 ghost use Rattle.encoded_words.specs.PhraseUnits.{IsUtf8Item};
-ghost use Rattle.field_tokens.specs.Comments.{AreWritableComments, CommentsPieces};
+ghost use Rattle.field_tokens.specs.Comments.{AreWritableComments};
 ghost use Rattle.field_tokens.specs.Lexemes.{value_of, values_of};
 ghost use Rattle.field_tokens.specs.Squeezed.{is_gap as is_gap_kind, is_there, octets_of, comments_of};
 ghost use Rattle.address_grammar.specs.Phrases.{IsPhrase, phrase_items};
@@ -16,7 +16,7 @@ ghost use Rattle.address_lists.specs.private.Emptied.{GivesUnits};
 use crate::ascii_texts::are_ascii;
 use address_grammar::{PhraseReader, front_before, is_blank};
 use encoded_words::{Unit, push_line, write_units};
-use field_tokens::{Lexeme, Lexemes, TokenKind, is_comment, write_comment};
+use field_tokens::{Lexeme, Lexemes, TokenKind, write_comments};
 use mail_wire::{Memory, Octets};
 use std::alloc::Global;
 
@@ -115,25 +115,6 @@ fn write_said(alloc: Global, lexemes: Lexemes<'_, '_>, made: &mut Octets) -> Res
         return Ok(());
     }
     push_line(made, b"\"\"")
-}
-
-// Puts the pieces of the comments among the tokens last.
-pub(crate) fn write_comments(
-    alloc: Global,
-    lexemes: Lexemes<'_, '_>,
-    made: &mut Octets,
-) -> Result<(), Memory>
-    requires { AreWritableComments (comments_of (values_of lexemes)) }
-    ensures { OnOk result (AddsLines (CommentsPieces (comments_of (values_of lexemes.entry))) made.old made.new) }
-{
-    let mut rest = lexemes;
-    while let Some((lexeme, behind)) = rest.split_first() {
-        if is_comment(lexeme.kind) {
-            write_comment(alloc, lexeme.octets, made)?;
-        }
-        rest = behind;
-    }
-    Ok(())
 }
 
 // Puts the pieces of a phrase last that ends with its last word.

@@ -11,11 +11,11 @@ ghost use Rattle.address_lists.specs.private.ListWriting.{CanBeWritten, IsServed
 use crate::ascii_texts::{are_ascii, write_text};
 use crate::emptied::write_not_kept;
 use crate::members::{find_member, is_served_group};
-use crate::writing::{write_comments, write_phrase};
+use crate::writing::write_phrase;
 use crate::written_mailboxes::write_mailbox;
 use address_grammar::{AddressFault, FoundMailbox, are_blank, split_at_mark, split_place};
 use encoded_words::push_line;
-use field_tokens::Lexemes;
+use field_tokens::{Lexemes, write_comments};
 use mail_wire::{Memory, Octets};
 use std::alloc::Global;
 

@@ -11,10 +11,10 @@ ghost use Rattle.address_lists.specs.private.ListWriting.{CanBeWritten, NamedPie
 
 use crate::emptied::write_not_served;
 use crate::serving::served;
-use crate::writing::{push_core, split_core, write_comments};
+use crate::writing::{push_core, split_core};
 use address_grammar::{Address, FoundMailbox, push_address, split_at_mark};
 use encoded_words::push_line;
-use field_tokens::Lexemes;
+use field_tokens::{Lexemes, write_comments};
 use mail_wire::{Memory, Octets};
 use std::alloc::Global;
 

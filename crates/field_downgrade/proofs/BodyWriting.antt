@@ -1,5 +1,5 @@
 -- The words of a body, written one segment after another.
-use Rattle.std.proofs.Common.{◌≡◌, true, not, ℕ, ◌<◌, List, [], ◌∷◌, ◌++◌, length, refl, sym, ap, ◌∙◌, subst, arith}
+use Rattle.std.proofs.Common.{◌≡◌, true, not, ℕ, ◌<◌, List, [], ◌∷◌, ◌++◌, length, sym, ap, ◌∙◌, subst, arith}
 use Rattle.std.proofs.lemmas.Grind.{flat_map-append}
 use Rattle.std.proofs.lemmas.List.{append-nil, length-append, nil_from_length}
 use Rattle.std.specs.List.{flat_map, list_all}
@@ -11,10 +11,10 @@ use Rattle.mail_wire.proofs.Folded.{IsFolded-plain, unfolded-folded}
 use Rattle.mail_wire.proofs.SpanLemmas.{span_once}
 use Rattle.encoded_words.specs.Folding.{AddsWordLines, made_body}
 use Rattle.field_downgrade.specs.declared.words.Stretch.{Stretch}
-use Rattle.field_downgrade.specs.Words.{Word, AreWords, AreUtf8, HasWords, word_octets, is_gap_octet, last_run, plain_text, copied_octets}
+use Rattle.field_downgrade.specs.Words.{Word, AreWords, AreUtf8, HasWords, word_octets, is_gap_octet, last_run, plain_text}
 use Rattle.field_downgrade.specs.Layout.{CutsLeft, CutsRight, begins_high, first_side, last_side, copied_pieces}
-use Rattle.field_downgrade.specs.private.Steps.{NeedsRun, SplitsCore, CanWrite}
-use Rattle.field_downgrade.specs.private.Stretches.{IsStretch, StandIn, SplitsLow, IsSplitLow, SplitsFirst, IsSplitCore, piece_where, CanWriteStretches, WritesStretches, WritesUnstructuredBody}
+use Rattle.field_downgrade.specs.private.Steps.{NeedsRun, CanWrite}
+use Rattle.field_downgrade.specs.private.Stretches.{IsStretch, SplitsLow, IsSplitLow, SplitsFirst, IsSplitCore, piece_where, CanWriteStretches, WritesStretches, WritesUnstructuredBody}
 use Rattle.field_downgrade.proofs.AllWords.{HasWords-some}
 use Rattle.field_downgrade.proofs.LineLemmas.{gap_run, copied_plain, copied_piece}
 use Rattle.field_downgrade.proofs.OneLayout.{words_first}

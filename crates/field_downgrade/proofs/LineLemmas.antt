@@ -7,7 +7,6 @@ use Rattle.mail_wire.specs.Lines.{crlf}
 use Rattle.mail_wire.proofs.Folded.{unfolded-folded}
 use Rattle.mail_wire.proofs.Unfolded.{unfolded-nil}
 use Rattle.encoded_words.specs.Folding.{made_body}
-use Rattle.field_downgrade.specs.declared.segments.Side.{Side}
 use Rattle.field_downgrade.specs.Words.{Word, AreWords, word_octets, copied_octets, plain_text, last_run}
 use Rattle.field_downgrade.specs.Layout.{last_side, side_of, copied_pieces}
 use Rattle.field_downgrade.specs.private.Stretches.{last_gap, piece_where}

@@ -2,15 +2,14 @@
 use Rattle.std.proofs.Common.{◌≡◌, ◌↔◌, IsTrue, ℕ, Bool, true, false, inl, inr, List, [], ◌∷◌, ◌++◌, refl, sym, ap, ◌∙◌, subst}
 use Rattle.std.proofs.lemmas.Bool.{and_parts, and_from, cases_Bool, true≢false}
 use Rattle.std.specs.List.{list_all}
-use Rattle.std.specs.Str.{IsUtf8}
 use Rattle.mail_wire.specs.Octets.{is_ascii}
 use Rattle.encoded_words.specs.Folding.{lines_of, AddsLines}
-use Rattle.encoded_words.proofs.LineLemmas.{adds_none, adds_these, adds_both}
+use Rattle.encoded_words.proofs.LineLemmas.{adds_these, adds_both}
 use Rattle.field_tokens.specs.declared.TokenKind.{TokenKind}
 use Rattle.field_tokens.specs.declared.TokenKind.TheVariants.{Atom, Quoted, Literal, Special, Gap, Comment}
 use Rattle.field_tokens.specs.Tokens.{TokenValue, HasTokenValues}
-use Rattle.field_tokens.specs.Squeezed.{is_blank, squeezed_values, is_comment, comments_of, words_of, is_atom_kind}
-use Rattle.field_tokens.specs.Comments.{IsComment, AreWritableComments, CommentPieces, CommentsPieces}
+use Rattle.field_tokens.specs.Squeezed.{is_blank, squeezed_values, comments_of, words_of, is_atom_kind}
+use Rattle.field_tokens.specs.Comments.{CommentsPieces}
 use Rattle.field_tokens.proofs.TokenLists.{AreTokens-once}
 use Rattle.field_downgrade.specs.PlainTexts.{style_where, IsAtomWhere, text_piece, PlainPieces}
 use Rattle.field_downgrade.specs.private.PlainSteps.{IsOneAtom}
@@ -64,52 +63,6 @@ no_one_atom tokens t rest same word other =
 
 pub no_atom : (tokens : List TokenValue) → words_of tokens ≡ [] → ¬ IsOneAtom tokens
 no_atom tokens none one = let some : [] ≡ one.0 ∷ [] = sym none ∙ one.1 in cc some
-
--- The pieces of comments.
-
--- with the pieces that were put, those of what is left are those of all comments
-pub record WritesRest (tokens rest : List TokenValue) (old made : List ℕ) : Type 0 where
-  pub writable : AreWritableComments (comments_of rest)
-  pub complete : (new : List ℕ) → AddsLines (CommentsPieces (comments_of rest)) made new → AddsLines (CommentsPieces (comments_of tokens)) old new
-
-pub WritesRest-start : (tokens : List TokenValue) (old : List ℕ) → AreWritableComments (comments_of tokens) → WritesRest tokens tokens old old
-WritesRest-start tokens old writable = record { writable = writable; complete = λ new adds. adds }
-
-one_more : (t : TokenValue) (rest : List TokenValue) → is_comment t.kind ≡ true → comments_of (t ∷ rest) ≡ t.octets ∷ comments_of rest
-one_more t rest e = rw (e) refl
-
-no_more : (t : TokenValue) (rest : List TokenValue) → is_comment t.kind ≡ false → comments_of (t ∷ rest) ≡ comments_of rest
-no_more t rest e = rw (e) refl
-
--- a comment that can be written
-pub record IsWritable (octets : List ℕ) : Type 0 where
-  pub comment : IsComment octets
-  pub utf8 : IsUtf8 octets
-
-pub comment_writable : (tokens : List TokenValue) (t : TokenValue) (rest : List TokenValue) (old made : List ℕ) → WritesRest tokens (t ∷ rest) old made → is_comment t.kind ≡ true → IsWritable t.octets
-comment_writable tokens t rest old made w e =
-    let can : AreWritableComments (t.octets ∷ comments_of rest) = subst AreWritableComments (one_more t rest e) w.writable in record { comment = can.0; utf8 = can.1 }
-
-pub WritesRest-comment : (tokens : List TokenValue) (t : TokenValue) (rest : List TokenValue) (old made next : List ℕ) → WritesRest tokens (t ∷ rest) old made → is_comment t.kind ≡ true
-    → AddsLines (CommentPieces t.octets) made next → WritesRest tokens rest old next
-WritesRest-comment tokens t rest old made next w e adds =
-    let same : comments_of (t ∷ rest) ≡ t.octets ∷ comments_of rest = one_more t rest e in
-    let can : AreWritableComments (t.octets ∷ comments_of rest) = subst AreWritableComments same w.writable in
-    record {
-      writable = can.2;
-      complete = λ new more.
-          let both : AddsLines (CommentsPieces (t.octets ∷ comments_of rest)) made new = adds_both (λ xs ys p q. (xs, ys, refl, p, q)) adds more in
-          w.complete new (subst (λ comments. AddsLines (CommentsPieces comments) made new) (sym same) both);
-    }
-
-pub WritesRest-other : (tokens : List TokenValue) (t : TokenValue) (rest : List TokenValue) (old made : List ℕ) → WritesRest tokens (t ∷ rest) old made → is_comment t.kind ≡ false → WritesRest tokens rest old made
-WritesRest-other tokens t rest old made w e =
-    let same : comments_of (t ∷ rest) ≡ comments_of rest = no_more t rest e in
-    record { writable = subst AreWritableComments same w.writable; complete = λ new more. w.complete new (subst (λ comments. AddsLines (CommentsPieces comments) made new) (sym same) more) }
-
-pub WritesRest-end : (tokens rest : List TokenValue) (old made : List ℕ) → WritesRest tokens rest old made → rest ≡ [] → AddsLines (CommentsPieces (comments_of tokens)) old made
-WritesRest-end tokens rest old made w end =
-    let none : CommentsPieces (comments_of rest) [] = subst (λ ts. CommentsPieces (comments_of ts) []) (sym end) refl in w.complete made (adds_none made none)
 
 -- What the tests tell.
 

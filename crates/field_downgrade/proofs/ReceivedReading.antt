@@ -1,15 +1,15 @@
 -- What the reader of Received fields finds.
-use Rattle.std.proofs.Common.{◌≡◌, ℕ, Bool, true, false, not, List, [], ◌∷◌, ◌++◌, Option, Some, None, refl, sym, ap, ◌∙◌, subst}
+use Rattle.std.proofs.Common.{◌≡◌, ℕ, Bool, true, false, not, List, [], ◌∷◌, ◌++◌, Some, None, refl, sym, ap, ◌∙◌, subst}
 use Rattle.std.proofs.lemmas.Bool.{and_parts, and_from}
 use Rattle.std.proofs.lemmas.List.{append_assoc, append-nil}
 use Rattle.std.proofs.lemmas.List.Folds.{list_all-append}
-use Rattle.std.specs.List.{list_all, flat_map}
+use Rattle.std.specs.List.{list_all}
 use Rattle.mail_wire.proofs.AllLemmas.{pass-append}
 use Rattle.encoded_words.specs.Folding.{AddsLines}
 use Rattle.encoded_words.proofs.LineLemmas.{adds_none, adds_both}
 use Rattle.field_tokens.specs.declared.Style.TheVariants.{Mail}
 use Rattle.field_tokens.specs.Tokens.{TokenValue}
-use Rattle.field_downgrade.specs.Received.{starts_clause, is_semicolon, is_inner, ClauseTokens, clause_tokens, date_tokens, ClausePieces}
+use Rattle.field_downgrade.specs.Received.{starts_clause, is_semicolon, is_inner, ClausePieces}
 use Rattle.field_downgrade.specs.private.ReceivedSteps.{AreRead, EndsOrBeginsSo, CutsTokens, CutsDate, clause_at, WritesClauses}
 use Rattle.field_downgrade.proofs.ReceivedDivision.{is_semicolon-is}
 use Rattle.field_downgrade.proofs.ReceivedLemmas.{read_front, read_rest}

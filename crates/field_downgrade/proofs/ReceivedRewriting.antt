@@ -2,7 +2,7 @@
 use Rattle.std.proofs.Common.{◌≡◌, ℕ, Bool, true, false, not, List, [], ◌∷◌, ◌++◌, Option, Some, None, refl, sym, ap, ◌∙◌, subst}
 use Rattle.std.proofs.lemmas.Bool.{and_parts, true≢false, not-true}
 use Rattle.std.proofs.lemmas.List.{append_assoc, append-nil}
-use Rattle.std.specs.List.{list_all, flat_map}
+use Rattle.std.specs.List.{list_all}
 use Rattle.std.specs.Str.{IsUtf8}
 use Rattle.mail_wire.specs.Octets.{is_ascii}
 use Rattle.encoded_words.specs.Folding.{lines_of, AddsLines}
@@ -13,7 +13,7 @@ use Rattle.field_tokens.specs.Squeezed.{octets_of, squeezed_values, comments_of}
 use Rattle.field_tokens.specs.Comments.{AreWritableComments, CommentsPieces}
 use Rattle.field_tokens.proofs.TokenLists.{AreTokens-once}
 use Rattle.field_tokens.proofs.TokenLines.{squeezed_line}
-use Rattle.field_downgrade.specs.Received.{starts_clause, is_semicolon, is_inner, clause_tokens, ReceivedParts, semicolon, date_tokens, are_blank_tokens, AreReceivedParts, date_text, with_space_before, served_text, served_piece, ClausePieces, DatePieces, ReceivedPieces}
+use Rattle.field_downgrade.specs.Received.{starts_clause, is_semicolon, is_inner, ReceivedParts, semicolon, date_tokens, are_blank_tokens, AreReceivedParts, date_text, with_space_before, served_text, served_piece, ClausePieces, DatePieces, ReceivedPieces}
 use Rattle.field_downgrade.specs.private.ReceivedSteps.{AreRead, EndsOrBeginsSo, CutsTokens, CutsDate, clause_at, WritesClauses}
 use Rattle.field_downgrade.proofs.ReceivedDivision.{put_token, parts_of, before_parts, parts_inner, parts_start, date_parts, are_parts_of}
 use Rattle.field_downgrade.proofs.ReceivedLemmas.{read_whole, read_front, read_rest, read_writable}

@@ -12,7 +12,7 @@ use Rattle.field_downgrade.specs.Words.{Word, AreUtf8, HasWords}
 use Rattle.field_downgrade.specs.Layout.{made_of, spaced}
 use Rattle.encoded_words.specs.Folding.{Piece, made_body, word_pieces}
 use Rattle.field_downgrade.specs.private.Steps.{WritesWords, AddsOctets, IsOther, KeepsWords, MakesUnstructured, MakesField, OfUnstructured, OfOther}
-use Rattle.field_downgrade.specs.Stands.{BeginsHyphen, IsHighField, IsChangedType, HasHighLayout, OfWords, OfPieces, Encapsulated, KeptMalformed, Copied, Made, StandsSo, SameMeaning, UnderOtherName, StillMalformed, Stands, Same, Ascii, downgraded_of}
+use Rattle.field_downgrade.specs.Stands.{BeginsHyphen, IsHighField, IsChangedType, HasHighLayout, OfWords, OfPieces, Encapsulated, KeptMalformed, Copied, Made, StandsSo, SameMeaning, UnderOtherName, StillMalformed, Same, Ascii, downgraded_of}
 use Rattle.field_downgrade.specs.Message.{IsServedField, PutsServed}
 use Rattle.field_downgrade.proofs.Made.{ArePieces, IsSameMeaning-made, HasParts-made, HasParts-pieces, pieces-ascii, field_ascii, words_are}
 use Rattle.field_downgrade.proofs.NulLemmas.{LackNul, LackNul-spaced, LackNul-words, KeepsNoNul-made, KeepsNoNul-pieces}

@@ -12,7 +12,7 @@ use Rattle.field_downgrade.specs.declared.segments.Side.{Side}
 use Rattle.field_downgrade.specs.declared.segments.Side.TheVariants.{Edge, Encoded, Plain}
 use Rattle.field_downgrade.specs.declared.words.Stretch.{Stretch}
 use Rattle.field_downgrade.specs.Words.{Word, AreWords, TellsEncoded, word_octets, is_word_octet, is_gap_octet, is_high_word, copied_octets}
-use Rattle.field_downgrade.specs.Layout.{IsCopied, side_of, first_side, last_side}
+use Rattle.field_downgrade.specs.Layout.{IsCopied, side_of, first_side}
 use Rattle.field_downgrade.specs.private.Steps.{BeginsCore, BeginsHigh, BeginsEncoded}
 use Rattle.field_downgrade.specs.private.Stretches.{last_gap, first_where, TellsSide, IsStretch, StandIn, IsSplitLow, IsSplitCore}
 use Rattle.field_downgrade.proofs.AllLayouts.{core_ends}

@@ -1,5 +1,5 @@
 //! Bodies of Content-Type fields that name message/global (RFC 6532, 3.7).
-ghost use Rattle.std.specs.Prelude.{◌≡◌, ◌||◌, ◌≤◌, ℕ, true, false, not, List, ◌∷◌, ◌++◌, length, filter, position, IfOk, IfSome, IfNone};
+ghost use Rattle.std.specs.Prelude.{◌≡◌, ◌||◌, ◌≤◌, ℕ, false, not, List, ◌∷◌, ◌++◌, length, filter, position, IfOk, IfSome, IfNone};
 ghost use Rattle.mail_wire.specs.Octets.{is_white as is_white_octet, is_line_end as is_line_end_octet};
 ghost use Rattle.mail_wire.specs.Folds.{IsFolded};
 ghost use Rattle.mail_wire.specs.Spans.{IsSpan};

@@ -1,6 +1,5 @@
 //! The kinds of fields.
 ghost use Rattle.std.specs.Prelude.{◌≡◌, ◌↔◌, IsTrue};
-ghost use Rattle.mail_wire.specs.Octets.{same_name};
 ghost use Rattle.field_downgrade.specs.Kinds.{is_originator_name, is_destination_name, is_resent_originator_name, is_resent_destination_name, is_address_name, is_id_name, is_plain_name, kind_named};
 ghost use Rattle.field_downgrade.specs.declared.kind.Kind.{Kind};
 ghost use Rattle.field_downgrade.specs.private.Steps.{KeepsWords};

@@ -1,9 +1,8 @@
 //! The rewriting of plain texts with comments.
 ghost use Rattle.std.specs.Prelude.{◌≡◌, ◌++◌, ◌↔◌, IfOk, OnOk, IsTrue};
-ghost use Rattle.encoded_words.specs.Folding.{lines_of, AddsLines};
-ghost use Rattle.field_tokens.specs.Comments.{AreWritableComments, CommentsPieces};
+ghost use Rattle.encoded_words.specs.Folding.{lines_of};
 ghost use Rattle.field_tokens.specs.Lexemes.{values_of};
-ghost use Rattle.field_tokens.specs.Squeezed.{comments_of, is_atom_kind};
+ghost use Rattle.field_tokens.specs.Squeezed.{is_atom_kind};
 ghost use Rattle.field_downgrade.specs.PlainTexts.{style_where as style_of, text_piece, PlainPieces};
 ghost use Rattle.field_downgrade.specs.private.PlainSteps.{IsOneAtom};
 ghost use Rattle.field_downgrade.specs.private.Steps.{WritesWhere};
@@ -11,7 +10,7 @@ ghost use Rattle.field_downgrade.specs.private.Steps.{WritesWhere};
 use crate::squeezing::squeezed;
 use address_grammar::are_blank;
 use encoded_words::push_line;
-use field_tokens::{Lexemes, Style, TokenKind, is_blank, is_comment, read_marks, write_comment};
+use field_tokens::{Lexemes, Style, TokenKind, is_blank, read_marks, write_comments};
 use mail_wire::{Memory, Octets, is_ascii};
 use std::alloc::Global;
 
@@ -46,25 +45,6 @@ fn is_one_atom(tokens: Lexemes<'_, '_>) -> bool
         rest = behind;
     }
     false
-}
-
-/// Puts the pieces of the comments among tokens last.
-pub fn write_comments(
-    alloc: Global,
-    tokens: Lexemes<'_, '_>,
-    made: &mut Octets,
-) -> Result<(), Memory>
-    requires { AreWritableComments (comments_of (values_of tokens)) }
-    ensures { OnOk result (AddsLines (CommentsPieces (comments_of (values_of tokens.entry))) made.old made.new) }
-{
-    let mut rest = tokens;
-    while let Some((token, behind)) = rest.split_first() {
-        if is_comment(token.kind) {
-            write_comment(alloc, token.octets, made)?;
-        }
-        rest = behind;
-    }
-    Ok(())
 }
 
 // Puts a text last on a line of its own, if it is one.

@@ -9,10 +9,9 @@ ghost use Rattle.field_downgrade.specs.private.ReceivedSteps.{AreRead, EndsOrBeg
 ghost use Rattle.field_downgrade.specs.private.Steps.{WritesWhere};
 
 use crate::lines::begin_line;
-use crate::plain::write_comments;
 use crate::squeezing::squeezed;
 use address_grammar::{are_blank, front_before, split_at_mark};
-use field_tokens::{Lexeme, Lexemes, Style, TokenKind, read_marks};
+use field_tokens::{Lexeme, Lexemes, Style, TokenKind, read_marks, write_comments};
 use mail_wire::{Memory, Octets, is_ascii, is_same_name};
 use std::alloc::Global;
 

@@ -1,5 +1,5 @@
 //! The rewriting of structured fields.
-ghost use Rattle.std.specs.Prelude.{◌≡◌, false, take, IfOk, OnOk, IsUtf8};
+ghost use Rattle.std.specs.Prelude.{◌≡◌, false, IfOk, OnOk, IsUtf8};
 ghost use Rattle.std.specs.List.{list_all};
 ghost use Rattle.mail_wire.specs.Octets.{is_ascii};
 ghost use Rattle.mail_wire.specs.Folds.{IsFolded};
@@ -23,7 +23,6 @@ use mail_wire::{Memory, Octets, is_same_name};
 use param_2231::rewrite_params;
 use param_grammar::{ParamFault, ParamKind};
 use std::alloc::Global;
-use std::mem;
 use utf8_fields::{Parts, value_of};
 
 #[tactic(auto, unfolding(crate::specs::Stands::is_encoding_name))]
@@ -102,15 +101,6 @@ fn write_value(
         Kind::Trace => rewrite_received(alloc, value, made),
         Kind::Plain => rewrite_plain(alloc, is_encoding_name(name), value, made),
     }
-}
-
-// Takes octets away until there are so many.
-fn cut_back(alloc: Global, made: &mut Octets, len: usize)
-    ensures { made.new ≡ take len made.old }
-{
-    let mut octets = mem::replace(made, Octets::new(alloc)).into_vec();
-    octets.truncate(len);
-    *made = Octets::from_vec(octets);
 }
 
 // Puts a field of its value's pieces last, where that has any, and answers whether it has. If not only its name was put.
@@ -194,6 +184,6 @@ pub fn push_structured(
     if push_pieces(alloc, open_global, parts, value.as_slice(), made)? {
         return Ok(());
     }
-    cut_back(alloc, made, len);
+    made.truncate(len);
     push_whole(open_global, made, parts, value.as_slice())
 }

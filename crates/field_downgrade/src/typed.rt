@@ -1,7 +1,6 @@
 //! The rewriting of addresses behind their type.
-ghost use Rattle.std.specs.Prelude.{◌≡◌, ◌++◌, ◌==◌, ℕ, List, true, length, codes, position, IfOk, OnOk, IfSome, IfNone, IsUtf8, ◌∷◌, []};
+ghost use Rattle.std.specs.Prelude.{◌≡◌, ◌++◌, ◌==◌, ℕ, List, true, codes, position, IfOk, OnOk, IfSome, IfNone, IsUtf8, ◌∷◌, []};
 ghost use Rattle.std.specs.List.{list_all};
-ghost use Rattle.mail_wire.specs.Octets.{same_name};
 ghost use Rattle.encapsulated_fields.specs.AddressForms.{xtext_form};
 ghost use Rattle.encoded_words.specs.Folding.{lines_of};
 ghost use Rattle.field_downgrade.specs.private.Steps.{WritesWhere};

@@ -18,7 +18,7 @@ use Rattle.encoded_words.proofs.WritableUnits.{behind_ascii}
 use Rattle.field_tokens.specs.Trees.{spelling, Body, Last, Before, body_octets, IsCommentBody, IsRun}
 use Rattle.field_tokens.specs.private.Bodies.{SplitsRun, body_depth, HoldsBody}
 use Rattle.field_tokens.specs.Comments.{IsComment, comment_of, HasRunOf, RunPieces, White, Run, WrappedPieces, BodyPieces, CommentPieces}
-use Rattle.field_tokens.specs.private.CommentWriting.{IsCommentWithin, BeginsComment, WritesRun, WritesText, WritesComment}
+use Rattle.field_tokens.specs.private.CommentWriting.{BeginsComment, WritesRun, WritesText, WritesComment}
 use Rattle.field_tokens.proofs.Texts.{spelling-append, text_once, open_stops, close_stops, AreText-append, AreText-white}
 use Rattle.field_tokens.proofs.BodyLemmas.{grouped, body_once}
 use Rattle.field_tokens.proofs.Runs.{lead_whole, run_some}

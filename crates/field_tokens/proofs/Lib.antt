@@ -22,3 +22,4 @@ pub mod LinePieces
 pub mod PieceLemmas
 pub mod WrittenComments
 pub mod CommentValues
+pub mod CommentsLeft

@@ -1,17 +1,18 @@
-//! The writer of comments.
-ghost use Rattle.std.specs.Prelude.{◌≡◌, ◌++◌, ◌∷◌, [], ◌≤◌, if◌then◌else◌, take, IfOk, OnOk, IsUtf8};
-ghost use Rattle.std.specs.List.{list_all};
-ghost use Rattle.mail_wire.specs.Octets.{is_ascii as is_ascii_of};
+//! The writers of comments.
+ghost use Rattle.std.specs.Prelude.{◌≡◌, ◌++◌, ◌∷◌, [], if◌then◌else◌, take, IfOk, OnOk, IsUtf8};
 ghost use Rattle.encoded_words.specs.Folding.{lines_of, AddsLines};
-ghost use Rattle.field_tokens.specs.Comments.{IsComment, CommentPieces};
+ghost use Rattle.field_tokens.specs.Comments.{IsComment, CommentPieces, AreWritableComments, CommentsPieces};
+ghost use Rattle.field_tokens.specs.Lexemes.{values_of};
+ghost use Rattle.field_tokens.specs.Squeezed.{comments_of};
 ghost use Rattle.field_tokens.specs.private.CommentWriting.{BeginsComment, WritesRun, WritesText, WritesComment};
 
+use crate::kinds::is_comment;
+use crate::lexemes::Lexemes;
 use crate::places::split_mark;
 use crate::trees::split_run;
 use encoded_words::{push_line, rewrite_comment};
 use mail_wire::{Memory, Octets, is_ascii, split_white};
 use std::alloc::Global;
-use std::mem;
 
 // Puts the pieces of a run last, and answers whether it is ASCII.
 fn write_run(alloc: Global, run: &[u8], made: &mut Octets) -> Result<bool, Memory>
@@ -45,27 +46,12 @@ fn write_text<'a>(
     Ok((ascii, after))
 }
 
-// Takes away what stands behind the first so many octets.
-fn cut_back(alloc: Global, made: &mut Octets, len: usize)
-    ensures { made.new ≡ take len made.old }
-{
-    let mut octets = mem::replace(made, Octets::new(alloc)).into_vec();
-    octets.truncate(len);
-    *made = Octets::from_vec(octets);
-}
-
 // Ends the pieces of a comment, which begin behind `start`: an ASCII comment becomes one piece.
-fn end_comment(
-    alloc: Global,
-    comment: &[u8],
-    ascii: bool,
-    start: usize,
-    made: &mut Octets,
-) -> Result<(), Memory>
+fn end_comment(comment: &[u8], ascii: bool, start: usize, made: &mut Octets) -> Result<(), Memory>
     ensures { OnOk result (made.new ≡ (if ascii then take start made.old ++ lines_of (comment.now ∷ []) else made.old ++ lines_of ((41 ∷ []) ∷ []))) }
 {
     if ascii {
-        cut_back(alloc, made, start);
+        made.truncate(start);
         return push_line(made, comment);
     }
     push_line(made, b")")
@@ -94,7 +80,7 @@ fn write_nested<'a>(
         if mark == b')' {
             let (comment, _) = octets.split_at(octets.len() - behind.len());
             let ascii_comment = ascii & ascii_text;
-            end_comment(alloc, comment, ascii_comment, start, made)?;
+            end_comment(comment, ascii_comment, start, made)?;
             return Ok((ascii_comment, behind));
         }
         let (ascii_nested, next) = write_nested(alloc, after, levels - 1, made)?;
@@ -113,5 +99,24 @@ pub fn write_comment(alloc: Global, comment: &[u8], made: &mut Octets) -> Result
         return push_line(made, comment);
     }
     write_nested(alloc, comment, 64, made)?;
+    Ok(())
+}
+
+/// Puts the pieces of the comments among lexemes last, each on a line of its own.
+pub fn write_comments(
+    alloc: Global,
+    lexemes: Lexemes<'_, '_>,
+    made: &mut Octets,
+) -> Result<(), Memory>
+    requires { AreWritableComments (comments_of (values_of lexemes)) }
+    ensures { OnOk result (AddsLines (CommentsPieces (comments_of (values_of lexemes.entry))) made.old made.new) }
+{
+    let mut rest = lexemes;
+    while let Some((lexeme, behind)) = rest.split_first() {
+        if is_comment(lexeme.kind) {
+            write_comment(alloc, lexeme.octets, made)?;
+        }
+        rest = behind;
+    }
     Ok(())
 }

@@ -11,7 +11,7 @@ mod reading;
 mod squeezing;
 mod trees;
 
-pub use comments::write_comment;
+pub use comments::{write_comment, write_comments};
 pub use kinds::{is_blank, is_comment};
 pub use lexemes::{Lexeme, Lexemes, Mark, read_marks};
 use mail_wire::Span;

@@ -1,5 +1,5 @@
 //! The reader of comments.
-ghost use Rattle.std.specs.Prelude.{◌≡◌, ◌<◌, ◌≤◌, ℕ, List, length, IfSome, IfNone, IfOk, OnOk};
+ghost use Rattle.std.specs.Prelude.{◌≡◌, ◌<◌, ◌≤◌, length, IfSome, IfNone, IfOk, OnOk};
 ghost use Rattle.mail_wire.specs.Octets.{is_white};
 ghost use Rattle.mail_wire.specs.Spans.{Stops};
 ghost use Rattle.field_tokens.specs.Tokens.{IsTokenOf};

@@ -1,1 +1,2 @@
 mod OneComment
+pub mod TextComments

@@ -4,7 +4,9 @@ ghost use Rattle.field_tokens.specs.Squeezed.{is_comment as is_comment_of};
 ghost use Rattle.field_tokens.specs.declared.Token.{Token};
 
 use encoded_words::push_line;
-use field_tokens::{Style, Token, is_comment, read_tokens, write_comment};
+use field_tokens::{
+    Lexemes, Style, Token, is_comment, read_marks, read_tokens, write_comment, write_comments,
+};
 use mail_wire::Octets;
 use std::alloc::Global;
 use std::test::Fail;
@@ -29,11 +31,36 @@ fn has_pieces(alloc: Global, comment: &str, wanted: &[&str]) -> Result<bool, Fai
     }
     let mut made = Octets::new(alloc);
     write_comment(alloc, octets, &mut made).map_err(|_| "memory")?;
+    are_lines(alloc, &made, wanted)
+}
+
+// Whether the octets are these lines.
+fn are_lines(alloc: Global, made: &Octets, wanted: &[&str]) -> Result<bool, Fail> {
     let mut lines = Octets::new(alloc);
     for piece in wanted {
         push_line(&mut lines, piece.as_bytes()).map_err(|_| "memory")?;
     }
     Ok(made.as_slice() == lines.as_slice())
+}
+
+// Whether the comments of a text have these pieces.
+fn comments_have_pieces(alloc: Global, text: &str, wanted: &[&str]) -> Result<bool, Fail> {
+    let octets = text.as_bytes();
+    let Ok(Some(marks)) = read_marks(alloc, Style::Mail, octets) else {
+        return Ok(false);
+    };
+    let mut made = Octets::new(alloc);
+    write_comments(alloc, Lexemes::new(octets, &marks), &mut made).map_err(|_| "memory")?;
+    are_lines(alloc, &made, wanted)
+}
+
+#[test]
+fn comments_among_other_tokens_are_written_in_their_order(rt: HostRuntime) -> Result<(), Fail> {
+    let alloc = rt.alloc();
+    let wanted = ["(x)", "(", "=?UTF-8?B?w6k=?=", ")", "(y z)"];
+    assert!(rt; comments_have_pieces(alloc, "(x) a\t(é), <b@c> (y z)", &wanted)?);
+    assert!(rt; comments_have_pieces(alloc, "a, é \"(x)\"", &[])?);
+    Ok(())
 }
 
 #[test]

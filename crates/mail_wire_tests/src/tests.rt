@@ -258,6 +258,21 @@ fn a_moment_has_its_texts(rt: HostRuntime) -> Result<(), Fail> {
 }
 
 #[test]
+fn octets_are_cut_back_to_their_first(rt: HostRuntime) -> Result<(), Fail> {
+    let alloc = rt.alloc();
+    let mut octets = Octets::from_slice(alloc, b"abc")?;
+    octets.truncate(4);
+    assert!(rt; octets.as_slice() == b"abc".as_slice());
+    octets.truncate(2);
+    assert!(rt; octets.as_slice() == b"ab".as_slice());
+    octets.push(b'd')?;
+    assert!(rt; octets.as_slice() == b"abd".as_slice());
+    octets.truncate(0);
+    assert!(rt; octets.is_empty());
+    Ok(())
+}
+
+#[test]
 fn items_stand_in_their_order(rt: HostRuntime) -> Result<(), Fail> {
     let alloc = rt.alloc();
     let mut items: Items<Octets> = Items::new(alloc);

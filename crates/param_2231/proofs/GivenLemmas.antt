@@ -4,17 +4,16 @@ use Rattle.std.proofs.lemmas.Bool.{cases_Bool, true≢false}
 use Rattle.std.proofs.lemmas.List.{append_assoc, append-nil, take_more, drop_more, drop_all}
 use Rattle.std.proofs.lemmas.List.Concat.{flat_map-append}
 use Rattle.std.proofs.lemmas.Slice.Eq.{bytes_eq-Decides}
-use Rattle.std.specs.Str.{IsUtf8, bytes_eq}
+use Rattle.std.specs.Str.{bytes_eq}
 use Rattle.encoded_words.specs.Words.{UnitValue}
-use Rattle.encoded_words.specs.Folding.{lines_of, AddsLines}
-use Rattle.encoded_words.proofs.LineLemmas.{lines_of-append}
+use Rattle.encoded_words.specs.Folding.{AddsLines}
 use Rattle.field_tokens.specs.declared.Style.TheVariants.{Mime}
 use Rattle.field_tokens.specs.declared.Token.{Token}
 use Rattle.field_tokens.specs.declared.lexemes.Mark.{Mark}
 use Rattle.field_tokens.specs.Lexemes.{lexemes_in}
 use Rattle.field_tokens.specs.Tokens.{TokenValue, HasTokens, HasTokenValues}
-use Rattle.field_tokens.specs.Squeezed.{is_comment, comments_of}
-use Rattle.field_tokens.specs.Comments.{IsComment, CommentPieces, CommentsPieces, AreWritableComments}
+use Rattle.field_tokens.specs.Squeezed.{comments_of}
+use Rattle.field_tokens.specs.Comments.{CommentsPieces, AreWritableComments}
 use Rattle.field_tokens.proofs.TokenLists.{AreTokens-once, HasTokens-once}
 use Rattle.field_tokens.proofs.TokenLines.{comments_are_writable}
 use Rattle.param_grammar.specs.declared.ParamKind.{ParamKind}
@@ -159,45 +158,6 @@ PiecesLeft-end lead text placed number old mid end left all has =
     subst (AddsBehind lead (PiecesGive all (params_of all) [] all) old) (append-nil mid) (left all has [] gives)
 
 -- ---- comments
-
--- The pieces of the comments so far were put: those of the comments that are left complete them.
-pub record CommentsLeft (all rest : List TokenValue) (old mid : List ℕ) : Type 0 where
-  pub can : AreWritableComments (comments_of rest)
-  pub onward : (more : List (List ℕ)) → CommentsPieces (comments_of rest) more → AddsLines (CommentsPieces (comments_of all)) old (mid ++ lines_of more)
-
-pub CommentsLeft-all : (all : List TokenValue) (old : List ℕ) → AreWritableComments (comments_of all) → CommentsLeft all all old old
-CommentsLeft-all all old can = record { can = can; onward = λ more gives. record { pieces = more; holds = gives; added = refl } }
-
-first_comment : (rest behind : List TokenValue) (token : TokenValue) → rest ≡ token ∷ behind → is_comment token.kind ≡ true → comments_of rest ≡ token.octets ∷ comments_of behind
-first_comment rest behind token cut is = ap comments_of cut ∙ rw is refl
-
-pub comment_next : (all rest behind : List TokenValue) (token : TokenValue) (old mid : List ℕ) → CommentsLeft all rest old mid → rest ≡ token ∷ behind → is_comment token.kind ≡ true
-    → IsComment token.octets × IsUtf8 token.octets
-comment_next all rest behind token old mid left cut is = let can = subst AreWritableComments (first_comment rest behind token cut is) left.can in (can.0, can.1)
-
-pub CommentsLeft-put : (all rest behind : List TokenValue) (token : TokenValue) (old mid new : List ℕ) → CommentsLeft all rest old mid → rest ≡ token ∷ behind → is_comment token.kind ≡ true
-    → AddsLines (CommentPieces token.octets) mid new → CommentsLeft all behind old new
-CommentsLeft-put all rest behind token old mid new left cut is adds =
-    let first = first_comment rest behind token cut is in
-    record {
-      can = (subst AreWritableComments first left.can).2;
-      onward = λ more gives.
-          let whole = left.onward (adds.pieces ++ more) (subst (λ cs. CommentsPieces cs (adds.pieces ++ more)) (sym first) (adds.pieces, more, refl, adds.holds, gives)) in
-          let put : mid ++ lines_of (adds.pieces ++ more) ≡ new ++ lines_of more
-          = ap (λ r. mid ++ r) (lines_of-append adds.pieces more) ∙ sym (append_assoc mid (lines_of adds.pieces) (lines_of more)) ∙ ap (λ r. r ++ lines_of more) (sym adds.added) in
-          subst (AddsLines (CommentsPieces (comments_of all)) old) put whole;
-    }
-
-pub CommentsLeft-other : (all rest behind : List TokenValue) (token : TokenValue) (old mid : List ℕ) → CommentsLeft all rest old mid → rest ≡ token ∷ behind → is_comment token.kind ≡ false
-    → CommentsLeft all behind old mid
-CommentsLeft-other all rest behind token old mid left cut other =
-    let same : comments_of rest ≡ comments_of behind = ap comments_of cut ∙ rw other refl in
-    record { can = subst AreWritableComments same left.can; onward = λ more gives. left.onward more (subst (λ cs. CommentsPieces cs more) (sym same) gives) }
-
-pub CommentsLeft-end : (all rest : List TokenValue) (old mid : List ℕ) → CommentsLeft all rest old mid → rest ≡ [] → AddsLines (CommentsPieces (comments_of all)) old mid
-CommentsLeft-end all rest old mid left end =
-    let none : CommentsPieces (comments_of rest) [] = subst (λ ts. CommentsPieces (comments_of ts) []) (sym end) refl in
-    subst (AddsLines (CommentsPieces (comments_of all)) old) (append-nil mid) (left.onward [] none)
 
 -- the comments of a text's tokens can be written
 pub writable_comments : (text : List ℕ) (tokens values : List TokenValue) → HasTokenValues Mime text tokens → values ≡ tokens → AreWritableComments (comments_of values)

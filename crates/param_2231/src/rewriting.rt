@@ -3,8 +3,7 @@ ghost use Rattle.std.specs.Prelude.{◌≡◌, ◌<◌, ◌++◌, ℕ, [], true,
 ghost use Rattle.std.specs.Str.{str_to_ascii_lowercase};
 ghost use Rattle.encoded_words.specs.Folding.{AddsLines};
 ghost use Rattle.field_tokens.specs.declared.Style.TheVariants.{Mime};
-ghost use Rattle.field_tokens.specs.Comments.{AreWritableComments, CommentValue, CommentsPieces};
-ghost use Rattle.field_tokens.specs.Lexemes.{values_of};
+ghost use Rattle.field_tokens.specs.Comments.{CommentValue, CommentsPieces};
 ghost use Rattle.field_tokens.specs.Squeezed.{comments_of};
 ghost use Rattle.field_tokens.specs.Tokens.{TokenValue, HasTokenValues};
 ghost use Rattle.param_grammar.specs.declared.Piece.{Piece};
@@ -18,7 +17,7 @@ ghost use Rattle.param_2231.specs.private.Lines.{AddsBehind, line_behind};
 
 use crate::writing::{begin_line, push_param};
 use encoded_words::{lower_case, push_line};
-use field_tokens::{Lexemes, Style, is_comment, read_marks, write_comment};
+use field_tokens::{Lexemes, Style, read_marks, write_comments};
 use mail_wire::{Memory, Octets};
 use param_grammar::{
     ParamFault, ParamKind, Place, Placed, Role, Tokens, base_at, place_pieces, push_written,
@@ -125,30 +124,15 @@ fn push_all_given(
     Ok(())
 }
 
-// Puts the pieces of comments among tokens last.
-fn push_comments(alloc: Global, tokens: Lexemes<'_, '_>, made: &mut Octets) -> Result<(), Memory>
-    requires { AreWritableComments (comments_of (values_of tokens)) }
-    ensures { OnOk result (AddsLines (CommentsPieces (comments_of (values_of tokens.entry))) made.old made.new) }
-{
-    let mut rest = tokens;
-    while let Some((token, behind)) = rest.split_first() {
-        if is_comment(token.kind) {
-            write_comment(alloc, token.octets, made)?;
-        }
-        rest = behind;
-    }
-    Ok(())
-}
-
 // Puts the pieces of the comments of a text last.
-fn write_comments(alloc: Global, text: &[u8], made: &mut Octets) -> Result<(), Memory>
+fn push_comments(alloc: Global, text: &[u8], made: &mut Octets) -> Result<(), Memory>
     requires { (tokens : List TokenValue) × HasTokenValues Mime text.now tokens }
     ensures { (tokens : List TokenValue) → HasTokenValues Mime text.now tokens → OnOk result (AddsLines (CommentsPieces (comments_of tokens)) made.old made.new) }
 {
     let Some(marks) = read_marks(alloc, Style::Mime, text)? else {
         unreachable!();
     };
-    push_comments(alloc, Lexemes::new(text, &marks), made)
+    write_comments(alloc, Lexemes::new(text, &marks), made)
 }
 
 // The pieces of a text by their places, and its main part as it is written. Nothing exactly where it has no parameters.
@@ -192,7 +176,7 @@ fn write_all(
     push_line(made, written_main(kind, open_global, main.as_slice()))?;
     push_all_given(alloc, text, &placed, made)?;
     drop(placed);
-    write_comments(alloc, text, made)?;
+    push_comments(alloc, text, made)?;
     Ok(true)
 }
 

@@ -1,5 +1,5 @@
 -- How units are written one after another, and what stands for addresses that can't be served.
-use Rattle.std.specs.Prelude.{◌≡◌, ℕ, true, false, if◌then◌else◌, List, [], ◌∷◌, ◌++◌}
+use Rattle.std.specs.Prelude.{◌≡◌, ℕ, if◌then◌else◌, List, [], ◌∷◌, ◌++◌}
 use Rattle.encoded_words.specs.declared.units.Merging.{Merging}
 use Rattle.encoded_words.specs.Folding.{AddsLines}
 use Rattle.encoded_words.specs.Words.{UnitValue, Text}

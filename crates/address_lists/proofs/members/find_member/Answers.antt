@@ -1,5 +1,4 @@
 use Rattle.std.proofs.Common.{Err, ap}
-use Rattle.address_grammar.specs.Found.{found_value}
 use Rattle.address_lists.proofs.members.find_member.Goals as goal
 
 pub unreachable-requires : goal.unreachable-requires

@@ -1,5 +1,5 @@
 use Rattle.field_tokens.specs.Lexemes.{values_of}
-use Rattle.address_lists.proofs.ListRewriting.{any_turn, any_stop, any_end}
+use Rattle.address_lists.proofs.ListRewriting.{any_end}
 use Rattle.address_lists.proofs.rewriting.has_element.Goals as goal
 
 pub returns : goal.returns

@@ -1,4 +1,3 @@
-use Rattle.std.proofs.lemmas.Result.{on_ok_weaker}
 use Rattle.std.proofs.Common.{Err, ap}
 use Rattle.encoded_words.proofs.LineLemmas.{adds_as}
 use Rattle.field_tokens.specs.Lexemes.{lexemes_in}
@@ -22,4 +21,4 @@ returns-in-Err-Malformed-clause-malformed c = λ e elements comments says.
 pub returns-in-Err-Malformed-clause-unchanged : goal.returns-in-Err-Malformed-clause-unchanged
 returns-in-Err-Malformed-clause-unchanged c = λ e.
     let more = c.in-Err-Malformed.ensures.more (ap Err c.in-Err-Malformed.field-0-is) in
-    rw (c.cut_back.ensures, c.len-len.ensures) (front_kept _ _ more.0 more.1)
+    rw (c.truncate.ensures, c.len-len.ensures) (front_kept _ _ more.0 more.1)

@@ -1,4 +1,3 @@
-use Rattle.std.proofs.lemmas.Result.{on_ok_weaker}
 use Rattle.address_lists.proofs.ListRewriting.{blank_place}
 use Rattle.address_lists.proofs.rewriting.write_empty.Goals as goal
 

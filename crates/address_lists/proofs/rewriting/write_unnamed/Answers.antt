@@ -1,8 +1,7 @@
-use Rattle.std.proofs.Common.{◌≡◌, Err, sym, ap, ◌∙◌}
+use Rattle.std.proofs.Common.{◌≡◌, Err, ap}
 use Rattle.std.proofs.lemmas.Result.{err_from_is_err_and}
 use Rattle.address_grammar.specs.declared.AddressFault.TheVariants.{Malformed}
 use Rattle.address_grammar.proofs.PathLemmas.{fault_is}
-use Rattle.std.proofs.lemmas.Result.{on_ok_weaker}
 use Rattle.address_grammar.proofs.WholeLists.{single_malformed}
 use Rattle.address_lists.proofs.ListRewriting.{single_gives}
 use Rattle.address_lists.proofs.rewriting.write_unnamed.Goals as goal

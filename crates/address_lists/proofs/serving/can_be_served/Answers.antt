@@ -1,4 +1,4 @@
-use Rattle.std.proofs.Common.{is_some, sym, ap, ◌∙◌}
+use Rattle.std.proofs.Common.{sym, ◌∙◌}
 use Rattle.address_lists.proofs.ServedLists.{local_not_served, domain_ascii, domain_served}
 use Rattle.address_lists.proofs.serving.can_be_served.Goals as goal
 

@@ -1,4 +1,4 @@
-use Rattle.std.proofs.Common.{◌≡◌, Err, sym, ap, ◌∙◌}
+use Rattle.std.proofs.Common.{◌≡◌, Err, ap}
 use Rattle.std.proofs.lemmas.Result.{err_from_is_err_and}
 use Rattle.address_grammar.specs.declared.AddressFault.TheVariants.{Malformed}
 use Rattle.address_grammar.proofs.PathLemmas.{fault_is}

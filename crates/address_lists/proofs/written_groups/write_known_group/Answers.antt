@@ -2,7 +2,7 @@ use Rattle.std.proofs.Common.{sym, ◌∙◌}
 use Rattle.std.proofs.lemmas.Result.{on_ok_weaker}
 use Rattle.address_grammar.specs.AddressLists.{Group}
 use Rattle.address_lists.proofs.ListRewriting.{element_blank, ascii_element, group_element}
-use Rattle.std.proofs.Common.{true, false, subst}
+use Rattle.std.proofs.Common.{subst}
 use Rattle.field_tokens.specs.Lexemes.{values_of}
 use Rattle.address_lists.specs.private.ListWriting.{IsServedGroup}
 use Rattle.address_lists.proofs.written_groups.write_known_group.Goals as goal

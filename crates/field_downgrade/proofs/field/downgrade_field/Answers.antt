@@ -1,4 +1,3 @@
-use Rattle.std.proofs.Common.{refl}
 use Rattle.field_downgrade.proofs.Rewriting.{first_served}
 use Rattle.field_downgrade.proofs.field.downgrade_field.Goals as goal
 

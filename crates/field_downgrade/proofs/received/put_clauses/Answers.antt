@@ -1,4 +1,3 @@
-use Rattle.std.proofs.Common.{length, ap, ◌∙◌, arith, length-append}
 use Rattle.field_downgrade.proofs.ReceivedReading.{WalksClauses-start, clause_turn, WalksClauses-end}
 use Rattle.field_downgrade.proofs.received.put_clauses.Goals as goal
 

@@ -1,4 +1,4 @@
-use Rattle.std.proofs.Common.{◌++◌, sym, subst}
+use Rattle.std.proofs.Common.{sym, subst}
 use Rattle.std.specs.Str.{IsUtf8}
 use Rattle.encoded_words.specs.Folding.{AddsWordLines}
 use Rattle.field_downgrade.proofs.Writing.{OnOk-then}

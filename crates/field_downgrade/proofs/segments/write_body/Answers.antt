@@ -1,6 +1,6 @@
 use Rattle.std.proofs.Common.{◌≡◌, ◌<◌, length, arith}
 use Rattle.std.proofs.lemmas.Bool.Decides.{nat_tests}
-use Rattle.field_downgrade.proofs.BodyWriting.{body_start, Turn, turn, turn_can, turn_next, turn_smaller, body_end}
+use Rattle.field_downgrade.proofs.BodyWriting.{body_start, turn, turn_can, turn_next, turn_smaller, body_end}
 use Rattle.field_downgrade.proofs.segments.write_body.Goals as goal
 
 pub loop-copied-init : goal.loop-copied-init

@@ -1,4 +1,4 @@
-use Rattle.std.proofs.Common.{OnOk, subst, sym, ap, length, take, ◌∙◌}
+use Rattle.std.proofs.Common.{OnOk, subst, ap, take, ◌∙◌}
 use Rattle.utf8_fields.specs.private.Views.{parts_value}
 use Rattle.field_downgrade.specs.private.Steps.{AddsOctets, MakesField}
 use Rattle.field_downgrade.proofs.StructuredFields.{body_utf8}
@@ -19,5 +19,5 @@ push_whole-requires-clause-utf8 c = rw c.as_slice-2.ensures (body_utf8 c.args.pa
 pub returns : goal.returns
 returns c =
     let puts = rw (c.if-branch.false, c.as_slice.ensures) at c.in_ok-push_pieces.ensures in
-    let cut = cut_old c.args.made.now _ c.push_pieces.new.made c.cut_back.new.made puts.1 (c.cut_back.ensures ∙ ap (λ n. take n c.push_pieces.new.made) c.len-len.ensures) in
+    let cut = cut_old c.args.made.now _ c.push_pieces.new.made c.truncate.new.self puts.1 (c.truncate.ensures ∙ ap (λ n. take n c.push_pieces.new.made) c.len-len.ensures) in
     subst (λ old. OnOk c.push_whole.result (AddsOctets (MakesField c.args.open_global (parts_value c.args.parts.now)) old c.push_whole.new.made)) cut c.push_whole.ensures

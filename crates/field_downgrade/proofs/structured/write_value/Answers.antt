@@ -1,4 +1,3 @@
-use Rattle.std.proofs.Common.{refl}
 use Rattle.address_lists.specs.PathPieces.{PathPieces}
 use Rattle.field_downgrade.proofs.StructuredWriting.{path_written}
 use Rattle.field_downgrade.proofs.structured.write_value.Goals as goal

@@ -1,4 +1,4 @@
-use Rattle.std.proofs.Common.{◌≡◌, ◌<◌, length, arith}
+use Rattle.std.proofs.Common.{◌<◌, length, arith}
 use Rattle.std.proofs.lemmas.Bool.Decides.{nat_tests}
 use Rattle.field_tokens.proofs.MarkLemmas.{CountsTokens-none, CountsTokens-turn, counts_never}
 use Rattle.field_tokens.proofs.lexemes.count_tokens.Goals as goal

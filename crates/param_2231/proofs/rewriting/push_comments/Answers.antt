@@ -1,22 +1,19 @@
-use Rattle.std.proofs.Common.{sym, ◌∙◌}
-use Rattle.param_2231.proofs.GivenLemmas.{CommentsLeft-all, comment_next, CommentsLeft-put, CommentsLeft-other, CommentsLeft-end}
+use Rattle.std.proofs.Common.{ap, ◌∙◌}
+use Rattle.std.proofs.lemmas.Result.{on_ok_weaker}
+use Rattle.field_tokens.specs.Lexemes.{lexemes_in, values_of}
+use Rattle.param_2231.proofs.GivenLemmas.{writable_comments, same_comments}
 use Rattle.param_2231.proofs.rewriting.push_comments.Goals as goal
 
-pub loop-token-init : goal.loop-token-init
-loop-token-init c = CommentsLeft-all _ _ c.requires
+pub unreachable-requires : goal.unreachable-requires
+unreachable-requires c = (rw (c.in_default.is) at c.in_ok-marks.ensures.none) c.requires.0 c.requires.1
 
-pub write_comment-requires-clause-comment : goal.write_comment-requires-clause-comment
-write_comment-requires-clause-comment c = (comment_next _ _ _ _ _ _ c.loop-token.invariant c.in-Some.ensures.found (sym c.is_comment.ensures ∙ c.if-is_comment.true)).0
-
-pub write_comment-requires-clause-utf8 : goal.write_comment-requires-clause-utf8
-write_comment-requires-clause-utf8 c = (comment_next _ _ _ _ _ _ c.loop-token.invariant c.in-Some.ensures.found (sym c.is_comment.ensures ∙ c.if-is_comment.true)).1
-
-pub loop-token-preserved-in_ok-write_comment : goal.loop-token-preserved-in_ok-write_comment
-loop-token-preserved-in_ok-write_comment c =
-    CommentsLeft-put _ _ _ _ _ _ _ c.loop-token.invariant c.in-Some.ensures.found (sym c.is_comment.ensures ∙ c.if-is_comment.true) c.in_ok-write_comment.ensures
-
-pub loop-token-preserved : goal.loop-token-preserved
-loop-token-preserved c = CommentsLeft-other _ _ _ _ _ _ c.loop-token.invariant c.in-Some.ensures.found (sym c.is_comment.ensures ∙ c.if-is_comment.false)
+pub write_comments-requires : goal.write_comments-requires
+write_comments-requires c =
+    writable_comments c.args.text.now (lexemes_in c.args.text.now c.in-Some.marks.items) (values_of c.new.result) (rw (c.in-Some.is) at c.in_ok-marks.ensures.some)
+    (c.new.ensures ∙ ap (lexemes_in c.args.text.now) c.deref.ensures.value)
 
 pub returns : goal.returns
-returns c = CommentsLeft-end _ _ _ _ c.loop-token.invariant c.in_default.ensures.none
+returns c = λ tokens has.
+    on_ok_weaker c.write_comments.result
+    (same_comments c.args.text.now (lexemes_in c.args.text.now c.in-Some.marks.items) (values_of c.new.result) tokens _ _ (rw (c.in-Some.is) at c.in_ok-marks.ensures.some)
+    (c.new.ensures ∙ ap (lexemes_in c.args.text.now) c.deref.ensures.value) has) c.write_comments.ensures

@@ -1,4 +1,4 @@
-use Rattle.std.proofs.Common.{sym, ◌∙◌}
+use Rattle.std.proofs.Common.{sym}
 use Rattle.field_tokens.proofs.MarkLemmas.{lexemes_in-length}
 use Rattle.field_tokens.proofs.lexemes.Lexemes.len.Goals as goal
 
