@@ -25,6 +25,18 @@ fn pieces_in_falling_order_are_joined(rt: HostRuntime) -> Result<(), Fail> {
 }
 
 #[test]
+fn quoted_values_are_what_they_say(rt: HostRuntime) -> Result<(), Fail> {
+    let text = b"a; x=\"b; y=\\\"c\"; z=\"\"";
+    let read = read_params(rt.alloc(), ParamKind::Disposition, text).map_err(|_| "nothing")?;
+    let [x, z] = read.list.as_slice() else {
+        return Err(Fail::from("other parameters"));
+    };
+    assert!(rt; is_text(x, b"x", b"b; y=\"c"));
+    assert!(rt; is_text(z, b"z", b""));
+    Ok(())
+}
+
+#[test]
 fn pieces_are_joined_by_number(rt: HostRuntime) -> Result<(), Fail> {
     let text = b"a; x*10=k; x*9=j; x*8=i; x*7=h; x*6=g; x*5=f; x*4=e; x*3=d; x*2=c; x*1=b; x*0=a";
     let read = read_params(rt.alloc(), ParamKind::Disposition, text).map_err(|_| "nothing")?;

@@ -1,7 +1,9 @@
 //! Names, numbers, escapes and extended values.
 use encoded_words::Unit;
 use mail_wire::Octets;
-use param_grammar::{number_below, push_escaped, read_escaped, read_name, split_extended, unit_of};
+use param_grammar::{
+    number_below, push_escaped, read_escaped, read_name, split_extended, unit_of, unquoted,
+};
 use std::test::Fail;
 
 fn is_read(name: &[u8], base: &[u8], number: &[u8], is_extended: bool) -> bool {
@@ -71,6 +73,14 @@ fn other_octets_are_escaped(rt: HostRuntime) -> Result<(), Fail> {
     let mut made = Octets::new(rt.alloc());
     push_escaped(&mut made, "é '~.txt".as_bytes()).map_err(|_| "memory")?;
     assert_eq!(rt; made.as_slice(), b"%C3%A9%20%27~.txt".as_slice());
+    Ok(())
+}
+
+#[test]
+fn quoted_pairs_are_their_second_octets(rt: HostRuntime) -> Result<(), Fail> {
+    let octets = unquoted(rt.alloc(), b"a\\\"b\\\\\\c\\").map_err(|_| "memory")?;
+    // Behind the last backslash nothing stands.
+    assert_eq!(rt; octets.as_slice(), b"a\"b\\c\\".as_slice());
     Ok(())
 }
 
