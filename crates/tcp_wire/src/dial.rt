@@ -1,5 +1,5 @@
 //! The dial of a server over TCP.
-ghost use Rattle.std.specs.Prelude.{None, false};
+ghost use Rattle.std.specs.Prelude.{None, false, ◌≡◌};
 
 use crate::stream::TcpWire;
 use mail_wire::{Dial, Failed, Faults, WireFailure};
@@ -55,7 +55,13 @@ pub struct TcpDial<N> {
 }
 
 impl<N> TcpDial<N> {
-    pub fn new(alloc: Global, net: N) -> Self {
+    /// A dial that has failed at nothing.
+    pub fn new(alloc: Global, net: N) -> Self
+        ensures net { result.net ≡ net }
+        ensures count { result.faults.count ≡ 0 }
+        ensures failure { result.faults.last ≡ None }
+        ensures wire_failure { result.handed_back ≡ None }
+    {
         TcpDial {
             alloc,
             net,
@@ -65,12 +71,16 @@ impl<N> TcpDial<N> {
     }
 
     /// Why the last connection that couldn't be made wasn't.
-    pub fn failure(&self) -> Option<io::Error> {
+    pub fn failure(&self) -> Option<io::Error>
+        ensures { result ≡ self.now.faults.last }
+    {
         self.faults.last
     }
 
     /// Why the last call of the connection that was handed back last failed, where one did.
-    pub fn wire_failure(&self) -> Option<WireFailure> {
+    pub fn wire_failure(&self) -> Option<WireFailure>
+        ensures { result ≡ self.now.handed_back }
+    {
         self.handed_back
     }
 }

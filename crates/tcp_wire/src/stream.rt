@@ -1,6 +1,7 @@
 //! A connected stream as a wire. It tells nothing of what it carries, and counts its failures.
 ghost use Rattle.std.specs.Prelude.{◌<◌};
 ghost use Rattle.std.specs.Duration.{as_nanos};
+ghost use Rattle.mail_wire.specs.Causes.{HasCause};
 
 use mail_wire::{Failed, StdWire, Wire, WireFailure};
 use std::alloc::Global;
@@ -33,7 +34,9 @@ impl TcpWire {
     }
 
     /// Lets all that was given go out. The last call of a wire.
-    pub fn finish(&mut self) -> Result<(), Failed> {
+    pub fn finish(&mut self) -> Result<(), Failed>
+        ensures { HasCause (⟦<TcpWire as Wire>⟧.tells self.old).faults (⟦<TcpWire as Wire>⟧.tells self.new).faults result }
+    {
         self.sides.finish()
     }
 
