@@ -49,7 +49,8 @@ install: $(PROGRAM)
 
 uninstall:
 	rm -f $(DESTDIR)$(PREFIX)/bin/dervlask $(DESTDIR)$(PREFIX)/share/man/man1/dervlask.1
-	rm -rf $(DESTDIR)$(PREFIX)/share/doc/dervlask
+	rm -f $(LICENSES:%=$(DESTDIR)$(PREFIX)/share/doc/dervlask/%)
+	-rmdir $(DESTDIR)$(PREFIX)/share/doc/dervlask
 
 bench: $(PROGRAM)
 	python3 bench/run $(PROGRAM)
