@@ -2,7 +2,7 @@
 use Rattle.std.specs.Prelude.{◌≡◌, ◌≢◌, ℕ, ◌<◌, ◌≤◌, List, ◌++◌, length, take, map, Bool, true, false, ◌||◌, not, Option, Some, None, is_some, Result, Ok, Err, nat_lt, slice_get, IfSome, if◌then◌else◌}
 use Rattle.std.specs.List.{All, flat_map, list_all}
 use Rattle.std.specs.Option.{option_map_or}
-use Rattle.mail_wire.specs.Keeping.{with_last}
+use Rattle.mail_wire.specs.Keeping.{one_more, with_last}
 use Rattle.mail_wire.specs.KeeperTelling.{KeeperTelling}
 use Rattle.address_grammar.specs.declared.Address.{Address}
 use Rattle.mail_store.specs.declared.changing.StoreFault.{StoreFault}
@@ -43,6 +43,15 @@ pub record LeavesAll {T : Type 0} (old new : StoreState) (before now : KeeperTel
   pub store : new ≡ old
   pub keeper : now ≡ before
   pub answer : result ≢ Err faults.Keeper
+
+-- What a call that wasn't done left of the keeper. A refused one didn't come to it, so that it tells the same. One that the keeper broke
+-- off made its one append, and one that wanted memory made none.
+abbrev pub LeavesKeeper : KeeperTelling → KeeperTelling → StoreFault → Type 0
+LeavesKeeper before now faults.Keeper = now.appends ≡ one_more before.appends
+LeavesKeeper before now faults.Memory = now.appends ≡ before.appends
+LeavesKeeper before now faults.Exists = now ≡ before
+LeavesKeeper before now faults.NoSuch = now ≡ before
+LeavesKeeper before now faults.TooLarge = now ≡ before
 
 -- The call is refused exactly so, unless memory was wanted; and only a call that isn't refused comes to the keeper.
 abbrev pub IsRefusedAs : {T : Type 0} → Result T StoreFault → Option StoreFault → Type 0

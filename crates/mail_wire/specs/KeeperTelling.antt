@@ -4,6 +4,8 @@ use Rattle.std.specs.Prelude.{ℕ, List, Option, Bool}
 pub record KeeperTelling : Type 0 where
   -- the octets that it keeps, where it tells
   pub octets : Option (List ℕ)
+  -- how many appends were made, where it tells
+  pub appends : Option ℕ
   -- how often the outside has failed
   pub faults : ℕ
   -- it tells that it never fails
