@@ -44,6 +44,7 @@ pub record HasPath (text : List ℕ) (answer : Option Address) : Type 0 where
 abbrev pub ComesInPath : Address → Type 0
 ComesInPath address = (text : List ℕ) × HasPath text (Some address)
 
+-- The octets between angle brackets.
 abbrev pub in_angles : List ℕ → List ℕ
 in_angles octets = 60 ∷ (octets ++ 62 ∷ [])
 

@@ -21,6 +21,7 @@ StandsForMailboxIf true m (One made) = IsServedMailbox m made
 StandsForMailboxIf true m (Group name members) = ⊥
 StandsForMailboxIf false m made = made ≡ Group (mailbox_units m) []
 
+-- What is read back for a mailbox: the same where its address can be served, and else a group without members (RFC 6857, 3.2).
 abbrev pub StandsForMailbox : MailboxValue → ElementValue → Type 0
 StandsForMailbox m made = StandsForMailboxIf (has_served_address m) m made
 
@@ -30,6 +31,7 @@ StandsForGroupIf true name members (One made) = ⊥
 StandsForGroupIf true name members (Group same made) = (same ≡ name) × AllZip IsServedMailbox members made
 StandsForGroupIf false name members made = made ≡ Group (group_units name members) []
 
+-- What is read back for an element: for a mailbox, it or a group without members; for a group, it or one without members.
 abbrev pub StandsForElement : ElementValue → ElementValue → Type 0
 StandsForElement (One m) made = StandsForMailbox m made
 StandsForElement (Group name members) made = StandsForGroupIf (list_all has_served_address members) name members made

@@ -22,6 +22,7 @@ use Rattle.imap_grammar.specs.declared.awaited.Awaited.TheVariants as awaited
 use Rattle.imap_grammar.specs.declared.awaited.Next.{Next}
 use Rattle.imap_grammar.specs.declared.awaited.Next.TheVariants.{Whole, Awaits}
 
+-- The command of a word with the mailbox that it names.
 abbrev pub named : Naming → List ℕ → Command
 named naming.Select = command.Select
 named naming.Examine = command.Examine
@@ -98,5 +99,6 @@ abbrev pub Comes : Bool → (List ℕ → Command → Type 0) → List ℕ → N
 Comes utf8 L text (Whole c) rest = Reads L never text c rest
 Comes utf8 L text (Awaits size a) rest = IsAfterHeader text size rest × IsSized size a × Leaves L text (IsRestAtLiteral utf8 size a) rest
 
+-- The literal that was announced: whether it comes in UTF8, and its size.
 abbrev pub announced_of : Bool × ℕ → Announced
 announced_of front = record { utf8 = front.0; size = front.1 }

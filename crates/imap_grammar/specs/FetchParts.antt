@@ -26,12 +26,15 @@ use Rattle.imap_grammar.specs.declared.fetch.Step.TheVariants.{Read, Awaits}
 
 -- ---- items that were put last
 
+-- A FETCH with these items put last.
 abbrev pub with_items : Fetching → List FetchItem → Fetching
 with_items f items = record { uid = f.uid; set = f.set; items = f.items ++ items; listed = f.listed }
 
+-- A list of fields with this name put last.
 abbrev pub with_name : FieldNames → List ℕ → FieldNames
 with_name f name = record { fetching = f.fetching; peek = f.peek; path = f.path; negated = f.negated; names = f.names ++ name ∷ [] }
 
+-- A section with this part number put last.
 abbrev pub with_number : Begun → ℕ → Begun
 with_number b number = record { fetching = b.fetching; peek = b.peek; path = b.path ++ number ∷ [] }
 
@@ -111,6 +114,7 @@ IsBehindAny utf8 word.Fast = Is (macro_items word.Fast)
 IsBehindAny utf8 word.Full = Is (macro_items word.Full)
 IsBehindAny utf8 w = Then (IsBehindItem utf8 w) (λ i. Is (i ∷ []))
 
+-- What is left of a FETCH behind the word of an item or of a macro.
 abbrev pub IsRestOf : Bool → Fetching → ItemWord → List ℕ → Command → Type 0
 IsRestOf utf8 f w = Then (IsBehindAny utf8 w) (IsBehindThese utf8 f)
 

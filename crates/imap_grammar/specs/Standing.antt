@@ -56,6 +56,7 @@ abbrev pub size_of : Stage → ℕ
 size_of Begin = 0
 size_of (Behind tag size a) = size
 
+-- The literal that is awaited is the data of an APPEND.
 abbrev pub is_data : Stage → Bool
 is_data (Behind tag size (awaited.AppendData mailbox flags date in_utf8)) = true
 is_data stage = false
@@ -109,6 +110,7 @@ TurnTells utf8 octets (turn.Whole tag c) = IsCommand utf8 octets (record { tag =
 TurnTells utf8 octets (turn.Awaits tag size a) = Leaves (IsCommand utf8) octets (left_of utf8 (Behind tag size a)) [] × Reached utf8 (Behind tag size a) octets × HasNoDataBefore utf8 octets
 TurnTells utf8 octets (turn.Bad tag left) = (left ≤ length octets) × IsFirstBad (IsCommand utf8) octets (length octets - left) × HasTag octets tag
 
+-- What a line brings behind this tag: a whole command, or a wait for a literal.
 abbrev pub went_on : List ℕ → Next → Turn
 went_on tag (next.Whole c) = turn.Whole tag c
 went_on tag (next.Awaits size a) = turn.Awaits tag size a
@@ -151,11 +153,13 @@ abbrev pub EndsThere : Reader → List ℕ → Found → Type 0
 EndsThere reader piece (found.Whole used) = HasLineEnd (line_with reader (take used piece))
 EndsThere reader piece f = ⊤
 
+-- What was found uses no more octets than the piece has.
 abbrev pub IsFoundWithin : Found → List ℕ → Type 0
 IsFoundWithin (found.Whole used) piece = used ≤ length piece
 IsFoundWithin (found.TooLong used) piece = used ≤ length piece
 IsFoundWithin found.Waiting piece = ⊤
 
+-- What a reader finds in a piece: nothing that is due, the line with which something is due, or that the command is too long.
 abbrev pub Finds : Bool → Reader → (seen piece : List ℕ) → Found → Type 0
 Finds utf8 reader seen piece found.Waiting = NothingBefore utf8 seen piece (length piece + 1) × (first_line (line_with reader piece) ≡ None) × IsUnderLimit reader piece
 Finds utf8 reader seen piece (found.Whole used) =

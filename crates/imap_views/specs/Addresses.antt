@@ -25,6 +25,7 @@ plain_item Comment octets = Separator
 abbrev pub plain_words : List TokenValue → List PhraseWord
 plain_words tokens = phrase_words true (map (λ t. plain_item t.kind t.octets) tokens)
 
+-- The words of a phrase as they stand, with spaces between them.
 abbrev pub plain_text : List TokenValue → List ℕ
 plain_text tokens = flat_map (λ (w : PhraseWord). w.octets ++ w.gap) (plain_words tokens)
 

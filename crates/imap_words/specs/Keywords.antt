@@ -1,6 +1,7 @@
 -- Words of a table, in any case of their letters (RFC 3501, 9, rule 1).
 use Rattle.std.specs.Prelude.{◌≡◌, ℕ, ◌-◌, ◌<◌, ◌≤◌, nat_lt, Bool, true, ◌&&◌, List, [], ◌∷◌, ◌++◌, length, take, get_or, map, Contains, Option, MatchOption, if◌then◌else◌}
 
+-- The ASCII letter in upper case, and any other octet as it is.
 abbrev pub upper : ℕ → ℕ
 upper x = if nat_lt 96 x && nat_lt x 123 then x - 32 else x
 

@@ -34,6 +34,7 @@ record_text one = octet_list (fields_of one)
 abbrev pub first_octets : List ℕ
 first_octets = codes "MAILJNL1"
 
+-- The octets of a journal: its first eight, and each record in order.
 abbrev pub journal : List Record → List ℕ
 journal all = first_octets ++ flat_map record_text all
 

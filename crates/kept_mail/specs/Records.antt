@@ -19,6 +19,7 @@ abbrev pub IsLive : Option Message → Type 0
 IsLive None = ⊥
 IsLive (Some message) = IsTrue message.live
 
+-- The recipient is there and isn't settled.
 abbrev pub IsWaiting : Option Recipient → Type 0
 IsWaiting None = ⊥
 IsWaiting (Some recipient) = IsTrue recipient.waits

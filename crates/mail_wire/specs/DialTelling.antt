@@ -6,6 +6,7 @@ use Rattle.mail_wire.specs.declared.outside.Failed.{Failed}
 use Rattle.mail_wire.specs.declared.outside.Failed.TheVariants.{Outside, Memory}
 use Rattle.mail_wire.specs.Telling.{Telling}
 
+-- What a dial tells of itself, which makes connections to other servers.
 pub record DialTelling : Type 0 where
   -- the octets that the next server sends, where it tells
   pub sends : Option (List ℕ)

@@ -81,6 +81,7 @@ IsQuit (authorization mode user) command = ⊥
 IsQuit (transaction mode maildrop) command = (command.keyword ≡ keyword.Quit) × (command.argument ≡ None)
 IsQuit ended command = ⊥
 
+-- The number is one of these.
 abbrev pub is_among : ℕ → List ℕ → Bool
 is_among number [] = false
 is_among number (n ∷ numbers) = (number == n) || is_among number numbers
@@ -136,6 +137,7 @@ number_in keyword.Retr (Some text) = number_of text
 number_in keyword.Top (Some text) = option_map (λ (numbers : TopNumbers). numbers.number) (top_numbers_of text)
 number_in word argument = None
 
+-- The reply is one line that begins with `-ERR ` (RFC 1939, 3).
 abbrev pub IsRefused : List ReplyPart → Type 0
 IsRefused reply = (text : List ℕ) × (reply ≡ says (codes "-ERR " ++ text))
 

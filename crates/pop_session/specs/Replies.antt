@@ -32,5 +32,6 @@ IsFit meanings (line octets) = list_all is_ascii octets ≡ true
 IsFit meanings (shown msg legacy at len) = HasSurrogate msg (meanings.surrogate msg) × HasAsciiBlocks (meanings.surrogate msg)
 IsFit meanings (shown msg enabled at len) = Unit {0}
 
+-- Each of the parts may be sent.
 abbrev pub AreFit : Meanings → List ReplyPart → Type 0
 AreFit meanings parts = AllByRecursion (IsFit meanings) parts

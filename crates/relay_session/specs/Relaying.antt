@@ -127,12 +127,14 @@ pub record FailsOnWire (path_of : List ℕ → Option (Option Address)) (before 
   pub breaks : BreaksRunOff path_of before now bag replies given fault.Wire
   pub counts : HasNumbers bag.letters breaks.first breaks.count end
 
+-- What a run has done by its end: it finished, the wire failed, or a reply stopped it.
 abbrev pub EndsRun : (path_of : List ℕ → Option (Option Address)) (before now : Around) (bag : Mailbag before.desk.store.kept) (entries : List Entry) (replies : List Reply) (behind : List ℕ) (end : RelayEnd) → Option LeftCause → Type 0
 EndsRun path_of before now bag entries replies behind end None = Finishes path_of before now bag replies (given_of entries) end
 EndsRun path_of before now bag entries replies behind end (Some cause.Dial) = ⊥
 EndsRun path_of before now bag entries replies behind end (Some cause.Wire) = FailsOnWire path_of before now bag replies (given_of entries) end
 EndsRun path_of before now bag entries replies behind end (Some (cause.Reply octets)) = StopsByOctets path_of before now bag replies behind (given_of entries) octets end
 
+-- What a run has done by its answer: it came to this end, or was broken off by a fault of the keeper or for want of memory.
 abbrev pub AnswersRelay : (path_of : List ℕ → Option (Option Address)) (before now : Around) (bag : Mailbag before.desk.store.kept) (entries : List Entry) (replies : List Reply) (behind : List ℕ) → Result RelayEnd Fault → Type 0
 AnswersRelay path_of before now bag entries replies behind (Ok end) = EndsRun path_of before now bag entries replies behind end end.cause
 AnswersRelay path_of before now bag entries replies behind (Err fault.Wire) = ⊥

@@ -3,6 +3,7 @@ use Rattle.std.specs.Prelude.{ℕ, List, [], ◌∷◌, ◌++◌, map}
 use Rattle.journal_records.specs.declared.records.Record.{Record}
 use Rattle.surrogate_cache.specs.Caching.{Asked}
 
+-- What a session does, one step at a time.
 pub data Act (P : Type 0) : Type 0 where
   -- it gives this part of a reply
   gives : (part : P) → Act P

@@ -11,6 +11,7 @@ use Rattle.imap_grammar.specs.FirstDue.{Due, ReadsCommands}
 use Rattle.imap_mailboxes.specs.Names.{ReadsMailboxes}
 use Rattle.imap_views.specs.Views.{View, GivesViews, GivesOutlines}
 
+-- What sessions take from other definitions: surrogates, paths, trees, commands, names and views.
 pub record Meanings : Type 0 where
   pub surrogate : List ℕ → List ℕ
   pub path_of : List ℕ → Option (Option Address)

@@ -95,6 +95,7 @@ pub record IsSent (course : Course) (store after : StoreState) (had has : Option
 
 -- ---- what the call does
 
+-- The octets begin with these.
 abbrev pub IsPrefixOf : List ℕ → List ℕ → Type 0
 IsPrefixOf front whole = (rest : List ℕ) × (whole ≡ front ++ rest)
 

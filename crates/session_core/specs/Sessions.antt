@@ -25,6 +25,7 @@ abbrev pub IsReady : {M : Type 0} → (M → List ℕ → Desk → Type 0) → S
 IsReady is_ready (variant.Open reading) desk = is_ready reading.machine reading.kept desk
 IsReady is_ready variant.Ended desk = Unit {0}
 
+-- The session has ended.
 abbrev pub HasEnded : {M : Type 0} → Session M → Type 0
 HasEnded (variant.Open reading) = ⊥
 HasEnded variant.Ended = Unit {0}
