@@ -15,7 +15,7 @@ pub record IsAngled (tokens before inner : List TokenValue) : Type 0 where
   pub closes : is_special_of 62 close_mark ≡ true
   pub behind : are_blank after ≡ true
 
--- and these are the first brackets
+-- The tokens have their first angle brackets here: these stand before them, and these within.
 pub record IsFirstAngled (tokens before inner : List TokenValue) : Type 0 where
   pub angled : IsAngled tokens before inner
   pub first_open : lacks_special 60 before ≡ true

@@ -70,7 +70,7 @@ ArePhrasePlaces [] (p ∷ ps) = ⊥
 ArePhrasePlaces (w ∷ ws) [] = ⊥
 ArePhrasePlaces (w ∷ ws) (p ∷ ps) = IsPhrasePlace w p × ArePhrasePlaces ws ps
 
--- these are the units of all of the phrase
+-- A phrase of these items says these units (RFC 5322, 3.2.5; RFC 2047, 5, rule 3).
 pub record HasPhraseUnits (items : List PhraseItem) (units : List UnitValue) : Type 0 where
   pub places : List Place
   pub are_places : ArePhrasePlaces (phrase_words true items) places

@@ -123,7 +123,7 @@ abbrev pub Says : List ℕ → Option UnitValue → Type 0
 Says word (Some unit) = IsEncodedWord word unit
 Says word None = (unit : UnitValue) → ¬ IsEncodedWord word unit
 
--- the same, where the word may be an encoded word at all
+-- What a word says as an encoded word, where it stands in a place that allows one.
 abbrev pub SaysWhere : Bool → List ℕ → Option UnitValue → Type 0
 SaysWhere true word says = Says word says
 SaysWhere false word says = says ≡ None

@@ -40,7 +40,7 @@ pub record StandTogether (text : List ℕ) (tokens : List Token) : Type 0 where
 abbrev pub AreNeighbours : List ℕ → List Token → Type 0
 AreNeighbours text tokens = (tokens ≡ []) ⊎ StandTogether text tokens
 
--- The same by the octets of tokens: the runs of tokens between gaps and comments, ...
+-- The runs of tokens between gaps and comments.
 abbrev pub runs_of : List TokenValue → List (List TokenValue)
 runs_of tokens = filter is_there (slice_split (λ token. is_blank token.kind) tokens)
 
@@ -48,7 +48,7 @@ runs_of tokens = filter is_there (slice_split (λ token. is_blank token.kind) to
 abbrev pub octets_of : List TokenValue → List ℕ
 octets_of tokens = flat_map (λ token. token.octets) tokens
 
--- ... joined by spaces
+-- The octets of tokens without comments, with a space where a gap or a comment stood between two of them.
 abbrev pub squeezed_values : List TokenValue → List ℕ
 squeezed_values tokens = join_with_byte 32 (map octets_of (runs_of tokens))
 

@@ -75,7 +75,7 @@ IsDataFront =
     Or (Then IsHeader (λ size. Is (record { utf8 = false; size = size })))
     (After (IsWordOf utf8_words) (After IsSpace (After IsOpenParenthesis (Then IsHeader8 (λ size. Is (record { utf8 = true; size = size }))))))
 
--- this octet
+-- The octet is this one.
 abbrev pub at_octet : ℕ → ℕ → Bool
 at_octet x y = y == x
 

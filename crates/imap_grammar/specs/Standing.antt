@@ -37,7 +37,7 @@ abbrev pub IsAtData : Bool → Awaited → List ℕ → Type 0
 IsAtData utf8 (awaited.AppendData mailbox flags date in_utf8) front = (appends : Appends) × IsAppending utf8 front appends
 IsAtData utf8 a front = (appends : Appends) → IsAppending utf8 front appends → ⊥
 
--- where the stage was reached
+-- The octets have reached the stage.
 abbrev pub Reached : Bool → Stage → List ℕ → Type 0
 Reached utf8 Begin front = front ≡ []
 Reached utf8 (Behind tag size a) front = Announces front size × IsSized size a × BeginsWithTag front tag × IsAtData utf8 a front
@@ -140,7 +140,7 @@ line_with reader octets = reader.line ++ drop (size_of reader.stage - length rea
 abbrev pub counting : Reader → List ℕ → ℕ
 counting reader octets = if is_data reader.stage then length (drop (size_of reader.stage - length reader.literal) octets) else length octets
 
--- so many at most with these octets
+-- A command with these octets has no more than one may have.
 abbrev pub IsUnderLimit : Reader → List ℕ → Type 0
 IsUnderLimit reader octets = reader.counted + counting reader octets ≤ LINE_MAX
 

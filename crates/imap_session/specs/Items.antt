@@ -33,7 +33,7 @@ served_of meanings mode store one = served_by meanings.surrogate mode (stored_oc
 abbrev pub size_of : Meanings → Mode → StoreState → Listed → ℕ
 size_of meanings mode store one = length (served_of meanings mode store one)
 
--- where a section stands in them, if there is one
+-- Where a section stands in what is served of a message, if there is one.
 abbrev pub section_at : Meanings → Mode → StoreState → Listed → (path : List ℕ) → Part → Option Span
 section_at meanings mode store one path what = section (meanings.outlines (served_of meanings mode store one)) path what
 
@@ -87,7 +87,7 @@ section_name path what partial = codes "BODY[" ++ (join_with_byte 46 (map decima
 abbrev pub literal_head : (asked : List ℕ) → (size : ℕ) → ReplyPart
 literal_head asked size = text (asked ++ (codes " {" ++ (decimal size ++ codes "}\r\n")))
 
--- of a section: all of it, or from an octet on so many at most
+-- The part of a section that is asked for: all of it, or from an octet on so many at most (RFC 3501, 6.4.5).
 abbrev pub partial_span : Option (ℕ × ℕ) → Span → Span
 partial_span None span = span
 partial_span (Some asked) span = record { at = span.at + min asked.0 span.len; len = min asked.1 (span.len - asked.0) }

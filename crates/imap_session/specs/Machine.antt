@@ -69,7 +69,7 @@ tagged tag words = line (tag ++ (codes " " ++ words))
 abbrev pub reply : List ReplyPart → List (Act ReplyPart)
 reply parts = map gives parts
 
--- these acts, and then the line that ends the command's replies
+-- A command does these acts, and then comes the line that ends its replies (RFC 3501, 2.2.2).
 abbrev pub ends_with : (tag words : List ℕ) → List (Act ReplyPart) → State → Step
 ends_with tag words acts state = record { acts = acts ++ reply (tagged tag words ∷ []); state = state }
 
@@ -142,7 +142,7 @@ folder_lines store folder read_only =
 abbrev pub opened_words : (read_only : Bool) → List ℕ
 opened_words read_only = if read_only then codes "OK [READ-ONLY] done" else codes "OK [READ-WRITE] done"
 
--- where no folder is named none is selected any more
+-- SELECT and EXAMINE of a folder; where there is none, none is selected any more (RFC 3501, 6.3.1 and 6.3.2).
 abbrev pub select_by : (tag : List ℕ) → Mode → (account : ℕ) → (read_only : Bool) → StoreState → Option ℕ → Step
 select_by tag mode account read_only store None = no_such_folder tag (authenticated mode account)
 select_by tag mode account read_only store (Some folder) =
@@ -312,7 +312,7 @@ with_flags changed items = if changed && not (list_any is_flags items) then item
 abbrev pub becomes_seen : (read_only : Bool) → List FetchItem → Listed → Bool
 becomes_seen read_only items one = not read_only && (list_any sets_seen items && not (is_seen one))
 
--- as STORE's `+FLAGS (\Seen)` would set it
+-- The message with the flag Seen, as STORE's `+FLAGS (\Seen)` sets it (RFC 3501, 6.4.6).
 abbrev pub seen : Listed → Listed
 seen one = record one { flags = stored_flags Add one.flags 1 }
 
@@ -395,7 +395,7 @@ close_step tag state read_only messages = ends_with tag done (if read_only then 
 
 -- ---- commands by state
 
--- those of every state
+-- CAPABILITY, which every state allows (RFC 3501, 6.1.1).
 abbrev pub capability : (tag : List ℕ) → State → Step
 capability tag state = answers tag done (untagged (codes "CAPABILITY IMAP4rev1 ENABLE UTF8=ACCEPT") ∷ []) state
 
@@ -403,7 +403,7 @@ capability tag state = answers tag done (untagged (codes "CAPABILITY IMAP4rev1 E
 abbrev pub logout : (tag : List ℕ) → Step
 logout tag = answers tag done (untagged (codes "BYE bye") ∷ []) ended
 
--- and what is left of them
+-- The commands that every state allows, and what is answered to those that this state doesn't allow (RFC 3501, 6.1).
 abbrev pub common_step : (tag : List ℕ) → State → Command → Step
 common_step tag state command.Capability = capability tag state
 common_step tag state command.Noop = says tag done state
@@ -464,7 +464,7 @@ abbrev pub lacks_date : Command → Bool
 lacks_date (command.Append written flags date in_utf8 octets) = not (is_some date)
 lacks_date other = false
 
--- such a message has the date of a moment, where one may be put into a folder
+-- The command takes the date of the next moment: an APPEND without a date, after login.
 abbrev pub takes_moment : State → Command → Bool
 takes_moment (authenticated mode account) said = lacks_date said
 takes_moment (selected mode account folder read_only) said = lacks_date said

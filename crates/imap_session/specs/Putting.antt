@@ -73,7 +73,7 @@ IsCause meanings mode account store said not_enabled = (said.in_utf8 ≡ true) �
 IsCause meanings mode account store said no_message = ¬ IsStored (completed said.octets)
 IsCause meanings mode account store said too_large = ¬ HasRoomFor store (completed said.octets)
 
--- it is put into the folder that is named
+-- The message of an APPEND is put last into the folder that it names.
 abbrev pub IsPut : Meanings → (now tag : List ℕ) → State → Mode → (account : ℕ) → StoreState → Said → Step → Type 0
 IsPut meanings now tag state mode account store said taken =
     (folder : ℕ) × (folder_named meanings mode store account said.written ≡ Some folder) × (taken ≡ put_step now tag state store said folder)

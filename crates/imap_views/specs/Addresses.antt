@@ -93,7 +93,7 @@ IsListForm value text =
     ((forms : List ℕ) × HasForms value forms × (text ≡ list_form forms))
     ⊎ (((forms : List ℕ) → ¬ HasForms value forms) × (text ≡ nil))
 
--- the same, where there may be no such field
+-- The addresses of a field in an envelope, or NIL where there is no such field (RFC 3501, 7.4.2).
 abbrev pub IsAddressesForm : Option (List ℕ) → List ℕ → Type 0
 IsAddressesForm None text = text ≡ nil
 IsAddressesForm (Some value) text = IsListForm value text

@@ -80,7 +80,7 @@ pub record IsSpecial (octets value : List ℕ) : Type 0 where
   pub value_is : value ≡ octet ∷ []
   pub special : is_quoted_special octet ≡ true
 
--- one of these, and what it says
+-- One character of a quoted string, and what it says (RFC 3501, 9).
 pub record IsOneQuoted (utf8 : Bool) (octets value : List ℕ) : Type 0 where
   pub item : QuotedChar
   pub is : IsQuotedChar utf8 item

@@ -119,7 +119,7 @@ folder_names kept account = names_among account kept.folders
 abbrev pub kept_folder_name : Kept → (folder : ℕ) → List ℕ
 kept_folder_name kept folder = option_map_or (λ (one : Folder). one.name) (slice_get kept.folders folder) []
 
--- one more than the number of messages that a folder ever had
+-- The unique identifier that the next message of a folder gets: one more than the number of messages it ever had (RFC 3501, 2.3.1.1).
 abbrev pub uid_next : Kept → ℕ → ℕ
 uid_next kept folder = count_by (λ message. message.folder == folder) kept.messages + 1
 

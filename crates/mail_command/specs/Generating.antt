@@ -15,7 +15,7 @@ abbrev pub generated : ℕ → List ℕ
 generated number =
     (codes "From: a@example.org" ++ crlf) ++ (codes "Subject: s" ++ (decimal number ++ (space_and_e_acute ++ (crlf ++ (crlf ++ (decimal number ++ crlf))))))
 
--- so many of them, from the number 0 on
+-- So many generated messages, from the number 0 on.
 abbrev pub generated_messages : ℕ → List (List ℕ)
 generated_messages zero = []
 generated_messages (suc number) = generated_messages number ++ generated number ∷ []

@@ -27,7 +27,7 @@ use Rattle.mail_wire.specs.declared.traffic.TheConstants.{PIECE}
 abbrev pub words_refused : List ℕ
 words_refused = codes "words refused" ++ crlf
 
--- they are told so, or that was broken off
+-- What is done for words that are no command: they are refused, or that was broken off.
 pub data RefusesWords (before now : Telling) (status : ℕ) : Type 0 where
   Told : Gives before now words_refused → status ≡ 4 → RefusesWords before now status
   BrokenOff : GivesPrefix before now words_refused → IsBrokenOff status → RefusesWords before now status

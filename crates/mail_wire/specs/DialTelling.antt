@@ -29,7 +29,7 @@ pub record IsDialled (dial : DialTelling) (wire : Telling) : Type 0 where
 abbrev pub with_host : Option (List (List ℕ)) → List ℕ → Option (List (List ℕ))
 with_host asked host = option_map (λ hosts. hosts ++ host ∷ []) asked
 
--- it was asked for this host once more, or for none
+-- A dial was asked for this host once more, or for none.
 abbrev pub AsksAtMost : Option (List (List ℕ)) → Option (List (List ℕ)) → List ℕ → Type 0
 AsksAtMost old new host = (new ≡ old) ⊎ (new ≡ with_host old host)
 

@@ -33,7 +33,7 @@ named_at outlines number n Multipart = child outlines number n
 named_at outlines number n Message = itself number n
 named_at outlines number n Leaf = itself number n
 
--- the same, where there is such an entity
+-- The entity that a number names within another one, where there is such an entity (RFC 3501, 6.4.5).
 abbrev pub named : List Outline → ℕ → ℕ → Option ℕ
 named outlines number n = option_and_then (λ (outline : Outline). named_at outlines number n outline.shape) (slice_get outlines number)
 

@@ -30,7 +30,7 @@ pub record Run : Type 0 where
   pub acts : List Act
   pub end : End
 
--- these acts come first
+-- What comes of a run, with these acts before its acts.
 abbrev pub behind_acts : List Act → Run → Run
 behind_acts acts run = record { acts = acts ++ run.acts; end = run.end }
 

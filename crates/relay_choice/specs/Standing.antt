@@ -104,12 +104,12 @@ LeavesBy turn.Stops = Unit {0}
 abbrev pub replies_to : List Letter → ℕ
 replies_to letters = sum_by (λ (letter : Letter). length letter.recipients + 3) letters
 
--- so many come to the first of these letters
+-- How many replies come at most to letters of which the first awaits so many.
 abbrev pub first_left : (Letter → ℕ) → List Letter → ℕ
 first_left count [] = 0
 first_left count (letter ∷ letters) = count letter + replies_to letters
 
--- so many come to the letter that a client is at
+-- How many replies come at most to the letters from the client's on, where that one awaits so many.
 abbrev pub letter_left : ClientState → (Letter → ℕ) → ℕ
 letter_left client count = first_left count (drop client.at client.letters)
 

@@ -63,7 +63,7 @@ pub record Carried (path_of : List ℕ → Option (Option Address)) (before : Ar
 abbrev pub Done : (before now : Around) → Option Fault → List (Act (List ℕ)) → (given : List ℕ) → Type 0
 Done before now met acts given = IsDone (λ octets. octets) before.desk.store now.desk.store before.keeper.octets now.keeper.octets met acts given
 
--- it was broken off in the last of these acts, or behind them
+-- A run was broken off in the last of these acts, or behind them.
 pub record BreaksRunOff (path_of : List ℕ → Option (Option Address)) (before now : Around) (bag : Mailbag before.desk.store.kept) (replies : List Reply) (given : List ℕ) (met : Fault) : Type 0 where
   pub first : List ClientAct
   pub acts : List (Act (List ℕ))
@@ -159,7 +159,7 @@ pub data RelaysBy (path_of : List ℕ → Option (Option Address)) (before now :
   idle : open_numbers before.desk.store.kept.entries ≡ [] → now ≡ before → result ≡ Ok (record { sent = 0; reported = 0; left = 0; cause = None }) → RelaysBy path_of before now result
   begun : (bag : Mailbag before.desk.store.kept) → bag.queue ≢ [] → RelaysTo path_of before now bag result → RelaysBy path_of before now result
 
--- the same, whatever function reads paths
+-- What the relay does over a wire, whatever function reads paths.
 abbrev pub Relays : Around → Around → Result RelayEnd Fault → Type 0
 Relays before now result = WithPaths (λ path_of. RelaysBy path_of before now result)
 

@@ -36,7 +36,7 @@ pub record Grammar : Type 1 where
   pub Fits : Meanings → P → Type 0
   pub IsSound : S → Type 0
 
--- so many octets, one at least
+-- The first octets of a stream, so many and one at least, and what follows them.
 unfoldable pub count_cut : ℕ → List ℕ → Framed
 count_cut zero octets = waiting
 count_cut (suc n) octets = if nat_le (suc n) (length octets) then whole (take (suc n) octets) (drop (suc n) octets) else waiting
@@ -92,7 +92,7 @@ pub record BeginsRows (grammar : Grammar) {R : Type 0} (stands : StandingRows gr
   pub does : WithMeanings (λ meanings. Does (grammar.spelled meanings) before now (fault_of result) (grammar.opening before.desk.store))
   pub stands_for : IfOk result (λ rows. (moments : List Moment) → stands moments rows now.desk (grammar.start moments before.desk.store))
 
--- this row was done
+-- The row was done, or the first of it, and the rows stand for the state after it.
 pub record AnswersBy (grammar : Grammar) {R : Type 0} (stands : StandingRows grammar R) (meanings : Meanings) (before now : Around) (result : Result (Option R) Fault) (more : List Moment) (row : Row grammar.S grammar.P) : Type 0 where
   pub does : Does (grammar.spelled meanings) before now (fault_of result) row.acts
   pub next : IfOk result (λ next. StandsNext grammar stands more next now.desk row.after)

@@ -71,7 +71,8 @@ is_client name = nat_lt 0 (length name) && nat_le (length name) 255 && list_all 
 
 -- ---- the path of MAIL and RCPT
 
--- The place behind an octet: 34 is a quote, 91 and 93 are the brackets of a literal, and 92 is a backslash, which takes the next octet with it in quotes and in a literal.
+-- The place behind an octet: 34 is a quote, 91 and 93 are the brackets of a literal, and 92 is a backslash, which takes the next octet with it
+-- in quotes and in a literal.
 abbrev pub path_place_after : Place → ℕ → Place
 path_place_after place.Plain x = if x == 34 then place.Quoted else (if x == 91 then place.Literal else place.Plain)
 path_place_after place.Quoted x = if x == 34 then place.Plain else (if x == 92 then place.QuotedPair else place.Quoted)
@@ -79,7 +80,7 @@ path_place_after place.QuotedPair x = place.Quoted
 path_place_after place.Literal x = if x == 93 then place.Plain else (if x == 92 then place.LiteralPair else place.Literal)
 path_place_after place.LiteralPair x = place.Literal
 
--- this octet stands here, outside of quotes and of a literal
+-- The octet stands at this place, outside of quotes and of a literal.
 abbrev pub stands_plain : ℕ → Place → ℕ → Bool
 stands_plain octet place.Plain x = x == octet
 stands_plain octet place.Quoted x = false

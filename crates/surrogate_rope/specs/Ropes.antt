@@ -61,7 +61,7 @@ changed [] others = 0
 changed (raw ∷ raws) [] = 0
 changed (raw ∷ raws) (other ∷ others) = (if bytes_eq raw other then 0 else 1) + changed raws others
 
--- so many of the fields of the entities' blocks are others than those that they gave
+-- So many of the fields that are made for the entities' blocks differ from the message's own.
 abbrev pub CountsChanged : FieldRelation → List ℕ → List Entity → ℕ → Type 0
 CountsChanged IsMade msg [] count = count ≡ 0
 CountsChanged IsMade msg (entity ∷ entities) count =
@@ -97,7 +97,8 @@ new_size (New octets ∷ pieces) = length octets + new_size pieces
 abbrev pub HasNewFields : List ℕ → List Entity → RopeValue → Type 0
 HasNewFields msg entities rope = WeighsChanged length (InEntity HasFieldLayout msg) msg entities (new_size rope.pieces)
 
--- The pieces give the layout of the message, which is a surrogate; the entities are those of the surrogate's tree; so many fields of the layout are others than the message's.
+-- The pieces give the layout of the message, which is a surrogate; the entities are those of the surrogate's tree; so many fields of the
+-- layout are others than the message's.
 pub record IsRopeOf (msg : List ℕ) (rope : RopeValue) : Type 0 where
   pub entities : List Entity
   pub tree : HasTree msg entities

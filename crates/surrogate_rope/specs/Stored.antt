@@ -16,7 +16,7 @@ abbrev pub stored_piece : RopePiece → List ℕ
 stored_piece (Range span) = 0 ∷ (number span.at ++ number span.len)
 stored_piece (New octets) = 1 ∷ (number (length octets) ++ octets)
 
--- one more than the parent, or 0 without one
+-- The number of an entity's parent: one more than its place, or 0 without one.
 abbrev pub parent_number : Option ℕ → ℕ
 parent_number None = 0
 parent_number (Some parent) = parent + 1
@@ -65,7 +65,7 @@ range_count (New octets ∷ pieces) = range_count pieces
 abbrev pub HasFewPieces : List RopePiece → ℕ → Type 0
 HasFewPieces pieces rewritten = (new_count pieces ≤ rewritten) × (range_count pieces ≤ rewritten + 1)
 
--- one more than the parent can be stored
+-- The number of an entity's parent can be stored.
 abbrev pub HasSmallParent : Outline → Type 0
 HasSmallParent entity = parent_number entity.parent < 2 ^ 64
 
