@@ -111,6 +111,7 @@ pub record IsDeliverable (store : StoreState) (delivery : Delivery) : Type 0 whe
   pub addresses : All IsSendable delivery.remote
   pub few : length delivery.remote ≤ RECIPIENTS_MAX
 
+-- A delivery is refused where a message has more octets than one may have, or where it would be more things than a store may keep.
 abbrev pub delivery_refusal : StoreState → Delivery → Option StoreFault
 delivery_refusal store delivery =
     if has_large_octets store.message_max delivery || has_many_things store.kept delivery then Some faults.TooLarge else None
@@ -135,12 +136,15 @@ append_refusal store octets =
 abbrev pub is_live : Kept → ℕ → Bool
 is_live kept id = option_map_or (λ (message : Message). message.live) (slice_get kept.messages id) false
 
+-- New flags are refused where the message isn't there.
 abbrev pub flags_refusal : Kept → ℕ → Option StoreFault
 flags_refusal kept id = if is_live kept id then None else Some faults.NoSuch
 
+-- An expunge is refused where one of the messages isn't there.
 abbrev pub expunge_refusal : Kept → List ℕ → Option StoreFault
 expunge_refusal kept ids = if list_all (is_live kept) ids then None else Some faults.NoSuch
 
+-- The records that expunge these messages.
 abbrev pub expunged : List ℕ → List Record
 expunged ids = map records.Expunge ids
 
@@ -150,5 +154,6 @@ expunged ids = map records.Expunge ids
 abbrev pub is_unsettled : Kept → ℕ → ℕ → Bool
 is_unsettled kept entry index = option_map_or (λ (one : Entry). option_map_or (λ (recipient : Recipient). recipient.waits) (slice_get one.recipients index) false) (slice_get kept.entries entry) false
 
+-- Settling is refused where the entry has no such recipient, or one who is settled.
 abbrev pub settle_refusal : Kept → ℕ → ℕ → Option StoreFault
 settle_refusal kept entry index = if is_unsettled kept entry index then None else Some faults.NoSuch
