@@ -1,14 +1,10 @@
 -- Words of a table, in any case of their letters (RFC 3501, 9, rule 1).
 use Rattle.std.specs.Prelude.{◌≡◌, ℕ, ◌-◌, ◌<◌, ◌≤◌, nat_lt, Bool, true, ◌&&◌, List, [], ◌∷◌, ◌++◌, length, take, get_or, map, Contains, Option, MatchOption, if◌then◌else◌}
+pub use Rattle.mail_wire.specs.Tables.{Named}
 
 -- The ASCII letter in upper case, and any other octet as it is.
 abbrev pub upper : ℕ → ℕ
 upper x = if nat_lt 96 x && nat_lt x 123 then x - 32 else x
-
--- a word in upper case, and what it says
-pub record Named (V : Type 0) : Type 0 where
-  pub word : List ℕ
-  pub says : V
 
 -- one of the words, in any case
 pub record IsWordOf {V : Type 0} (table : List (Named V)) (octets : List ℕ) (value : V) : Type 0 where
