@@ -11,6 +11,7 @@ mod framing;
 mod in_memory;
 mod items;
 mod keeping;
+pub mod laws;
 mod mem_dial;
 mod mem_keeper;
 mod message;
