@@ -23,9 +23,9 @@ What a reader must believe: the definitions that the promised clauses use, crate
 from the comments in `crates/CRATE/specs/`; `tools/specification.py` says which of them it takes. Each heading below a crate is a module,
 `crates/CRATE/specs/MODULE.antt`. It holds further definitions, which those here are made of, each with a comment of its own.
 
-Octets are lists of numbers. *White* is space or tab; *high* is an octet above 127. The modules in `specs/private/` say what private
-functions answer and how the values of a program are seen, and those in `specs/laws/` prove what holds of the definitions: no reader has
-to believe them.
+Octets are lists of numbers. *White* is space or tab; *high* is an octet above 127. The modules in `specs/private/`, which say what
+private functions answer and how the values of a program are seen, and those in `specs/laws/`, which prove what holds of the
+definitions, aren't shown here.
 """
 
 
