@@ -2,6 +2,7 @@
 -- connection tells nothing.
 pub mod Numbers
 pub mod Octets
+pub mod Tables
 pub mod Spans
 pub mod Lines
 pub mod Dots
