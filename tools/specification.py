@@ -1,8 +1,9 @@
 """Makes docs/SPECIFICATION.md from the comments of crates/*/specs/**, those of specs/private and specs/laws left out.
 
 A crate's section begins with the comment at the head of its specs/Lib.antt. Each of its modules has the first sentence of the comment at
-the head of its file, and then a line for each definition that a promised clause names: what the comment above it says. A clause is promised
-if docs/PROMISES.md names it; clauses of laws (src/laws.rt), which speak of the definitions themselves, don't count here."""
+the head of its file, and then the definitions that promised clauses use: a relation or a type, whose name begins with a capital letter, with
+the comment above it, and functions by their names. A clause is promised if docs/PROMISES.md names it; clauses of laws (src/laws.rt), which
+speak of the definitions themselves, don't count here."""
 
 import os
 import re
@@ -20,8 +21,9 @@ SENTENCE = re.compile(r"(?<=[.]) (?=[A-Z`'])")
 INTRO = """# Specification
 
 What a reader must believe: the definitions that the promised clauses use, crate by crate, lowest first. `make pages` writes this page
-from the comments in `crates/CRATE/specs/`; `tools/specification.py` says which of them it takes. Each heading below a crate is a module,
-`crates/CRATE/specs/MODULE.antt`. It holds further definitions, which those here are made of, each with a comment of its own.
+from the comments in `crates/CRATE/specs/`. Each heading below a crate is a module, `crates/CRATE/specs/MODULE.antt`. Below it stand the
+relations and types that promised clauses use, and the names of such functions. The module has the others too, which these are made of,
+and each has a comment there.
 
 Octets are lists of numbers. *White* is space or tab; *high* is an octet above 127. The modules in `specs/private/`, which say what
 private functions answer and how the values of a program are seen, and those in `specs/laws/`, which prove what holds of the
@@ -104,9 +106,13 @@ def section_of(crate, names):
         path = f"crates/{crate}/specs/{module}.antt"
         yield f"### {module}"
         yield paragraph(SENTENCE.split(head_of(path))[0])
-        for name, comment in definitions_in(path):
-            if comment and (crate, module, name) in names:
+        used = [(name, comment) for name, comment in definitions_in(path) if (crate, module, name) in names]
+        for name, comment in used:
+            if comment and name[0].isupper():
                 yield paragraph(f"`{name}`: {comment}", "- ")
+        functions = [f"`{name}`" for name, _ in used if not name[0].isupper()]
+        if functions:
+            yield paragraph(", ".join(functions), "- ")
 
 
 def page():
