@@ -11,7 +11,7 @@ import textwrap
 
 from contracts import PAGE, ROOT, WORD, calls_of, imports_of, read, read_contracts, rows_of, sources_of
 
-TESTS = "_tests"
+TESTS = re.compile(r"test_\w+|\w+_tests")
 LEFT_OUT = {"private", "laws"}
 WIDTH = 128
 DEFINITION = re.compile(r"(?:(?:unfoldable|abbrev) )?pub (?:(?:record|data) )?([^\s(){}:]+)")
@@ -34,7 +34,7 @@ definitions, aren't shown here.
 def crates():
     """The crates of crates.txt but those of tests, in its order."""
     names = [line.partition("#")[0].partition(":")[0].strip() for line in read("crates.txt").split("\n")]
-    return [name for name in names if name and not name.endswith(TESTS)]
+    return [name for name in names if name and not TESTS.fullmatch(name)]
 
 
 def modules_of(crate):
