@@ -15,7 +15,7 @@ endef
 help:
 	@echo 'make run        builds the program before any proof, shows the surrogate of a message, and keeps nothing'
 	@echo 'make build      proves and builds the program, and leaves it at $(PROGRAM); the first time takes 35 minutes'
-	@echo 'make install    does the same, and copies the program, its man page and its licences below PREFIX, which is $(PREFIX)'
+	@echo 'make install    does the same, and copies the program, its man page and its licenses below PREFIX, which is $(PREFIX)'
 	@echo 'make uninstall  takes these files away'
 	@echo 'make test       proves everything, tries wrong bodies, and runs all tests; the first time takes longer still'
 	@echo 'make pages      writes docs/SPECIFICATION.md from the comments of the definitions (needs python3)'

@@ -122,7 +122,7 @@ def check_refusals(program, tally):
 
 
 def check_help(program, tally):
-    """It names every command and the licence, and leaves the journal alone, a bad one too."""
+    """It names every command and the license, and leaves the journal alone, a bad one too."""
     for before in (None, BAD):
         (status, given), left = run_on(program, before, ["help"])
         faults = differs("status", status, 0) + differs("journal", left, before)
