@@ -7,6 +7,7 @@ use Rattle.imap_views.specs.Chosen.{AreChosen}
 use Rattle.imap_views.specs.Envelopes.{HasEnvelope}
 use Rattle.imap_views.specs.Structures.{HasStructure}
 
+-- What is told of a header or of a message beside its octets.
 pub data View : Type 0 where
   -- of a header
   envelope : View

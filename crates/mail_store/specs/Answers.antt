@@ -15,7 +15,7 @@ abbrev pub open_fault : Failed → OpenFault
 open_fault outcomes.Outside = faults.Keeper
 open_fault outcomes.Memory = faults.Memory
 
--- this is kept after some records
+-- What is kept is what some records lead to.
 pub record IsFold (kept : Kept) : Type 0 where
   pub all : List Record
   pub records : AreRecords nothing all

@@ -1,5 +1,6 @@
 pub mod Numbers
 pub mod Octets
+pub mod Tables
 pub mod Spans
 pub mod Lines
 pub mod Dots

@@ -35,6 +35,7 @@ keyword_named name =
 abbrev pub keyword_of : List ℕ → Keyword
 keyword_of word = keyword_named (map to_ascii_lowercase word)
 
+-- A space, which divides a keyword from its argument (RFC 1939, 3).
 abbrev pub is_space : ℕ → Bool
 is_space x = x == 32
 
@@ -42,6 +43,7 @@ is_space x = x == 32
 abbrev pub text_of : List ℕ → List ℕ
 text_of line = take (length line - 2) line
 
+-- What follows the first space, if there is one (RFC 1939, 3).
 unfoldable pub argument_of : List ℕ → Option (List ℕ)
 argument_of text = option_map (λ at. drop (at + 1) text) (position is_space text)
 
@@ -49,6 +51,7 @@ argument_of text = option_map (λ at. drop (at + 1) text) (position is_space tex
 abbrev pub command_of : List ℕ → Command
 command_of line = record { keyword = keyword_of (before_first is_space (text_of line)); argument = argument_of (text_of line) }
 
+-- The message number and the number of lines of TOP, where the latter is one (RFC 1939, 7).
 abbrev pub with_lines : ℕ → Option ℕ → Option TopNumbers
 with_lines number None = None
 with_lines number (Some lines) = Some (record { number = number; lines = lines })

@@ -63,7 +63,7 @@ pub record Carried (path_of : List ℕ → Option (Option Address)) (before : Ar
 abbrev pub Done : (before now : Around) → Option Fault → List (Act (List ℕ)) → (given : List ℕ) → Type 0
 Done before now met acts given = IsDone (λ octets. octets) before.desk.store now.desk.store before.keeper.octets now.keeper.octets met acts given
 
--- it was broken off in the last of these acts, or behind them
+-- A run was broken off in the last of these acts, or behind them.
 pub record BreaksRunOff (path_of : List ℕ → Option (Option Address)) (before now : Around) (bag : Mailbag before.desk.store.kept) (replies : List Reply) (given : List ℕ) (met : Fault) : Type 0 where
   pub first : List ClientAct
   pub acts : List (Act (List ℕ))
@@ -127,12 +127,14 @@ pub record FailsOnWire (path_of : List ℕ → Option (Option Address)) (before 
   pub breaks : BreaksRunOff path_of before now bag replies given fault.Wire
   pub counts : HasNumbers bag.letters breaks.first breaks.count end
 
+-- What a run has done by its end: it finished, the wire failed, or a reply stopped it.
 abbrev pub EndsRun : (path_of : List ℕ → Option (Option Address)) (before now : Around) (bag : Mailbag before.desk.store.kept) (entries : List Entry) (replies : List Reply) (behind : List ℕ) (end : RelayEnd) → Option LeftCause → Type 0
 EndsRun path_of before now bag entries replies behind end None = Finishes path_of before now bag replies (given_of entries) end
 EndsRun path_of before now bag entries replies behind end (Some cause.Dial) = ⊥
 EndsRun path_of before now bag entries replies behind end (Some cause.Wire) = FailsOnWire path_of before now bag replies (given_of entries) end
 EndsRun path_of before now bag entries replies behind end (Some (cause.Reply octets)) = StopsByOctets path_of before now bag replies behind (given_of entries) octets end
 
+-- What a run has done by its answer: it came to this end, or was broken off by a fault of the keeper or for want of memory.
 abbrev pub AnswersRelay : (path_of : List ℕ → Option (Option Address)) (before now : Around) (bag : Mailbag before.desk.store.kept) (entries : List Entry) (replies : List Reply) (behind : List ℕ) → Result RelayEnd Fault → Type 0
 AnswersRelay path_of before now bag entries replies behind (Ok end) = EndsRun path_of before now bag entries replies behind end end.cause
 AnswersRelay path_of before now bag entries replies behind (Err fault.Wire) = ⊥
@@ -157,7 +159,7 @@ pub data RelaysBy (path_of : List ℕ → Option (Option Address)) (before now :
   idle : open_numbers before.desk.store.kept.entries ≡ [] → now ≡ before → result ≡ Ok (record { sent = 0; reported = 0; left = 0; cause = None }) → RelaysBy path_of before now result
   begun : (bag : Mailbag before.desk.store.kept) → bag.queue ≢ [] → RelaysTo path_of before now bag result → RelaysBy path_of before now result
 
--- the same, whatever function reads paths
+-- What the relay does over a wire, whatever function reads paths.
 abbrev pub Relays : Around → Around → Result RelayEnd Fault → Type 0
 Relays before now result = WithPaths (λ path_of. RelaysBy path_of before now result)
 

@@ -11,6 +11,7 @@ use Rattle.imap_grammar.specs.FirstDue.{Due, ReadsCommands}
 use Rattle.imap_mailboxes.specs.Names.{ReadsMailboxes}
 use Rattle.imap_views.specs.Views.{View, GivesViews, GivesOutlines}
 
+-- What sessions take from other definitions: surrogates, paths, trees, commands, names and views.
 pub record Meanings : Type 0 where
   pub surrogate : List ℕ → List ℕ
   pub path_of : List ℕ → Option (Option Address)
@@ -26,7 +27,7 @@ pub record Meanings : Type 0 where
 abbrev pub TellsTrees : (List ℕ → Bool) → Type 0
 TellsTrees has_tree = (octets : List ℕ) → IsTrue (has_tree octets) ↔ IsStored octets
 
--- they give surrogates, read paths, tell trees and their entities, read commands and names, and give views
+-- The functions are right: they give surrogates, read paths, tell trees and their entities, read commands and names, and give views.
 pub record AreMeanings (meanings : Meanings) : Type 0 where
   pub surrogates : GivesSurrogates meanings.surrogate
   pub paths : ReadsPaths meanings.path_of

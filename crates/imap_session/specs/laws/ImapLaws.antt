@@ -18,7 +18,7 @@ use Rattle.session_core.specs.Protocol.{IsFitTurn}
 use Rattle.session_core.specs.Turns.{Turn, IsFramed, followed_by}
 use Rattle.session_core.specs.declared.desk.Desk.{Desk}
 use Rattle.imap_session.specs.Machine.{State, authenticated, ended, mode_of, not_authenticated, reply, selected}
-use Rattle.imap_session.specs.FitLaws.{date_at_date, due_right, fit_of, stored_of}
+use Rattle.imap_session.specs.laws.FitLaws.{date_at_date, due_right, fit_of, stored_of}
 use Rattle.imap_session.specs.Replies.{ReplyPart}
 use Rattle.imap_session.specs.Session.{ImapReady, ImapStands, Machine, date_at, due_turn, greeting, imap_protocol, next_turn, start_of, state_of, turn_from}
 use Rattle.imap_session.specs.declared.session.ImapMachine.{ImapMachine}

@@ -7,7 +7,7 @@ use Rattle.mail_wire.specs.Framing.{Framed, waiting, whole, too_long, next_line}
 use Rattle.session_core.specs.Turns.{Turn, IsFramed, followed_by}
 use Rattle.mail_wire.proofs.FramingLemmas.{IsSteady, steady, le_true, le_false, at_most_of}
 use Rattle.session_core.specs.Acts.{Act}
-use Rattle.session_core.specs.Grammar.{Grammar, IsFitRow, count_cut, cut_by, protocol_of, turn_by, turn_in}
+use Rattle.session_core.specs.Grammar.{Grammar, IsFitRow, LongRowsFit, RowsFit, count_cut, cut_by, protocol_of, turn_by, turn_in}
 use Rattle.session_core.specs.Meanings.{Meanings, AreMeanings}
 use Rattle.session_core.specs.Protocol.{IsFitTurn}
 use Rattle.session_core.specs.declared.rows.Wants.{Wants}
@@ -106,12 +106,6 @@ pub goes_on_by : (grammar : Grammar) (want : Wants) (state : grammar.S) → gram
 goes_on_by grammar want state wanted ended = let apart : Some want ≡ None = sym wanted ∙ ended in cc
 
 -- ---- what may be sent
-
-abbrev pub RowsFit : Grammar → Type 0
-RowsFit grammar = (meanings : Meanings) → AreMeanings meanings → (state : grammar.S) (unit : List ℕ) → grammar.IsSound state → IsFitRow grammar meanings (grammar.row meanings state unit)
-
-abbrev pub LongRowsFit : Grammar → Type 0
-LongRowsFit grammar = (meanings : Meanings) → AreMeanings meanings → (state : grammar.S) → grammar.IsSound state → IsFitRow grammar meanings (grammar.long_row meanings state)
 
 fit_by : (grammar : Grammar) (meanings : Meanings) (state : grammar.S) (turn : Turn grammar.S (Act grammar.P)) (framed : Framed) → ((unit : List ℕ) → IsFitRow grammar meanings (grammar.row meanings state unit))
     → IsFitRow grammar meanings (grammar.long_row meanings state) → turn_by grammar meanings state framed ≡ Some turn → IsFitTurn (protocol_of grammar) meanings turn

@@ -57,12 +57,12 @@ use Rattle.imap_mailboxes.specs.Names.{in_quotes, quoted, shown_name}
 use Rattle.imap_mailboxes.specs.Patterns.{is_match}
 use Rattle.imap_mailboxes.specs.Sets.{is_refused}
 use Rattle.imap_views.specs.Views.{envelope, fields, structure}
-use Rattle.imap_session.specs.CommandLaws.{AsksAscii, FetchesAscii, IsAsciiName, NamesAscii, is_date_date, names_of, said_of}
+use Rattle.imap_session.specs.laws.CommandLaws.{AsksAscii, FetchesAscii, IsAsciiName, NamesAscii, is_date_date, names_of, said_of}
 use Rattle.imap_session.specs.Items.{asked_of, field_name, fields_parts, fields_word, header_octets, is_flags, is_uid, item_parts, literal_head, octets_at, part_words, partial_octets, partial_span, partial_text, section_at, section_name, section_parts, served_of, shown_parts, size_of, whole_header}
 use Rattle.imap_session.specs.Machine.{State, Step, Numbered, append_in, append_octets, append_unless, appended, authenticated, becomes_seen, chosen, close_step, closing_up, common_step, completed, create_by, create_unless, deleted_ids, done, enable_step, ends_with, exists_lines, expunge_step, fetch_one, fetch_reply, fetch_step, fetch_told, flags_reply, flags_change, folder_lines, folder_named, for_each, line, names_folder, no_such_message, opened_in, out_of_order, refused_as_read_only, says, untagged, is_deleted, list_line, list_lines, login_by, mailbox_step, not_authenticated, not_authenticated_step, opened_words, parts_behind, permanent_flags, reply, seen, select_by, selected, selected_step, authenticated_step, spaced, status_among, status_by, status_line, status_text, step, store_one, store_step, tagged, taken_out, uid_text, unseen_among, with_flags, with_uid, asks_utf8, ended}
 use Rattle.imap_session.specs.Replies.{AreFit, IsFit, ReplyPart, text, name, shown, viewed}
 use Rattle.imap_session.specs.Session.{IsSaid, date_at, due_step, fits_shape, is_date, long_ago}
-use Rattle.imap_session.specs.ViewLaws.{ascii_envelope, ascii_fields, ascii_header, ascii_structure, first_header}
+use Rattle.imap_session.specs.laws.ViewLaws.{ascii_envelope, ascii_fields, ascii_header, ascii_structure, first_header}
 
 -- ---- acts
 

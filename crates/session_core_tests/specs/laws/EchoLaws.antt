@@ -2,7 +2,7 @@
 use Rattle.std.proofs.Common.{◌≡◌, ℕ, List, [], ◌∷◌, Some, refl}
 use Rattle.std.specs.List.{AllByRecursion}
 use Rattle.session_core.specs.Acts.{Act, IsFitAct, gives, changes, asks}
-use Rattle.session_core.specs.FramedLaws.{LongRowsFit, RowsFit}
+use Rattle.session_core.specs.Grammar.{LongRowsFit, RowsFit}
 use Rattle.session_core.specs.declared.desk.Desk.{Desk}
 use Rattle.session_core_tests.specs.Echo.{EchoStands, State, echo_grammar, row_of, state_of, wanted_by, wants_of}
 use Rattle.session_core_tests.specs.declared.echo.Echo.{Echo}

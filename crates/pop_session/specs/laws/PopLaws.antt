@@ -15,8 +15,7 @@ use Rattle.kept_mail.specs.declared.kept.Listed.{Listed}
 use Rattle.session_core.proofs.FitLemmas.{fit_acts, fit_asking}
 use Rattle.surrogate_cache.specs.Served.{Mode, legacy, enabled}
 use Rattle.session_core.specs.Desks.{IsOpen}
-use Rattle.session_core.specs.FramedLaws.{LongRowsFit, RowsFit}
-use Rattle.session_core.specs.Grammar.{IsFitRow, opening_row}
+use Rattle.session_core.specs.Grammar.{IsFitRow, LongRowsFit, RowsFit, opening_row}
 use Rattle.session_core.specs.Meanings.{Meanings, AreMeanings}
 use Rattle.session_core.specs.Moments.{Moment}
 use Rattle.session_core.specs.declared.desk.Desk.{Desk}
