@@ -15,7 +15,7 @@ HEAD = ["edit", "what refused it", "stamp"]
 PROVED, BY_ANSWER = "nothing", "answer"
 # parts of specs/ that say nothing which a caller may rely on
 APART = {"private", "laws"}
-FUNCTION = re.compile(r"( *)(pub )?(?:const )?(?:unsafe )?fn (\w+)")
+FUNCTION = re.compile(r"( *)(pub(?:\(\w+\))? )?(?:const )?(?:unsafe )?fn (\w+)")
 BLOCK = re.compile(r"(pub )?(?:unsafe )?(impl|trait)\b")
 CLAUSE = re.compile(r" +(?:requires|ensures|ghost)\b")
 
@@ -102,7 +102,7 @@ def headers_of(text):
             is_open = bool(block) and (" for " in line or bool(block[1] and block[2] == "trait"))
         function = FUNCTION.match(line)
         if function:
-            header = [] if function[2] or (function[1] and is_open) else None
+            header = [] if function[2] == "pub " or (function[1] and is_open) else None
         if header is None:
             continue
         header.append(line)
@@ -136,7 +136,7 @@ def rows_of_page():
             crate = line[len("## ") :].strip()
         elif line.startswith("|") and crate:
             cells = [cell.strip() for cell in line.strip().strip("|").split(" | ")]
-            if len(cells) == len(HEAD) and cells != HEAD:
+            if len(cells) == len(HEAD) and cells != HEAD and not set(cells[0]) <= set(":-"):
                 rows[crate, cells[0]] = cells[1], cells[2].strip("`")
     return rows
 
