@@ -1,4 +1,5 @@
 pub mod Numbers
+pub mod Characters
 pub mod Octets
 pub mod Tables
 pub mod Spans

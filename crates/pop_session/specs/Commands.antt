@@ -1,10 +1,9 @@
 -- The words of a command line (RFC 1939, 3).
-use Rattle.std.specs.Prelude.{ℕ, ◌+◌, ◌-◌, ◌==◌, List, Bool, Option, None, Some, length, take, drop, map, codes, if◌then◌else◌, option_and_then, position}
+use Rattle.std.specs.Prelude.{ℕ, ◌+◌, ◌-◌, ◌==◌, List, [], ◌∷◌, Bool, Option, None, Some, length, take, drop, codes, unwrap_or, option_and_then, position}
 use Rattle.std.specs.List.{before_first}
 use Rattle.std.specs.Option.{option_map}
-use Rattle.std.specs.Str.{bytes_eq}
-use Rattle.std.specs.Char.{to_ascii_lowercase}
 use Rattle.mail_wire.specs.Numbers.{number_of}
+use Rattle.mail_wire.specs.Tables.{Named, said_by}
 use Rattle.pop_session.specs.declared.command.Keyword.{Keyword}
 use Rattle.pop_session.specs.declared.command.TopNumbers.{TopNumbers}
 use Rattle.pop_session.specs.declared.command.Keyword.TheVariants as keyword
@@ -14,26 +13,26 @@ pub record Command : Type 0 where
   pub keyword : Keyword
   pub argument : Option (List ℕ)
 
--- the keyword of this name, which is in lower case
-abbrev pub keyword_named : List ℕ → Keyword
-keyword_named name =
-    if bytes_eq name (codes "user") then keyword.User
-    else (if bytes_eq name (codes "pass") then keyword.Pass
-    else (if bytes_eq name (codes "utf8") then keyword.Utf8
-    else (if bytes_eq name (codes "stat") then keyword.Stat
-    else (if bytes_eq name (codes "list") then keyword.List
-    else (if bytes_eq name (codes "retr") then keyword.Retr
-    else (if bytes_eq name (codes "quit") then keyword.Quit
-    else (if bytes_eq name (codes "capa") then keyword.Capa
-    else (if bytes_eq name (codes "uidl") then keyword.Uidl
-    else (if bytes_eq name (codes "top") then keyword.Top
-    else (if bytes_eq name (codes "dele") then keyword.Dele
-    else (if bytes_eq name (codes "rset") then keyword.Rset
-    else (if bytes_eq name (codes "noop") then keyword.Noop else keyword.Other))))))))))))
+-- the keywords that are read
+abbrev pub keywords : List (Named Keyword)
+keywords =
+    record { word = codes "user"; says = keyword.User }
+    ∷ record { word = codes "pass"; says = keyword.Pass }
+    ∷ record { word = codes "utf8"; says = keyword.Utf8 }
+    ∷ record { word = codes "stat"; says = keyword.Stat }
+    ∷ record { word = codes "list"; says = keyword.List }
+    ∷ record { word = codes "retr"; says = keyword.Retr }
+    ∷ record { word = codes "quit"; says = keyword.Quit }
+    ∷ record { word = codes "capa"; says = keyword.Capa }
+    ∷ record { word = codes "uidl"; says = keyword.Uidl }
+    ∷ record { word = codes "top"; says = keyword.Top }
+    ∷ record { word = codes "dele"; says = keyword.Dele }
+    ∷ record { word = codes "rset"; says = keyword.Rset }
+    ∷ record { word = codes "noop"; says = keyword.Noop } ∷ []
 
 -- keywords are read in any case
 abbrev pub keyword_of : List ℕ → Keyword
-keyword_of word = keyword_named (map to_ascii_lowercase word)
+keyword_of word = unwrap_or (said_by keywords word) keyword.Other
 
 -- A space, which divides a keyword from its argument (RFC 1939, 3).
 abbrev pub is_space : ℕ → Bool

@@ -109,15 +109,16 @@ pub record Finishes (path_of : List ℕ → Option (Option Address)) (before now
   pub leaves : LeavesServer path_of before now bag replies given
   pub counts : HasNumbers bag.letters (run_of before bag.letters replies).acts leaves.count end
 
--- Why octets in a reply's place stop the run: they are a reply that does, or the least that begin none, or nothing more comes.
-pub data StopsRun (now : Around) (run : Run) (replies : List Reply) (behind octets : List ℕ) : Type 0 where
-  by_reply : (reply : Reply) (front : List Reply) → replies ≡ front ++ reply ∷ [] → IsReply octets reply → run.end ≡ stopped reply → StopsRun now run replies behind octets
-  by_no_reply : (more : List ℕ) → run.end ≡ waits → behind ≡ octets ++ more → IsNoFront octets → StopsRun now run replies behind octets
-  by_end : run.end ≡ waits → behind ≡ octets → IsUndecided octets → IsAtEnd now.wire.left → StopsRun now run replies behind octets
+-- Why octets in a reply's place stop the run: they are a reply that does, which stands behind the others in what was taken, or the
+-- least that begin none, or nothing more comes.
+pub data StopsRun (now : Around) (run : Run) (taken : List ℕ) (replies : List Reply) (behind octets : List ℕ) : Type 0 where
+  by_reply : (reply : Reply) (front : List Reply) → replies ≡ front ++ reply ∷ [] → IsReply octets reply → AreReplies taken front (octets ++ behind) → run.end ≡ stopped reply → StopsRun now run taken replies behind octets
+  by_no_reply : (more : List ℕ) → run.end ≡ waits → behind ≡ octets ++ more → IsNoFront octets → StopsRun now run taken replies behind octets
+  by_end : run.end ≡ waits → behind ≡ octets → IsUndecided octets → IsAtEnd now.wire.left → StopsRun now run taken replies behind octets
 
 -- the octets stop the run, and all was done before
-pub record StopsByOctets (path_of : List ℕ → Option (Option Address)) (before now : Around) (bag : Mailbag before.desk.store.kept) (replies : List Reply) (behind given octets : List ℕ) (end : RelayEnd) : Type 0 where
-  pub stops : StopsRun now (run_of before bag.letters replies) replies behind octets
+pub record StopsByOctets (path_of : List ℕ → Option (Option Address)) (before now : Around) (bag : Mailbag before.desk.store.kept) (taken : List ℕ) (replies : List Reply) (behind given octets : List ℕ) (end : RelayEnd) : Type 0 where
+  pub stops : StopsRun now (run_of before bag.letters replies) taken replies behind octets
   pub does : DoesRun path_of before now bag replies given
   pub counts : HasNumbers bag.letters (run_of before bag.letters replies).acts does.count end
 
@@ -132,7 +133,7 @@ abbrev pub EndsRun : (path_of : List ℕ → Option (Option Address)) (before no
 EndsRun path_of before now bag entries replies behind end None = Finishes path_of before now bag replies (given_of entries) end
 EndsRun path_of before now bag entries replies behind end (Some cause.Dial) = ⊥
 EndsRun path_of before now bag entries replies behind end (Some cause.Wire) = FailsOnWire path_of before now bag replies (given_of entries) end
-EndsRun path_of before now bag entries replies behind end (Some (cause.Reply octets)) = StopsByOctets path_of before now bag replies behind (given_of entries) octets end
+EndsRun path_of before now bag entries replies behind end (Some (cause.Reply octets)) = StopsByOctets path_of before now bag (taken_of entries) replies behind (given_of entries) octets end
 
 -- What a run has done by its answer: it came to this end, or was broken off by a fault of the keeper or for want of memory.
 abbrev pub AnswersRelay : (path_of : List ℕ → Option (Option Address)) (before now : Around) (bag : Mailbag before.desk.store.kept) (entries : List Entry) (replies : List Reply) (behind : List ℕ) → Result RelayEnd Fault → Type 0

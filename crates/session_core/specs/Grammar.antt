@@ -23,8 +23,10 @@ pub record Row (S P : Type 0) : Type 0 where
 
 -- A protocol by its rows: its states, what it opens with, what each state reads, and what is done for it.
 pub record Grammar : Type 1 where
+  -- states, each with its store, and parts of replies
   pub S : Type 0
   pub P : Type 0
+  -- what a session does first, and its state then, with the moments that are still to come
   pub opening : StoreState → List (Act P)
   pub start : List Moment → StoreState → S
   -- what a state reads next; one that has ended reads nothing
@@ -32,8 +34,10 @@ pub record Grammar : Type 1 where
   -- the row of what was read, and that of a line that is too long
   pub row : Meanings → S → List ℕ → Row S P
   pub long_row : Meanings → S → Row S P
+  -- the octets of a part, and what may be sent
   pub spelled : Meanings → P → List ℕ
   pub Fits : Meanings → P → Type 0
+  -- whatever such a state is asked for, its replies may be sent
   pub IsSound : S → Type 0
 
 -- The first octets of a stream, so many and one at least, and what follows them.

@@ -1,10 +1,11 @@
 -- The words of a command line (RFC 5321, 4.1; RFC 6531, 3.4).
-use Rattle.std.specs.Prelude.{ℕ, ◌+◌, ◌-◌, ◌^◌, ◌==◌, ◌&&◌, ◌||◌, not, List, [], ◌∷◌, Bool, true, false, Option, None, Some, length, take, drop, map, codes, if◌then◌else◌, nat_le, nat_lt, min, position, filter}
+use Rattle.std.specs.Prelude.{ℕ, ◌+◌, ◌-◌, ◌^◌, ◌==◌, ◌&&◌, ◌||◌, not, List, [], ◌∷◌, Bool, true, false, Option, None, Some, length, take, drop, map, codes, if◌then◌else◌, unwrap_or, nat_le, nat_lt, min, position, filter}
 use Rattle.std.specs.Option.{option_map, option_and_then}
 use Rattle.std.specs.List.{before_first, list_all, list_any, slice_split, position_or_len, suffix_len}
 use Rattle.std.specs.Str.{bytes_eq}
 use Rattle.std.specs.Char.{to_ascii_lowercase, is_ascii_alphanumeric}
 use Rattle.mail_wire.specs.Numbers.{number_of}
+use Rattle.mail_wire.specs.Tables.{Named, said_by}
 use Rattle.mail_wire.specs.Octets.{is_white, is_black, same_name}
 use Rattle.smtp_grammar.specs.declared.command.Verb.{Verb}
 use Rattle.smtp_grammar.specs.declared.command.Verb.TheVariants as verb
@@ -25,22 +26,22 @@ before_white text = take (length text - suffix_len is_white text) text
 
 -- ---- the verb
 
--- the verb of this name, which is in lower case
-abbrev pub verb_named : List ℕ → Verb
-verb_named name =
-    if bytes_eq name (codes "ehlo") then verb.Ehlo
-    else (if bytes_eq name (codes "helo") then verb.Helo
-    else (if bytes_eq name (codes "mail") then verb.Mail
-    else (if bytes_eq name (codes "rcpt") then verb.Rcpt
-    else (if bytes_eq name (codes "data") then verb.Data
-    else (if bytes_eq name (codes "rset") then verb.Rset
-    else (if bytes_eq name (codes "noop") then verb.Noop
-    else (if bytes_eq name (codes "vrfy") then verb.Vrfy
-    else (if bytes_eq name (codes "quit") then verb.Quit else verb.Other))))))))
+-- the verbs that are read
+abbrev pub verbs : List (Named Verb)
+verbs =
+    record { word = codes "ehlo"; says = verb.Ehlo }
+    ∷ record { word = codes "helo"; says = verb.Helo }
+    ∷ record { word = codes "mail"; says = verb.Mail }
+    ∷ record { word = codes "rcpt"; says = verb.Rcpt }
+    ∷ record { word = codes "data"; says = verb.Data }
+    ∷ record { word = codes "rset"; says = verb.Rset }
+    ∷ record { word = codes "noop"; says = verb.Noop }
+    ∷ record { word = codes "vrfy"; says = verb.Vrfy }
+    ∷ record { word = codes "quit"; says = verb.Quit } ∷ []
 
 -- verbs are read in any case
 abbrev pub verb_of : List ℕ → Verb
-verb_of word = verb_named (map to_ascii_lowercase word)
+verb_of word = unwrap_or (said_by verbs word) verb.Other
 
 -- A command: its verb, which is the first word, and what stands behind it, without white at both ends.
 pub record Command : Type 0 where

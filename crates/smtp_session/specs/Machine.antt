@@ -29,11 +29,13 @@ use Rattle.smtp_session.specs.Trace.{protocol, return_path, received}
 pub data State : Type 0 where
   -- nobody has greeted
   fresh : State
+  -- EHLO or HELO was accepted
   greeted : (client : Client) → State
   -- MAIL was accepted, and these recipients
   mail : (client : Client) (envelope : Envelope) → State
   -- DATA was accepted
   collecting : (client : Client) (envelope : Envelope) → State
+  -- the session has ended
   ended : State
 
 -- What a command or the end of data does: the changes that it makes of the store, the records of one call each; the lines of its
