@@ -264,6 +264,22 @@ fn a_journal_opens_wherever_it_is_cut(rt: HostRuntime) -> Result<(), Fail> {
     Ok(())
 }
 
+const BAD: &[u8] = b"MAILJNL1\0\0\0\x01\x09";
+
+#[test]
+fn sessions_open_a_cut_journal_and_no_bad_one(rt: HostRuntime) -> Result<(), Fail> {
+    let alloc = rt.alloc();
+    for word in ["imap", "pop", "smtp"] {
+        let cut = first(JOURNAL, JOURNAL.len().saturating_sub(1));
+        let opened = outcome_of_words(alloc, &[word], cut, Failing::Nothing)?;
+        assert!(rt; opened.status == 0 && opened.journal.as_slice() == BEGUN, "{word}");
+        let bad = outcome_of_words(alloc, &[word], BAD, Failing::Nothing)?;
+        assert!(rt; bad.status == 5 && bad.journal.as_slice() == BAD, "{word}");
+        assert!(rt; bad.given.as_slice() == b"bad journal at 8\r\n".as_slice(), "{word}");
+    }
+    Ok(())
+}
+
 // The words of `serve` are those of no command: the program reads them before it runs one.
 #[test]
 fn the_words_of_serve_are_no_command(rt: HostRuntime) -> Result<(), Fail> {
