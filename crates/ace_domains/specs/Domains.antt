@@ -38,11 +38,13 @@ normal_form domain = to_ascii STD3 Check Verify domain
 abbrev pub compared_form : List ℕ → List ℕ
 compared_form domain = unwrap_or (normal_form domain) domain
 
+-- Two domains are the same: their normal forms are equal, or the domains themselves where they have none.
 abbrev pub SameDomain : List ℕ → List ℕ → Type 0
 SameDomain a b = compared_form a ≡ compared_form b
 
 -- ---- names of the DNS
 
+-- An octet of a host's name: a lower-case letter, a digit, a hyphen or a dot.
 abbrev pub is_host_octet : ℕ → Bool
 is_host_octet c = is_ascii_lowercase c || is_ascii_digit c || c == hyphen || c == full_stop
 

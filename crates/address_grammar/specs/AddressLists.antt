@@ -62,6 +62,7 @@ pub record IsBare (tokens : List TokenValue) (m : MailboxValue) : Type 0 where
   pub display : m.display ≡ []
   pub angle : m.angle ≡ false
 
+-- The tokens are an address, or one behind a source route (RFC 5322, 4.4).
 abbrev pub IsRoutedOrNot : List TokenValue → Address → Type 0
 IsRoutedOrNot tokens address = IsAddress tokens address ⊎ IsRouted tokens address
 
@@ -71,12 +72,14 @@ pub record IsNamedBy (before inner : List TokenValue) (m : MailboxValue) : Type 
   pub address : IsRoutedOrNot inner m.address
   pub angle : m.angle ≡ true
 
+-- The tokens are a phrase or none, and an address in angle brackets, and say this mailbox (name-addr of RFC 5322, 3.4).
 pub record IsNamed (tokens : List TokenValue) (m : MailboxValue) : Type 0 where
   pub before : List TokenValue
   pub inner : List TokenValue
   pub angled : IsAngled tokens before inner
   pub named : IsNamedBy before inner m
 
+-- The tokens are a mailbox, an address by itself or one in angle brackets, and say this (RFC 5322, 3.4).
 abbrev pub IsMailbox : List TokenValue → MailboxValue → Type 0
 IsMailbox tokens m = IsBare tokens m ⊎ IsNamed tokens m
 
@@ -93,6 +96,7 @@ pub record AreDivided {E : Type 0} (Says : List TokenValue → List E → Type 0
   pub divided : Divided 44 parts tokens
   pub say : SayParts Says parts values
 
+-- The tokens are one mailbox, and the list is of it alone.
 abbrev pub IsOneMailbox : List TokenValue → List MailboxValue → Type 0
 IsOneMailbox tokens [] = ⊥
 IsOneMailbox tokens (m ∷ []) = IsMailbox tokens m
@@ -104,6 +108,7 @@ IsOneMailbox tokens (m ∷ n ∷ ms) = ⊥
 abbrev pub AreMembers : List TokenValue → List MailboxValue → Type 0
 AreMembers tokens members = ((are_blank tokens ≡ true) × (members ≡ [])) ⊎ AreDivided IsOneMailbox tokens members
 
+-- An element of a list of addresses: a mailbox, or a group by its name and its members (RFC 5322, 3.4).
 pub data ElementValue : Type 0 where
   One : MailboxValue → ElementValue
   Group : List UnitValue → List MailboxValue → ElementValue
@@ -129,6 +134,7 @@ pub record IsGroup (tokens : List TokenValue) (name : List UnitValue) (members :
   pub is_colon : is_special_of 58 colon ≡ true
   pub group : IsGroupBy before behind name members
 
+-- The tokens are a mailbox or a group, and say this (address of RFC 5322, 3.4).
 abbrev pub IsElement : List TokenValue → ElementValue → Type 0
 IsElement tokens (One m) = IsMailbox tokens m
 IsElement tokens (Group name members) = IsGroup tokens name members
@@ -141,6 +147,7 @@ SaysPlace tokens [] = are_blank tokens ≡ true
 SaysPlace tokens (e ∷ []) = IsElement tokens e
 SaysPlace tokens (e ∷ f ∷ es) = ⊥
 
+-- The comments among tokens, in their order.
 abbrev pub comment_tokens : List Token → List Token
 comment_tokens tokens = filter (λ t. is_comment t.kind) tokens
 

@@ -12,6 +12,7 @@ use Rattle.field_tokens.specs.Squeezed.{words_of}
 abbrev pub IsLocal : List TokenValue → Type 0
 IsLocal tokens = are_dotted (is_part true) (words_of tokens) ≡ true
 
+-- The only token is a domain literal (RFC 5322, 3.4.1).
 abbrev pub is_one_literal : List TokenValue → Bool
 is_one_literal [] = false
 is_one_literal (word ∷ []) = is_literal_kind word.kind
@@ -35,6 +36,7 @@ pub record IsAddress (tokens : List TokenValue) (address : Address) : Type 0 whe
 
 -- ---- the text of an address
 
+-- One or more octets, all of which may stand in an atom (RFC 5322, 3.2.3).
 abbrev pub is_some_atom : List ℕ → Bool
 is_some_atom [] = false
 is_some_atom (x ∷ octets) = list_all (is_atom_octet Mail) (x ∷ octets)
@@ -47,6 +49,7 @@ is_dot_atom octets = list_all is_some_atom (slice_split (λ x. x == 46) octets)
 abbrev pub quoted_octet : ℕ → List ℕ
 quoted_octet x = if (x == 34) || (x == 92) then 92 ∷ x ∷ [] else x ∷ []
 
+-- The content between double quotes, with a backslash before each quote and backslash in it (RFC 5322, 3.2.4).
 abbrev pub quoted_string : List ℕ → List ℕ
 quoted_string content = 34 ∷ (flat_map quoted_octet content ++ 34 ∷ [])
 
@@ -54,5 +57,6 @@ quoted_string content = 34 ∷ (flat_map quoted_octet content ++ 34 ∷ [])
 abbrev pub local_text : List ℕ → List ℕ
 local_text local = if is_dot_atom local then local else quoted_string local
 
+-- The local part, an at sign and the domain (RFC 5322, 3.4.1).
 abbrev pub address_text : Address → List ℕ
 address_text address = local_text address.local ++ 64 ∷ address.domain

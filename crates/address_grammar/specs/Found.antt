@@ -14,6 +14,7 @@ found_value m display = record { phrase = m.phrase; display = display; angle = m
 abbrev pub SaysSomePhrase : List TokenValue → Bool → Type 0
 SaysSomePhrase tokens phrase = (units : List UnitValue) × SaysPhrase tokens phrase units
 
+-- A mailbox with this address in angle brackets, and with some display name if it has a phrase.
 abbrev pub IsFoundBy : List TokenValue → List TokenValue → FoundMailbox → Type 0
 IsFoundBy before inner m = (display : List UnitValue) × IsNamedBy before inner (found_value m display)
 

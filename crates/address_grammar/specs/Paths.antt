@@ -15,7 +15,7 @@ pub record IsAngled (tokens before inner : List TokenValue) : Type 0 where
   pub closes : is_special_of 62 close_mark ≡ true
   pub behind : are_blank after ≡ true
 
--- and these are the first brackets
+-- The tokens have their first angle brackets here: these stand before them, and these within.
 pub record IsFirstAngled (tokens before inner : List TokenValue) : Type 0 where
   pub angled : IsAngled tokens before inner
   pub first_open : lacks_special 60 before ≡ true
@@ -44,6 +44,7 @@ pub record HasPath (text : List ℕ) (answer : Option Address) : Type 0 where
 abbrev pub ComesInPath : Address → Type 0
 ComesInPath address = (text : List ℕ) × HasPath text (Some address)
 
+-- The octets between angle brackets.
 abbrev pub in_angles : List ℕ → List ℕ
 in_angles octets = 60 ∷ (octets ++ 62 ∷ [])
 

@@ -17,6 +17,7 @@ pub record IsPhrase (tokens : List TokenValue) : Type 0 where
   pub some : are_blank tokens ≡ false
   pub each : list_all may_stand_in_phrase tokens ≡ true
 
+-- What a token is in a phrase: an atom, the content of a quoted string, a dot, or what separates words (RFC 5322, 3.2.5 and 4.1).
 abbrev pub item_of : TokenKind → List ℕ → PhraseItem
 item_of Atom octets = AtomItem octets
 item_of Quoted octets = Content (said_content Quoted octets)
@@ -25,6 +26,7 @@ item_of Gap octets = Separator
 item_of Comment octets = Separator
 item_of Literal octets = Content octets
 
+-- What the tokens of a phrase are, one by one.
 abbrev pub phrase_items : List TokenValue → List PhraseItem
 phrase_items tokens = map (λ t. item_of t.kind t.octets) tokens
 

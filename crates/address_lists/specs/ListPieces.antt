@@ -22,6 +22,7 @@ use Rattle.address_grammar.specs.AddressLists.{AreDivided, IsOneMailbox, Mailbox
 abbrev pub served_domain : List ℕ → Option (List ℕ)
 served_domain domain = if list_all is_ascii domain then Some domain else normal_form domain
 
+-- The address of this local part and this domain, if there is one.
 abbrev pub with_domain : List ℕ → Option (List ℕ) → Option Address
 with_domain local None = None
 with_domain local (Some domain) = Some (record { local = local; domain = domain })
@@ -30,6 +31,7 @@ with_domain local (Some domain) = Some (record { local = local; domain = domain 
 abbrev pub served_address : Address → Option Address
 served_address a = if list_all is_ascii a.local then with_domain a.local (served_domain a.domain) else None
 
+-- The mailbox has an address that a legacy session can be served.
 abbrev pub has_served_address : MailboxValue → Bool
 has_served_address m = is_some (served_address m.address)
 
@@ -39,9 +41,11 @@ has_served_address m = is_some (served_address m.address)
 abbrev pub mailbox_units : MailboxValue → List UnitValue
 mailbox_units m = merged (m.display ++ (if m.phrase then Text (32 ∷ []) ∷ [] else []) ++ Text (address_text m.address) ∷ [])
 
+-- A group's member as units of text: its display name, and its address in angle brackets; without a phrase its address alone.
 abbrev pub member_units : MailboxValue → List UnitValue
 member_units m = if m.phrase then m.display ++ Text (codes " <") ∷ Text (address_text m.address) ∷ Text (codes ">") ∷ [] else Text (address_text m.address) ∷ []
 
+-- A group's members as units of text, with a comma and a space between any two.
 abbrev pub members_units : List MailboxValue → List UnitValue
 members_units [] = []
 members_units (m ∷ []) = member_units m
@@ -92,6 +96,7 @@ with_comma [] = []
 with_comma (p ∷ []) = (p ++ 44 ∷ []) ∷ []
 with_comma (p ∷ q ∷ ps) = p ∷ with_comma (q ∷ ps)
 
+-- The pieces of a group's members, a comma behind each but the last.
 abbrev pub MembersPieces : List (List TokenValue) → List (List ℕ) → Type 0
 MembersPieces [] pieces = ⊥
 MembersPieces (p ∷ []) pieces = MemberPieces (list_all is_ascii (octets_of p)) p pieces
@@ -128,6 +133,7 @@ PlaceOfListPieces false tokens pieces = ElementPieces (list_all is_ascii (octets
 abbrev pub comma_followed : List TokenValue → List (List TokenValue) → List (List ℕ) → List (List ℕ)
 comma_followed place places pieces = if not (are_blank place) && list_any (λ p. not (are_blank p)) places then with_comma pieces else pieces
 
+-- The pieces of the places of a list, a comma behind each element that another follows.
 abbrev pub PlacesPieces : List (List TokenValue) → List (List ℕ) → Type 0
 PlacesPieces [] pieces = pieces ≡ []
 PlacesPieces (place ∷ places) pieces = (first more : List (List ℕ)) × PlaceOfListPieces (are_blank place) place first × PlacesPieces places more × (pieces ≡ comma_followed place places first ++ more)

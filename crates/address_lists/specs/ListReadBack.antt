@@ -8,28 +8,30 @@ use Rattle.field_tokens.specs.Comments.{CommentValue, IsLinePiece}
 use Rattle.address_grammar.specs.AddressLists.{MailboxValue, ElementValue, One, Group}
 use Rattle.address_lists.specs.ListPieces.{served_address, has_served_address, mailbox_units, group_units, SaysAddresses}
 
--- the same mailbox, with its address as it is served
+-- The mailbox that is read back is the same, with its address as it is served.
 pub record IsServedMailbox (m made : MailboxValue) : Type 0 where
   pub phrase : made.phrase ≡ m.phrase
   pub display : made.display ≡ m.display
   pub angle : made.angle ≡ m.angle
   pub address : served_address m.address ≡ Some made.address
 
--- such a mailbox where its address can be served, and else a group without members
+-- What is read back for a mailbox, by whether its address can be served: it, or a group without members.
 abbrev pub StandsForMailboxIf : Bool → MailboxValue → ElementValue → Type 0
 StandsForMailboxIf true m (One made) = IsServedMailbox m made
 StandsForMailboxIf true m (Group name members) = ⊥
 StandsForMailboxIf false m made = made ≡ Group (mailbox_units m) []
 
+-- What is read back for a mailbox: the same where its address can be served, and else a group without members (RFC 6857, 3.2).
 abbrev pub StandsForMailbox : MailboxValue → ElementValue → Type 0
 StandsForMailbox m made = StandsForMailboxIf (has_served_address m) m made
 
--- the same group with such members where all their addresses can be served, and else one without members
+-- What is read back for a group, by whether all its addresses can be served: it with its members, or a group without members.
 abbrev pub StandsForGroupIf : Bool → List UnitValue → List MailboxValue → ElementValue → Type 0
 StandsForGroupIf true name members (One made) = ⊥
 StandsForGroupIf true name members (Group same made) = (same ≡ name) × AllZip IsServedMailbox members made
 StandsForGroupIf false name members made = made ≡ Group (group_units name members) []
 
+-- What is read back for an element: for a mailbox, it or a group without members; for a group, it or one without members.
 abbrev pub StandsForElement : ElementValue → ElementValue → Type 0
 StandsForElement (One m) made = StandsForMailbox m made
 StandsForElement (Group name members) made = StandsForGroupIf (list_all has_served_address members) name members made

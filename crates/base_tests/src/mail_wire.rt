@@ -1,9 +1,9 @@
 //! Texts, words, wires and keepers, each public call once with ample memory.
 use mail_wire::{
     CLOCK_END, Clock, Dial, Entry, Failed, Failure, Fault, FileKeeper, FixedClock, Items, Keeper,
-    MemDial, MemKeeper, MemServer, MemWire, Octets, StdWire, SystemClock, WireFailure, Words,
-    date_text, find_crlf, first_faulty, give_all, internal_date, is_message, lines, take_piece,
-    unfold,
+    MemDial, MemKeeper, MemServer, MemWire, Octets, StdWire, SystemClock, TableWord, WireFailure,
+    Words, date_text, find_crlf, find_word, first_faulty, give_all, internal_date, is_message,
+    lines, take_piece, unfold,
 };
 use std::fs::OpenOptions;
 use std::io::{self, ErrorKind, Read, Write};
@@ -324,5 +324,13 @@ fn a_dial_in_memory_keeps_what_was_said_to_a_server(rt: HostRuntime) -> Result<(
         assert!(rt; dial.asked().get(at).is_some_and(|asked| asked == *host));
     }
     assert!(rt; dial.asked().get(3).is_none());
+    Ok(())
+}
+
+#[test]
+fn words_of_a_table_are_found_in_any_case(rt: HostRuntime) -> Result<(), Fail> {
+    let table = [TableWord(b"one", 1u8), TableWord(b"two", 2)];
+    assert_eq!(rt; find_word(&table, b"TwO"), Some(2));
+    assert_eq!(rt; find_word(&table, b"tw"), None);
     Ok(())
 }

@@ -28,15 +28,18 @@ escape_of character = codes "\\x{" ++ (hexadecimal character ++ 125 ∷ [])
 abbrev pub is_plain : ℕ → Bool
 is_plain c = (nat_lt 32 c && nat_lt c 127) && not (c == 43 || c == 61 || c == 92)
 
--- what a character gives in the ASCII form, and in the UTF-8 form, where also those above 127 stand for themselves
+-- A character as utf-8-addr-xtext: as it is where it is plain, and else escaped (RFC 6533, 3).
 abbrev pub xtext_char : ℕ → List ℕ
 xtext_char c = if is_plain c then encode_utf8 c else escape_of c
 
+-- A character as utf-8-addr-unitext: as it is where it is plain or above 127, and else escaped (RFC 6533, 3).
 abbrev pub unitext_char : ℕ → List ℕ
 unitext_char c = if is_plain c || nat_lt 127 c then encode_utf8 c else escape_of c
 
+-- An address as utf-8-addr-xtext, which is ASCII (RFC 6533, 3).
 abbrev pub xtext_form : List ℕ → List ℕ
 xtext_form address = flat_map xtext_char (chars address)
 
+-- An address as utf-8-addr-unitext, in which characters above 127 stand for themselves (RFC 6533, 3).
 abbrev pub unitext_form : List ℕ → List ℕ
 unitext_form address = flat_map unitext_char (chars address)

@@ -10,9 +10,11 @@ use Rattle.encoded_words.specs.Units.{HasUnits}
 use Rattle.encoded_words.specs.Pieces.{AreBWords}
 use Rattle.encoded_words.specs.Folding.{made_body, word_pieces}
 
+-- One or more octets that may stand in the name of a field (RFC 5322, 3.6.8).
 abbrev pub IsFieldName : List ℕ → Type 0
 IsFieldName name = (0 < length name) × (list_all is_field_name_octet name ≡ true)
 
+-- A field's name with `Downgraded-` before it (RFC 6857, 3.1).
 abbrev pub downgraded_name : List ℕ → List ℕ
 downgraded_name name = codes "Downgraded-" ++ name
 

@@ -13,6 +13,7 @@ abbrev pub hex_onward : ℕ → List ℕ → ℕ
 hex_onward number [] = number
 hex_onward number (digit ∷ digits) = hex_onward (16 * number + digit_value digit) digits
 
+-- The number that hexadecimal digits write.
 abbrev pub hex_value : List ℕ → ℕ
 hex_value digits = hex_onward 0 digits
 
@@ -28,14 +29,17 @@ pub data XtextItem : Type 0 where
   Plain : ℕ → XtextItem
   Escape : List ℕ → XtextItem
 
+-- A character other than the backslash, or an escape whose digits may stand in one (RFC 6533, 3).
 abbrev pub IsXtextItem : XtextItem → Type 0
 IsXtextItem (Plain character) = IsScalar character × (character ≢ 92)
 IsXtextItem (Escape digits) = AreDigits digits
 
+-- The octets of a character: it in UTF-8, or its digits between `\x{` and `}` (RFC 6533, 3).
 abbrev pub item_spelling : XtextItem → List ℕ
 item_spelling (Plain character) = encode_utf8 character
 item_spelling (Escape digits) = codes "\\x{" ++ (digits ++ 125 ∷ [])
 
+-- The character that is meant: it, or the one whose number the digits write.
 abbrev pub item_character : XtextItem → ℕ
 item_character (Plain character) = character
 item_character (Escape digits) = hex_value digits

@@ -17,14 +17,17 @@ AreTextItems [] = Unit {0}
 AreTextItems (Plain x ∷ items) = (x ≡ 92 → items ≡ []) × AreTextItems items
 AreTextItems (Pair x ∷ items) = AreTextItems items
 
+-- An octet as it is, or behind a backslash where it is a quoted pair (RFC 5322, 3.2.1).
 abbrev pub item_spelling : TextItem → List ℕ
 item_spelling (Plain x) = x ∷ []
 item_spelling (Pair x) = 92 ∷ x ∷ []
 
+-- The octet that is meant, without the backslash of a quoted pair.
 abbrev pub item_octet : TextItem → ℕ
 item_octet (Plain x) = x
 item_octet (Pair x) = x
 
+-- A backslash stands there: the octet itself, or that of a quoted pair.
 abbrev pub has_backslash : TextItem → Bool
 has_backslash (Plain x) = x == 92
 has_backslash (Pair x) = true
@@ -40,6 +43,7 @@ pub record CommentWord : Type 0 where
   pub says : Option UnitValue
   pub run : List TextItem
 
+-- A word of a comment and the white behind it.
 abbrev pub word_items : CommentWord → List TextItem
 word_items w = w.items ++ w.run
 
@@ -55,10 +59,12 @@ abbrev pub ItemsDivide : List TextItem → List CommentWord → Type 0
 ItemsDivide run [] = Unit {0}
 ItemsDivide run (w ∷ ws) = 0 < length run
 
+-- The words of a comment's text: each is one, and white stands between any two.
 abbrev pub AreCommentWords : List CommentWord → Type 0
 AreCommentWords [] = Unit {0}
 AreCommentWords (w ∷ ws) = IsCommentWord w × ItemsDivide w.run ws × AreCommentWords ws
 
+-- A word of a comment with this white behind it, by the octets that are meant.
 abbrev pub comment_place : CommentWord → List TextItem → Place
 comment_place w run = record { word = map item_octet w.items; says = w.says; run = map item_octet run }
 

@@ -11,6 +11,7 @@ pub data PhraseItem : Type 0 where
   Dot : PhraseItem
   Separator : PhraseItem
 
+-- An atom or the content of a quoted string is UTF-8 (RFC 6532, 3.2).
 abbrev pub IsUtf8Item : PhraseItem → Type 0
 IsUtf8Item (Atom octets) = IsUtf8 octets
 IsUtf8Item (Content octets) = IsUtf8 octets
@@ -43,6 +44,7 @@ pub record PhraseWord : Type 0 where
   pub may_be_encoded : Bool
   pub gap : List ℕ
 
+-- A word of a phrase, with the gap that stands before the items that follow it.
 abbrev pub word_before : List ℕ → Bool → List PhraseItem → PhraseWord
 word_before octets may_be_encoded items = record { octets = octets; may_be_encoded = may_be_encoded; gap = gap_before items }
 
@@ -55,6 +57,7 @@ phrase_words is_free (Atom octets ∷ items) = word_before octets (is_free && be
 phrase_words is_free (Content octets ∷ items) = word_before octets false items ∷ phrase_words false items
 phrase_words is_free (Dot ∷ items) = word_before (46 ∷ []) false items ∷ phrase_words false items
 
+-- A word of a phrase with what it says, as an encoded word where it may be one (RFC 2047, 5, rule 3).
 pub record IsPhrasePlace (w : PhraseWord) (p : Place) : Type 0 where
   pub word : p.word ≡ w.octets
   pub says : SaysWhere w.may_be_encoded w.octets p.says
@@ -67,7 +70,7 @@ ArePhrasePlaces [] (p ∷ ps) = ⊥
 ArePhrasePlaces (w ∷ ws) [] = ⊥
 ArePhrasePlaces (w ∷ ws) (p ∷ ps) = IsPhrasePlace w p × ArePhrasePlaces ws ps
 
--- these are the units of all of the phrase
+-- A phrase of these items says these units (RFC 5322, 3.2.5; RFC 2047, 5, rule 3).
 pub record HasPhraseUnits (items : List PhraseItem) (units : List UnitValue) : Type 0 where
   pub places : List Place
   pub are_places : ArePhrasePlaces (phrase_words true items) places

@@ -11,9 +11,11 @@ pub record Place : Type 0 where
   pub says : Option UnitValue
   pub run : List ℕ
 
+-- A word and the white behind it.
 abbrev pub place_octets : Place → List ℕ
 place_octets p = p.word ++ p.run
 
+-- A word of one or more octets that aren't white, what it says as an encoded word, if it is one, and a run of white.
 pub record IsPlace (p : Place) : Type 0 where
   pub is_word : 0 < length p.word
   pub black : list_all is_black p.word ≡ true
@@ -25,10 +27,12 @@ abbrev pub Divides : List ℕ → List Place → Type 0
 Divides run [] = Unit {0}
 Divides run (p ∷ ps) = 0 < length run
 
+-- The words of a text: each is one, and white stands between any two.
 abbrev pub ArePlaces : List Place → Type 0
 ArePlaces [] = Unit {0}
 ArePlaces (p ∷ ps) = IsPlace p × Divides p.run ps × ArePlaces ps
 
+-- What an encoded word says, or else the word as text.
 abbrev pub word_unit : Option UnitValue → List ℕ → UnitValue
 word_unit (Some unit) word = unit
 word_unit None word = Text word
@@ -54,6 +58,7 @@ with_text (b ∷ bs) [] = Text (b ∷ bs) ∷ []
 with_text (b ∷ bs) (Text more ∷ us) = Text ((b ∷ bs) ++ more) ∷ us
 with_text (b ∷ bs) (Opaque charset octets source ∷ us) = Text (b ∷ bs) ∷ Opaque charset octets source ∷ us
 
+-- The units with texts that touch joined to one, and without empty ones.
 abbrev pub merged : List UnitValue → List UnitValue
 merged [] = []
 merged (Text bs ∷ us) = with_text bs (merged us)

@@ -36,16 +36,19 @@ pub data QItem : Type 0 where
   Escape : ℕ → ℕ → QItem
   Plain : ℕ → QItem
 
+-- A space, an octet by its two hexadecimal digits, or an octet by itself that is neither `=` nor `_` (RFC 2047, 4.2).
 abbrev pub IsQItem : QItem → Type 0
 IsQItem Space = Unit {0}
 IsQItem (Escape high low) = (digit_value high < 16) × (digit_value low < 16)
 IsQItem (Plain b) = (b ≢ 61) × (b ≢ 95)
 
+-- How a Q text spells it: `_` for a space, `=` and two digits, or the octet itself (RFC 2047, 4.2).
 abbrev pub q_spelling : QItem → List ℕ
 q_spelling Space = 95 ∷ []
 q_spelling (Escape high low) = 61 ∷ high ∷ low ∷ []
 q_spelling (Plain b) = b ∷ []
 
+-- The octet that is spelled (RFC 2047, 4.2).
 abbrev pub q_octet : QItem → ℕ
 q_octet Space = 32
 q_octet (Escape high low) = 16 * digit_value high + digit_value low
@@ -75,6 +78,7 @@ pub record WordParts : Type 0 where
   pub letter : ℕ
   pub text : List ℕ
 
+-- A star and the language behind a charset's name, where there is a language (RFC 2231, 5).
 abbrev pub language_suffix : Option (List ℕ) → List ℕ
 language_suffix None = []
 language_suffix (Some language) = 42 ∷ language
@@ -101,6 +105,7 @@ abbrev pub gives_text : List ℕ → List ℕ → Bool
 gives_text name octets = (bytes_eq name (codes "utf-8") && is_utf8 octets)
     || (bytes_eq name (codes "us-ascii") && list_all (λ b. nat_lt b 128) octets)
 
+-- What an encoded word of this charset says with these octets: text where they are UTF-8 or ASCII as it says, and else the word as it stands.
 unfoldable pub unit_of : List ℕ → List ℕ → List ℕ → UnitValue
 unit_of charset octets word = let name = str_to_ascii_lowercase charset in
     if gives_text name octets then Text octets else Opaque name octets word
@@ -118,7 +123,7 @@ abbrev pub Says : List ℕ → Option UnitValue → Type 0
 Says word (Some unit) = IsEncodedWord word unit
 Says word None = (unit : UnitValue) → ¬ IsEncodedWord word unit
 
--- the same, where the word may be an encoded word at all
+-- What a word says as an encoded word, where it stands in a place that allows one.
 abbrev pub SaysWhere : Bool → List ℕ → Option UnitValue → Type 0
 SaysWhere true word says = Says word says
 SaysWhere false word says = says ≡ None

@@ -29,6 +29,7 @@ abbrev pub IsWritable : UnitValue → Type 0
 IsWritable (Text octets) = IsUtf8 octets
 IsWritable (Opaque charset octets source) = IsEncodedWord source (Opaque charset octets source)
 
+-- Each of the units can be written.
 abbrev pub AreWritable : List UnitValue → Type 0
 AreWritable us = AllByRecursion IsWritable us
 

@@ -21,6 +21,7 @@ is_resent_originator_name name = same_name name (codes "Resent-From") || same_na
 unfoldable pub is_resent_destination_name : List ℕ → Bool
 is_resent_destination_name name = same_name name (codes "Resent-To") || same_name name (codes "Resent-Cc") || same_name name (codes "Resent-Bcc")
 
+-- A field of originators or destinations, of the message or of one who resent it (RFC 5322, 3.6.2, 3.6.3 and 3.6.6).
 unfoldable pub is_address_name : List ℕ → Bool
 is_address_name name = is_originator_name name || is_destination_name name || is_resent_originator_name name || is_resent_destination_name name
 

@@ -16,13 +16,16 @@ spaced pieces = map (λ octets. record { white = 32; octets = octets }) pieces
 abbrev pub made_of : FieldParts → List Piece → FieldParts
 made_of f pieces = record { name = f.name; white = []; body = made_body pieces; ending = f.ending }
 
+-- What a word is as a neighbour: an encoded word, or plain text.
 abbrev pub side_of : Word → Side
 side_of w = if w.is_encoded then Encoded else Plain
 
+-- What stands first: an encoded word, plain text, or the edge of the text where there is no word.
 abbrev pub first_side : List Word → Side
 first_side [] = Edge
 first_side (w ∷ ws) = side_of w
 
+-- What stands last: an encoded word, plain text, or the edge of the text where there is no word.
 abbrev pub last_side : List Word → Side
 last_side [] = Edge
 last_side (w ∷ []) = side_of w
@@ -46,21 +49,26 @@ pub record Segment : Type 0 where
   pub core : List Word
   pub copied : List Word
 
+-- The words of a segment: its core, and those that are copied.
 abbrev pub segment_words : Segment → List Word
 segment_words s = s.core ++ s.copied
 
+-- The first word has an octet above 127.
 abbrev pub begins_high : List Word → Bool
 begins_high [] = false
 begins_high (w ∷ ws) = is_high_word w
 
+-- The last word has an octet above 127.
 abbrev pub ends_high : List Word → Bool
 ends_high [] = false
 ends_high (w ∷ []) = is_high_word w
 ends_high (w ∷ v ∷ ws) = ends_high (v ∷ ws)
 
+-- No word has an octet above 127, so that all of them are copied.
 abbrev pub IsCopied : List Word → Type 0
 IsCopied ws = list_all (λ w. not (is_high_word w)) ws ≡ true
 
+-- The core begins and ends with a word that isn't ASCII and has no encoded word; the words behind it are ASCII.
 pub record IsSegment (s : Segment) : Type 0 where
   pub begins : begins_high s.core ≡ true
   pub ends : ends_high s.core ≡ true
@@ -72,6 +80,7 @@ abbrev pub Parts : List Word → List Segment → Type 0
 Parts copied [] = Unit {0}
 Parts copied (s ∷ ss) = list_any (λ w. w.is_encoded) copied ≡ true
 
+-- Each is a segment, and an encoded word stands between any two.
 abbrev pub AreSegments : List Segment → Type 0
 AreSegments [] = Unit {0}
 AreSegments (s ∷ ss) = IsSegment s × Parts s.copied ss × AreSegments ss

@@ -35,10 +35,12 @@ pub record ClauseTokens : Type 0 where
   pub word : TokenValue
   pub behind : List TokenValue
 
+-- The first token may start a clause, and those behind it start no other and end none (RFC 5321, 4.4).
 pub record IsClause (clause : ClauseTokens) : Type 0 where
   pub starts : starts_clause clause.word ≡ true
   pub inner : list_all is_inner clause.behind ≡ true
 
+-- The token that starts a clause, and those behind it.
 abbrev pub clause_tokens : ClauseTokens → List TokenValue
 clause_tokens clause = clause.word ∷ clause.behind
 
@@ -48,9 +50,11 @@ pub record ReceivedParts : Type 0 where
   pub clauses : List ClauseTokens
   pub date : Option (List TokenValue)
 
+-- The semicolon before the date of a Received field (RFC 5322, 3.6.7).
 abbrev pub semicolon : TokenValue
 semicolon = record { kind = Special; octets = 59 ∷ [] }
 
+-- The semicolon and the tokens of the date, where there is one (RFC 5322, 3.6.7).
 abbrev pub date_tokens : Option (List TokenValue) → List TokenValue
 date_tokens None = []
 date_tokens (Some tokens) = semicolon ∷ tokens
@@ -83,9 +87,11 @@ pub record Clause : Type 0 where
   pub word : List ℕ
   pub text : List ℕ
 
+-- The word of a clause in lower case, and the text behind it without comments.
 abbrev pub clause_of : ClauseTokens → Clause
 clause_of clause = record { word = str_to_ascii_lowercase clause.word.octets; text = squeezed_values clause.behind }
 
+-- The text of a date without comments, where there is one.
 abbrev pub date_of : Option (List TokenValue) → Option (List ℕ)
 date_of None = None
 date_of (Some tokens) = Some (squeezed_values tokens)
@@ -109,6 +115,7 @@ is_host_word word = same_name word (codes "from") || same_name word (codes "by")
 abbrev pub holds_clause_word : List ℕ → Bool
 holds_clause_word form = list_any is_clause_word (slice_split (λ x. x == 46) form)
 
+-- The form of a host's name, unless a label of it would start a clause.
 abbrev pub unless_word : Option (List ℕ) → Option (List ℕ)
 unless_word None = None
 unless_word (Some form) = cond (holds_clause_word form) None (Some form)
@@ -117,6 +124,7 @@ unless_word (Some form) = cond (holds_clause_word form) None (Some form)
 abbrev pub served_text : List ℕ → List ℕ → Option (List ℕ)
 served_text word text = cond (list_all is_ascii text) (Some text) (cond (is_host_word word) (unless_word (normal_form text)) None)
 
+-- The clause of this word and text, or none where there is no text.
 abbrev pub clause_with : List ℕ → Option (List ℕ) → List Clause
 clause_with word None = []
 clause_with word (Some text) = record { word = word; text = text } ∷ []
@@ -132,6 +140,7 @@ abbrev pub with_space_before : List ℕ → List ℕ
 with_space_before [] = []
 with_space_before (x ∷ xs) = 32 ∷ x ∷ xs
 
+-- The word of a clause and its text, or nothing where the text can't be served.
 abbrev pub served_piece : List ℕ → Option (List ℕ) → List (List ℕ)
 served_piece word None = []
 served_piece word (Some text) = (word ++ with_space_before text) ∷ []
@@ -142,6 +151,7 @@ pub record ClausePieces (clause : ClauseTokens) (pieces : List (List ℕ)) : Typ
   pub comments_are : CommentsPieces (comments_of clause.behind) comments
   pub pieces_are : pieces ≡ served_piece clause.word.octets (served_text clause.word.octets (squeezed_values clause.behind)) ++ comments
 
+-- The pieces of the clauses, one clause after another.
 abbrev pub ClausesPieces : List ClauseTokens → List (List ℕ) → Type 0
 ClausesPieces [] pieces = pieces ≡ []
 ClausesPieces (clause ∷ clauses) pieces = (first more : List (List ℕ)) × (pieces ≡ first ++ more) × ClausePieces clause first × ClausesPieces clauses more
@@ -161,6 +171,7 @@ pub record PartsPieces (parts : ReceivedParts) (pieces : List (List ℕ)) : Type
   pub date_are : DatePieces parts.date date
   pub pieces_are : pieces ≡ front ++ (clauses ++ date)
 
+-- The pieces of a Received field: those of its front, of its clauses and of its date.
 pub record ReceivedPieces (text : List ℕ) (pieces : List (List ℕ)) : Type 0 where
   pub tokens : List TokenValue
   pub parts : ReceivedParts

@@ -45,6 +45,7 @@ abbrev pub BeginsHyphen : List ℕ → Type 0
 BeginsHyphen [] = ⊥
 BeginsHyphen (x ∷ xs) = x ≡ 45
 
+-- The field Content-Transfer-Encoding (RFC 2045, 6).
 unfoldable pub is_encoding_name : List ℕ → Bool
 is_encoding_name name = same_name name (codes "Content-Transfer-Encoding")
 
@@ -143,6 +144,7 @@ pub data HasHighLayout (open_global : Bool) (f g : FieldParts) : Type 0 where
   KeptMalformed : (value : List ℕ) (words : List (List ℕ)) → IsMalformed f → keeps_name f.name ≡ true → HasValue f.body value → AreBWords value words → g ≡ made_of f (word_pieces 32 words)
       → HasHighLayout open_global f g
 
+-- The field with this body.
 abbrev pub with_body : FieldParts → List ℕ → FieldParts
 with_body f body = record { name = f.name; white = f.white; body = body; ending = f.ending }
 

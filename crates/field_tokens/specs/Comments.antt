@@ -34,10 +34,12 @@ abbrev pub TextSays : List TextItem → Option (List UnitValue) → Type 0
 TextSays text None = list_all is_white_item text ≡ true
 TextSays text (Some units) = (run : List TextItem) × HasRunOf text run × HasCommentUnits (spelling run) units
 
+-- The units of a text before what follows in a comment, where it says something.
 abbrev pub units_then : Option (List UnitValue) → CommentValue → CommentValue
 units_then None more = more
 units_then (Some units) more = UnitsThen units more
 
+-- What the content of a comment says: its texts and nested comments, in their order (RFC 5322, 3.2.2).
 abbrev pub BodySays : Body → CommentValue → Type 0
 BodySays (Last text) value = (units : Option (List UnitValue)) × TextSays text units × (value ≡ units_then units End)
 BodySays (Before text inner more) value = (units : Option (List UnitValue)) × (nested behind : CommentValue) × TextSays text units × BodySays inner nested × BodySays more behind
@@ -69,6 +71,7 @@ abbrev pub WrappedPieces : Bool → List ℕ → (List (List ℕ) → Type 0) �
 WrappedPieces true octets Inner pieces = pieces ≡ octets ∷ []
 WrappedPieces false octets Inner pieces = (inner : List (List ℕ)) × Inner inner × (pieces ≡ (40 ∷ []) ∷ (inner ++ (41 ∷ []) ∷ []))
 
+-- The pieces of a comment's content in ASCII: those of its texts and of its nested comments, in their order (RFC 2047, 5, rule 2).
 abbrev pub BodyPieces : Body → List (List ℕ) → Type 0
 BodyPieces (Last text) pieces = TextPieces text pieces
 BodyPieces (Before text inner more) pieces = (first nested behind : List (List ℕ)) × TextPieces text first

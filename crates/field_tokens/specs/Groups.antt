@@ -11,6 +11,7 @@ pub data Inside : Type 0 where
   Pair : ℕ → Inside → Inside
   Nested : Inside → Inside → Inside
 
+-- The octets of a group's content: octets, quoted pairs, and groups in its marks.
 abbrev pub inside_octets : Marks → Inside → List ℕ
 inside_octets m End = []
 inside_octets m (Plain x more) = x ∷ inside_octets m more

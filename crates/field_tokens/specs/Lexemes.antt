@@ -7,6 +7,7 @@ use Rattle.field_tokens.specs.declared.lexemes.Mark.{Mark}
 use Rattle.field_tokens.specs.declared.lexemes.Lexemes.{Lexemes}
 use Rattle.field_tokens.specs.Tokens.{TokenValue}
 
+-- The kind of a token, and its octets.
 abbrev pub value_of : Lexeme → TokenValue
 value_of l = record { kind = l.kind; octets = l.octets.now }
 
@@ -19,12 +20,15 @@ kind_number Special = 3
 kind_number Gap = 4
 kind_number Comment = 5
 
+-- The kind of this number.
 abbrev pub kind_numbered : ℕ → TokenKind
 kind_numbered n = if n == 0 then Atom else if n == 1 then Quoted else if n == 2 then Literal else if n == 3 then Special else if n == 4 then Gap else Comment
 
+-- The kind of a token, which the lowest three bits of its mark say.
 abbrev pub marked_kind : Mark → TokenKind
 marked_kind m = kind_numbered (m.code % 8)
 
+-- The length of a token, which the other bits of its mark say.
 abbrev pub marked_len : Mark → ℕ
 marked_len m = m.code / 8
 
@@ -33,5 +37,6 @@ abbrev pub lexemes_in : List ℕ → List Mark → List TokenValue
 lexemes_in text [] = []
 lexemes_in text (m ∷ ms) = record { kind = marked_kind m; octets = take (marked_len m) text } ∷ lexemes_in (drop (marked_len m) text) ms
 
+-- The tokens of a text, by their kinds and octets.
 abbrev pub values_of : Lexemes → List TokenValue
 values_of ls = lexemes_in ls.text.now ls.marks.now

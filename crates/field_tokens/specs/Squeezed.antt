@@ -20,6 +20,7 @@ is_blank Special = false
 abbrev pub run_octets : List ℕ → List Token → List ℕ
 run_octets text tokens = flat_map (λ token. octets_at text token.span) tokens
 
+-- The list has an element.
 abbrev pub is_there : {A : Type 0} → List A → Bool
 is_there [] = false
 is_there (token ∷ tokens) = true
@@ -39,17 +40,19 @@ pub record StandTogether (text : List ℕ) (tokens : List Token) : Type 0 where
 abbrev pub AreNeighbours : List ℕ → List Token → Type 0
 AreNeighbours text tokens = (tokens ≡ []) ⊎ StandTogether text tokens
 
--- The same by the octets of tokens: the runs of tokens between gaps and comments, ...
+-- The runs of tokens between gaps and comments.
 abbrev pub runs_of : List TokenValue → List (List TokenValue)
 runs_of tokens = filter is_there (slice_split (λ token. is_blank token.kind) tokens)
 
+-- The octets of tokens, one behind another.
 abbrev pub octets_of : List TokenValue → List ℕ
 octets_of tokens = flat_map (λ token. token.octets) tokens
 
--- ... joined by spaces
+-- The octets of tokens without comments, with a space where a gap or a comment stood between two of them.
 abbrev pub squeezed_values : List TokenValue → List ℕ
 squeezed_values tokens = join_with_byte 32 (map octets_of (runs_of tokens))
 
+-- The token is a comment (RFC 5322, 3.2.2).
 abbrev pub is_comment : TokenKind → Bool
 is_comment Comment = true
 is_comment Atom = false
@@ -66,6 +69,7 @@ comments_of tokens = map (λ token. token.octets) (filter (λ token. is_comment 
 abbrev pub words_of : List TokenValue → List TokenValue
 words_of tokens = filter (λ token. not (is_blank token.kind)) tokens
 
+-- The token is a gap: white and folds (RFC 5322, 3.2.2).
 abbrev pub is_gap : TokenKind → Bool
 is_gap Gap = true
 is_gap Atom = false
@@ -74,6 +78,7 @@ is_gap Literal = false
 is_gap Special = false
 is_gap Comment = false
 
+-- The token is an atom (RFC 5322, 3.2.3).
 abbrev pub is_atom_kind : TokenKind → Bool
 is_atom_kind Atom = true
 is_atom_kind Quoted = false
@@ -82,6 +87,7 @@ is_atom_kind Special = false
 is_atom_kind Gap = false
 is_atom_kind Comment = false
 
+-- The token is a special (RFC 5322, 3.2.3).
 abbrev pub is_special_kind : TokenKind → Bool
 is_special_kind Special = true
 is_special_kind Atom = false

@@ -5,6 +5,7 @@ use Rattle.mail_wire.specs.Octets.{is_white, is_line_end}
 use Rattle.field_tokens.specs.declared.Style.{Style}
 use Rattle.field_tokens.specs.declared.Style.TheVariants.{Mail, Mime}
 
+-- The field is one of mail (RFC 5322, 3.2.3) and not of MIME (RFC 2045, 5.1).
 abbrev pub is_mail : Style → Bool
 is_mail Mail = true
 is_mail Mime = false

@@ -13,12 +13,15 @@ use Rattle.field_tokens.specs.declared.TokenKind.TheVariants.{Atom, Quoted, Lite
 use Rattle.field_tokens.specs.TokenOctets.{is_special, is_atom_octet, is_line_octet}
 use Rattle.field_tokens.specs.Groups.{IsEnclosed}
 
+-- A comment stands between parentheses, and comments may nest, 64 deep at most (RFC 5322, 3.2.2; the depth is a limit of this reader).
 abbrev pub comment_marks : Marks
 comment_marks = record { open_mark = 40; close_mark = 41; limit = 64; holds_controls = true }
 
+-- A quoted string stands between double quotes (RFC 5322, 3.2.4).
 abbrev pub quoted_marks : Marks
 quoted_marks = record { open_mark = 34; close_mark = 34; limit = 1; holds_controls = true }
 
+-- A domain literal stands between square brackets, and controls may not stand in it (RFC 5322, 3.4.1).
 abbrev pub literal_marks : Marks
 literal_marks = record { open_mark = 91; close_mark = 93; limit = 1; holds_controls = false }
 

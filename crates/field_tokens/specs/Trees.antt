@@ -15,9 +15,11 @@ abbrev pub StandsInText : TextItem → Type 0
 StandsInText (Plain x) = (x ≢ 40) × (x ≢ 41) × (x ≢ 92)
 StandsInText (Pair x) = ⊤
 
+-- A comment's text: no parenthesis and no backslash, but in quoted pairs (RFC 5322, 3.2.2).
 abbrev pub AreText : List TextItem → Type 0
 AreText text = AllByRecursion StandsInText text
 
+-- The octets of a comment's text.
 abbrev pub spelling : List TextItem → List ℕ
 spelling text = flat_map item_spelling text
 
@@ -26,10 +28,12 @@ pub data Body : Type 0 where
   Last : List TextItem → Body
   Before : List TextItem → Body → Body → Body
 
+-- The octets of a comment's content, with the parentheses of the comments in it.
 abbrev pub body_octets : Body → List ℕ
 body_octets (Last text) = spelling text
 body_octets (Before text inner more) = spelling text ++ 40 ∷ (body_octets inner ++ 41 ∷ body_octets more)
 
+-- All texts in a comment's content are texts of comments (RFC 5322, 3.2.2).
 abbrev pub IsCommentBody : Body → Type 0
 IsCommentBody (Last text) = AreText text
 IsCommentBody (Before text inner more) = AreText text × IsCommentBody inner × IsCommentBody more
@@ -86,10 +90,12 @@ abbrev pub item_step : Item-F (Tree → Tree) Tree → Tree → Tree
 item_step (Run span) more = RunThen span more
 item_step (Nested comment) more = NestedThen comment more
 
+-- What the items make of a tree, each put before those that follow.
 abbrev pub all_before : List (Tree → Tree) → Tree → Tree
 all_before [] more = more
 all_before (item ∷ items) more = item (all_before items more)
 
+-- The tree of a comment's items.
 abbrev pub comment_step : Comment-F (Tree → Tree) Tree → Tree
 comment_step comment = all_before comment.items.items End
 
@@ -97,5 +103,6 @@ comment_step comment = all_before comment.items.items End
 abbrev pub tree_of : Comment → Tree
 tree_of = fold-Comment (Tree → Tree) Tree item_step comment_step
 
+-- An item of a comment before a tree.
 abbrev pub tree_item : Item → Tree → Tree
 tree_item = fold-Item (Tree → Tree) Tree item_step comment_step

@@ -22,39 +22,40 @@ use Rattle.imap_grammar.specs.declared.awaited.Awaited.TheVariants as awaited
 use Rattle.imap_grammar.specs.declared.awaited.Next.{Next}
 use Rattle.imap_grammar.specs.declared.awaited.Next.TheVariants.{Whole, Awaits}
 
+-- The command of a word with the mailbox that it names.
 abbrev pub named : Naming → List ℕ → Command
 named naming.Select = command.Select
 named naming.Examine = command.Examine
 named naming.Create = command.Create
 
--- behind the name of LOGIN
+-- What follows the name of LOGIN (RFC 3501, 6.2.3).
 abbrev pub IsBehindUser : Bool → List ℕ → List ℕ → Command → Type 0
 IsBehindUser utf8 name = After IsSpace (Then (IsAstring utf8) (λ password. IsBareCommand (command.Login name password)))
 
--- behind the reference of LIST
+-- What follows the reference of LIST (RFC 3501, 6.3.8).
 abbrev pub IsBehindReference : Bool → List ℕ → List ℕ → Command → Type 0
 IsBehindReference utf8 reference = After IsSpace (Then (IsListMailbox utf8) (λ pattern. IsBareCommand (command.List reference pattern)))
 
--- behind the mailbox of STATUS
+-- What follows the mailbox of STATUS (RFC 3501, 6.3.10).
 abbrev pub IsBehindStatusName : List ℕ → List ℕ → Command → Type 0
 IsBehindStatusName mailbox = After IsSpace (Then IsStatusItems (λ items. IsBareCommand (command.Status mailbox items)))
 
--- behind the data of APPEND
+-- What follows the data of APPEND (RFC 3501, 6.3.11; RFC 6855, 4).
 abbrev pub IsBehindData : List ℕ → ℕ → Option (List ℕ) → Bool → List ℕ → List ℕ → Command → Type 0
 IsBehindData mailbox flags date in_utf8 octets = After (IsDataEnd in_utf8) (Is (command.Append mailbox flags date in_utf8 octets))
 
--- behind the mailbox of APPEND
+-- What follows the mailbox of APPEND (RFC 3501, 6.3.11).
 abbrev pub IsBehindAppendName : List ℕ → List ℕ → Command → Type 0
 IsBehindAppendName mailbox =
     Then (Maybe (After IsSpace IsFlagList)) (λ flags. Then (Maybe (After IsSpace IsDateTime)) (λ date. After IsSpace (Then IsDataFront (λ announced.
     Then (IsCounted announced.size) (IsBehindData mailbox (some_flags flags) date announced.utf8)))))
 
--- behind an item of FETCH, which is put last: more of them, or the end
+-- What follows an item of FETCH, which is put last: more of them, or the end (RFC 3501, 6.4.5).
 abbrev pub IsBehindItems : (listed : Bool) → Bool → Bool → List (Option ℕ × Option ℕ) → List FetchItem → List ℕ → Command → Type 0
 IsBehindItems true utf8 by_uid set items = Then (IsMoreThan IsSpace (IsFetchAtt utf8) IsCloseParenthesis items) (λ all. IsBareCommand (command.Fetch by_uid (record { ranges = set }) all))
 IsBehindItems false utf8 by_uid set items = IsBareCommand (command.Fetch by_uid (record { ranges = set }) items)
 
--- behind a name of a field, which is put last: more names, then the section's end and what follows the item
+-- What follows a name of a field, which is put last: more names, then the section's end and what follows the item (RFC 3501, 6.4.5).
 abbrev pub IsBehindNames : Bool → FieldNames → List (List ℕ) → List ℕ → Command → Type 0
 IsBehindNames utf8 so_far names =
     Then (IsMoreThan IsSpace (IsHeaderName utf8) IsCloseParenthesis names) (λ all. After (IsOctet 93) (Then (Maybe IsPartial) (λ partial.
@@ -98,5 +99,6 @@ abbrev pub Comes : Bool → (List ℕ → Command → Type 0) → List ℕ → N
 Comes utf8 L text (Whole c) rest = Reads L never text c rest
 Comes utf8 L text (Awaits size a) rest = IsAfterHeader text size rest × IsSized size a × Leaves L text (IsRestAtLiteral utf8 size a) rest
 
+-- The literal that was announced: whether it comes in UTF8, and its size.
 abbrev pub announced_of : Bool × ℕ → Announced
 announced_of front = record { utf8 = front.0; size = front.1 }

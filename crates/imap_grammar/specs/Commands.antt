@@ -69,12 +69,13 @@ pub record Announced : Type 0 where
 abbrev pub utf8_words : List (Named Bool)
 utf8_words = record { word = codes "UTF8"; says = true } ∷ []
 
+-- The header of APPEND's literal, by itself or in `UTF8 (` (RFC 3501, 6.3.11; RFC 6855, 4).
 abbrev pub IsDataFront : List ℕ → Announced → Type 0
 IsDataFront =
     Or (Then IsHeader (λ size. Is (record { utf8 = false; size = size })))
     (After (IsWordOf utf8_words) (After IsSpace (After IsOpenParenthesis (Then IsHeader8 (λ size. Is (record { utf8 = true; size = size }))))))
 
--- this octet
+-- The octet is this one.
 abbrev pub at_octet : ℕ → ℕ → Bool
 at_octet x y = y == x
 
@@ -98,6 +99,7 @@ pub record AppendFront : Type 0 where
   pub date : Option (List ℕ)
   pub announced : Announced
 
+-- The sum of the flags of a list, or 0 where none is given.
 abbrev pub some_flags : Option (List (List ℕ)) → ℕ
 some_flags None = 0
 some_flags (Some flags) = flags_of flags
@@ -137,11 +139,13 @@ uid_names =
     record { word = codes "FETCH"; says = uid.Fetch } ∷ record { word = codes "STORE"; says = uid.Store } ∷ record { word = codes "COPY"; says = uid.NotHere }
     ∷ record { word = codes "SEARCH"; says = uid.NotHere } ∷ []
 
+-- What follows the word behind UID: a FETCH or a STORE by unique identifiers, or a command that isn't here (RFC 3501, 6.4.8).
 abbrev pub IsBehindUid : Bool → UidName → List ℕ → Command → Type 0
 IsBehindUid utf8 uid.Fetch = IsFetch utf8 true
 IsBehindUid utf8 uid.Store = IsStore true
 IsBehindUid utf8 uid.NotHere = IsNotHere
 
+-- What follows UID: a space, FETCH, STORE, COPY or SEARCH, and the words of that (RFC 3501, 6.4.8).
 abbrev pub IsUid : Bool → List ℕ → Command → Type 0
 IsUid utf8 = After IsSpace (Then (IsWordOf uid_names) (IsBehindUid utf8))
 

@@ -25,6 +25,7 @@ pub record LiteralLine : Type 0 where
   pub line : List ℕ
   pub literal : List ℕ
 
+-- The line ends with the header of a literal of so many octets (RFC 3501, 4.3).
 pub record IsLiteralLine (l : LiteralLine) : Type 0 where
   pub front : List ℕ
   pub header : List ℕ
@@ -32,6 +33,7 @@ pub record IsLiteralLine (l : LiteralLine) : Type 0 where
   pub whole : l.line ≡ front ++ header
   pub is_header : IsHeader header (length l.literal)
 
+-- A line and the literal behind it.
 abbrev pub literal_line : LiteralLine → List ℕ
 literal_line l = l.line ++ l.literal
 
@@ -69,6 +71,7 @@ pub record BeginsWithTag (octets tag : List ℕ) : Type 0 where
   pub whole : octets ≡ tag ++ 32 ∷ rest
   pub is_tag : IsTag tag tag
 
+-- The octets begin with this tag and a space, or with no tag where none is given.
 abbrev pub HasTag : List ℕ → Option (List ℕ) → Type 0
 HasTag octets (Some tag) = BeginsWithTag octets tag
 HasTag octets None = (tag : List ℕ) → BeginsWithTag octets tag → ⊥
@@ -78,9 +81,11 @@ pub record Appends : Type 0 where
   pub tag : List ℕ
   pub front : AppendFront
 
+-- The word APPEND (RFC 3501, 6.3.11).
 abbrev pub append_words : List (Named Name)
 append_words = record { word = codes "APPEND"; says = name.Append } ∷ []
 
+-- The octets are an APPEND with this tag up to the data of its message (RFC 3501, 6.3.11).
 abbrev pub IsAppending : Bool → List ℕ → Appends → Type 0
 IsAppending utf8 = Then IsTag (λ tag. After IsSpace (After (IsWordOf append_words) (Then (IsAppendFront utf8) (λ front. Is (record { tag = tag; front = front })))))
 

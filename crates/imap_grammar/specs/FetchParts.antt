@@ -26,20 +26,23 @@ use Rattle.imap_grammar.specs.declared.fetch.Step.TheVariants.{Read, Awaits}
 
 -- ---- items that were put last
 
+-- A FETCH with these items put last.
 abbrev pub with_items : Fetching → List FetchItem → Fetching
 with_items f items = record { uid = f.uid; set = f.set; items = f.items ++ items; listed = f.listed }
 
+-- A list of fields with this name put last.
 abbrev pub with_name : FieldNames → List ℕ → FieldNames
 with_name f name = record { fetching = f.fetching; peek = f.peek; path = f.path; negated = f.negated; names = f.names ++ name ∷ [] }
 
+-- A section with this part number put last.
 abbrev pub with_number : Begun → ℕ → Begun
 with_number b number = record { fetching = b.fetching; peek = b.peek; path = b.path ++ number ∷ [] }
 
--- behind the items so far and these: more of them, or the end
+-- What follows the items of FETCH so far and these: more of them, or the end.
 abbrev pub IsBehindThese : Bool → Fetching → List FetchItem → List ℕ → Command → Type 0
 IsBehindThese utf8 f items = IsBehindItems f.listed utf8 f.uid f.set.ranges (f.items ++ items)
 
--- behind what was read
+-- What follows that which was read of FETCH.
 abbrev pub IsBehindStep : Bool → Step → List ℕ → Command → Type 0
 IsBehindStep utf8 (Read f) = IsBehindItems f.listed utf8 f.uid f.set.ranges f.items
 IsBehindStep utf8 (Awaits size so_far) = IsRestAtLiteral utf8 size (awaited.FieldName so_far)
@@ -78,7 +81,7 @@ IsSectionEnd utf8 f peek path p = After (IsOctet 93) (Then (Maybe IsPartial) (λ
 abbrev pub AreNames : Bool → Fetching → Bool → List ℕ → Bool → List ℕ → Command → Type 0
 AreNames utf8 f peek path negated = After IsSpace (Then (IsHeaderList utf8) (λ names. IsSectionEnd utf8 f peek path (part.Fields names negated)))
 
--- behind a word of a section
+-- What follows a word of a section.
 abbrev pub IsBehindText : Bool → Fetching → Bool → List ℕ → SectionWord → List ℕ → Command → Type 0
 IsBehindText utf8 f peek path w = Then (IsBehindWord utf8 w) (IsSectionEnd utf8 f peek path)
 
@@ -86,11 +89,11 @@ IsBehindText utf8 f peek path w = Then (IsBehindWord utf8 w) (IsSectionEnd utf8 
 abbrev pub IsText : Bool → Bool → Fetching → Bool → List ℕ → List ℕ → Command → Type 0
 IsText behind_numbers utf8 f peek path = Then (IsWordOf (text_words behind_numbers)) (IsBehindText utf8 f peek path)
 
--- behind the numbers of a section
+-- What follows the part numbers of a section.
 abbrev pub IsBehindNumbers : Bool → Fetching → Bool → List ℕ → List ℕ → Command → Type 0
 IsBehindNumbers utf8 f peek path = Or (IsSectionEnd utf8 f peek path part.Whole) (After (IsOctet 46) (IsText true utf8 f peek path))
 
--- behind one of them, which is put last
+-- What follows a part number of a section, which is put last.
 abbrev pub AreMoreNumbers : Bool → Fetching → Bool → List ℕ → List ℕ → Command → Type 0
 AreMoreNumbers utf8 f peek path = Then (IsMoreThan (IsOctet 46) IsNonZero IsNothing path) (IsBehindNumbers utf8 f peek)
 
@@ -111,6 +114,7 @@ IsBehindAny utf8 word.Fast = Is (macro_items word.Fast)
 IsBehindAny utf8 word.Full = Is (macro_items word.Full)
 IsBehindAny utf8 w = Then (IsBehindItem utf8 w) (λ i. Is (i ∷ []))
 
+-- What is left of a FETCH behind the word of an item or of a macro.
 abbrev pub IsRestOf : Bool → Fetching → ItemWord → List ℕ → Command → Type 0
 IsRestOf utf8 f w = Then (IsBehindAny utf8 w) (IsBehindThese utf8 f)
 

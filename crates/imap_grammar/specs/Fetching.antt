@@ -42,6 +42,7 @@ IsBehindWord utf8 section.Mime = Is part.Mime
 abbrev pub IsSectionMsgtext : Bool → List ℕ → SectionPart → Type 0
 IsSectionMsgtext utf8 = Then (IsWordOf (text_words false)) (IsBehindWord utf8)
 
+-- section-text = section-msgtext / "MIME" (RFC 3501, 9).
 abbrev pub IsSectionText : Bool → List ℕ → SectionPart → Type 0
 IsSectionText utf8 = Then (IsWordOf (text_words true)) (IsBehindWord utf8)
 
@@ -116,6 +117,7 @@ IsFetchAtt utf8 = Then (IsWordOf item_words) (IsBehindItem utf8)
 abbrev pub fast_items : List FetchItem
 fast_items = item.Flags ∷ item.InternalDate ∷ item.Size ∷ []
 
+-- The items that ALL, FAST or FULL stands for (RFC 3501, 6.4.5).
 abbrev pub macro_items : ItemWord → List FetchItem
 macro_items word.Fast = fast_items
 macro_items word.All = fast_items ++ item.Envelope ∷ []
@@ -131,11 +133,13 @@ IsFetchItems utf8 =
 
 -- ---- what may go on behind a word, as a longer one begins with it
 
+-- The octet goes on to a longer item word: a dot behind RFC822 and BODY, and an S behind BODY (RFC 3501, 6.4.5).
 abbrev pub behind_item_word : ItemWord → ℕ → Bool
 behind_item_word word.Rfc822 x = x == 46
 behind_item_word word.Body x = x == 46 || x == 83 || x == 115
 behind_item_word w x = false
 
+-- The octet goes on to a longer section word: a dot behind HEADER and HEADER.FIELDS (RFC 3501, 6.4.5).
 abbrev pub behind_section_word : SectionWord → ℕ → Bool
 behind_section_word section.Header x = x == 46
 behind_section_word section.Fields x = x == 46

@@ -37,7 +37,7 @@ abbrev pub IsAtData : Bool → Awaited → List ℕ → Type 0
 IsAtData utf8 (awaited.AppendData mailbox flags date in_utf8) front = (appends : Appends) × IsAppending utf8 front appends
 IsAtData utf8 a front = (appends : Appends) → IsAppending utf8 front appends → ⊥
 
--- where the stage was reached
+-- The octets have reached the stage.
 abbrev pub Reached : Bool → Stage → List ℕ → Type 0
 Reached utf8 Begin front = front ≡ []
 Reached utf8 (Behind tag size a) front = Announces front size × IsSized size a × BeginsWithTag front tag × IsAtData utf8 a front
@@ -56,6 +56,7 @@ abbrev pub size_of : Stage → ℕ
 size_of Begin = 0
 size_of (Behind tag size a) = size
 
+-- The literal that is awaited is the data of an APPEND.
 abbrev pub is_data : Stage → Bool
 is_data (Behind tag size (awaited.AppendData mailbox flags date in_utf8)) = true
 is_data stage = false
@@ -109,6 +110,7 @@ TurnTells utf8 octets (turn.Whole tag c) = IsCommand utf8 octets (record { tag =
 TurnTells utf8 octets (turn.Awaits tag size a) = Leaves (IsCommand utf8) octets (left_of utf8 (Behind tag size a)) [] × Reached utf8 (Behind tag size a) octets × HasNoDataBefore utf8 octets
 TurnTells utf8 octets (turn.Bad tag left) = (left ≤ length octets) × IsFirstBad (IsCommand utf8) octets (length octets - left) × HasTag octets tag
 
+-- What a line brings behind this tag: a whole command, or a wait for a literal.
 abbrev pub went_on : List ℕ → Next → Turn
 went_on tag (next.Whole c) = turn.Whole tag c
 went_on tag (next.Awaits size a) = turn.Awaits tag size a
@@ -138,7 +140,7 @@ line_with reader octets = reader.line ++ drop (size_of reader.stage - length rea
 abbrev pub counting : Reader → List ℕ → ℕ
 counting reader octets = if is_data reader.stage then length (drop (size_of reader.stage - length reader.literal) octets) else length octets
 
--- so many at most with these octets
+-- A command with these octets has no more than one may have.
 abbrev pub IsUnderLimit : Reader → List ℕ → Type 0
 IsUnderLimit reader octets = reader.counted + counting reader octets ≤ LINE_MAX
 
@@ -151,11 +153,13 @@ abbrev pub EndsThere : Reader → List ℕ → Found → Type 0
 EndsThere reader piece (found.Whole used) = HasLineEnd (line_with reader (take used piece))
 EndsThere reader piece f = ⊤
 
+-- What was found uses no more octets than the piece has.
 abbrev pub IsFoundWithin : Found → List ℕ → Type 0
 IsFoundWithin (found.Whole used) piece = used ≤ length piece
 IsFoundWithin (found.TooLong used) piece = used ≤ length piece
 IsFoundWithin found.Waiting piece = ⊤
 
+-- What a reader finds in a piece: nothing that is due, the line with which something is due, or that the command is too long.
 abbrev pub Finds : Bool → Reader → (seen piece : List ℕ) → Found → Type 0
 Finds utf8 reader seen piece found.Waiting = NothingBefore utf8 seen piece (length piece + 1) × (first_line (line_with reader piece) ≡ None) × IsUnderLimit reader piece
 Finds utf8 reader seen piece (found.Whole used) =

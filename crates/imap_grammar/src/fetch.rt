@@ -20,10 +20,8 @@ use crate::awaited::{Awaited, Fetching, FieldNames, Next};
 use crate::command::{Command, FetchItem, SectionPart, Set};
 use crate::commands::bare;
 use crate::words::{ItemWord, SectionWord};
-use imap_words::{
-    Head, Stop, better, name_head, no_word, non_zero, number, octet, set_and_space, take_word,
-};
-use mail_wire::{Items, Octets};
+use imap_words::{Head, Stop, name_head, non_zero, number, octet, read_word, set_and_space};
+use mail_wire::{Items, Octets, TableWord};
 use std::alloc::Global;
 
 /// What was read of an item: all of it, which is put last, or all up to a literal of this size.
@@ -35,61 +33,57 @@ enum Step {
 
 // ---- words
 
+// The words of items, and behind them those of macros.
+const ITEM_WORDS: [TableWord<ItemWord>; 14] = [
+    TableWord(b"ENVELOPE", ItemWord::Envelope),
+    TableWord(b"FLAGS", ItemWord::Flags),
+    TableWord(b"INTERNALDATE", ItemWord::InternalDate),
+    TableWord(b"RFC822", ItemWord::Rfc822),
+    TableWord(b"RFC822.HEADER", ItemWord::Rfc822Header),
+    TableWord(b"RFC822.SIZE", ItemWord::Size),
+    TableWord(b"RFC822.TEXT", ItemWord::Rfc822Text),
+    TableWord(b"BODY", ItemWord::Body),
+    TableWord(b"BODYSTRUCTURE", ItemWord::BodyStructure),
+    TableWord(b"UID", ItemWord::Uid),
+    TableWord(b"BODY.PEEK", ItemWord::BodyPeek),
+    TableWord(b"ALL", ItemWord::All),
+    TableWord(b"FULL", ItemWord::Full),
+    TableWord(b"FAST", ItemWord::Fast),
+];
+
+const ITEMS: usize = 11;
+
 // Reads the word of an item or a macro.
 fn item_word(text: &[u8]) -> Result<(ItemWord, &[u8]), Stop>
     ensures { MatchResult result (λ x. Reads (IsWordOf (item_words ++ macro_words)) behind_item_word text.now x.0 x.1.now) (λ stop. StopsReading (IsWordOf (item_words ++ macro_words)) behind_item_word text.now stop) }
 {
-    let best = no_word();
-    let best = better(best, text, b"ENVELOPE", ItemWord::Envelope);
-    let best = better(best, text, b"FLAGS", ItemWord::Flags);
-    let best = better(best, text, b"INTERNALDATE", ItemWord::InternalDate);
-    let best = better(best, text, b"RFC822", ItemWord::Rfc822);
-    let best = better(best, text, b"RFC822.HEADER", ItemWord::Rfc822Header);
-    let best = better(best, text, b"RFC822.SIZE", ItemWord::Size);
-    let best = better(best, text, b"RFC822.TEXT", ItemWord::Rfc822Text);
-    let best = better(best, text, b"BODY", ItemWord::Body);
-    let best = better(best, text, b"BODYSTRUCTURE", ItemWord::BodyStructure);
-    let best = better(best, text, b"UID", ItemWord::Uid);
-    let best = better(best, text, b"BODY.PEEK", ItemWord::BodyPeek);
-    let best = better(best, text, b"ALL", ItemWord::All);
-    let best = better(best, text, b"FULL", ItemWord::Full);
-    let best = better(best, text, b"FAST", ItemWord::Fast);
-    take_word(best, text)
+    read_word(&ITEM_WORDS, text)
 }
 
 // Reads the word of an item alone.
 fn listed_word(text: &[u8]) -> Result<(ItemWord, &[u8]), Stop>
     ensures { MatchResult result (λ x. Reads (IsWordOf item_words) behind_item_word text.now x.0 x.1.now) (λ stop. StopsReading (IsWordOf item_words) behind_item_word text.now stop) }
 {
-    let best = no_word();
-    let best = better(best, text, b"ENVELOPE", ItemWord::Envelope);
-    let best = better(best, text, b"FLAGS", ItemWord::Flags);
-    let best = better(best, text, b"INTERNALDATE", ItemWord::InternalDate);
-    let best = better(best, text, b"RFC822", ItemWord::Rfc822);
-    let best = better(best, text, b"RFC822.HEADER", ItemWord::Rfc822Header);
-    let best = better(best, text, b"RFC822.SIZE", ItemWord::Size);
-    let best = better(best, text, b"RFC822.TEXT", ItemWord::Rfc822Text);
-    let best = better(best, text, b"BODY", ItemWord::Body);
-    let best = better(best, text, b"BODYSTRUCTURE", ItemWord::BodyStructure);
-    let best = better(best, text, b"UID", ItemWord::Uid);
-    let best = better(best, text, b"BODY.PEEK", ItemWord::BodyPeek);
-    take_word(best, text)
+    read_word(&ITEM_WORDS[..ITEMS], text)
 }
 
-// Reads a word of a section; MIME only behind numbers.
+// The words of sections; the last one stands behind numbers alone.
+const SECTION_WORDS: [TableWord<SectionWord>; 5] = [
+    TableWord(b"HEADER", SectionWord::Header),
+    TableWord(b"HEADER.FIELDS", SectionWord::Fields),
+    TableWord(b"HEADER.FIELDS.NOT", SectionWord::FieldsNot),
+    TableWord(b"TEXT", SectionWord::Text),
+    TableWord(b"MIME", SectionWord::Mime),
+];
+
+// Reads a word of a section.
 fn section_word(behind_numbers: bool, text: &[u8]) -> Result<(SectionWord, &[u8]), Stop>
     ensures { MatchResult result (λ x. Reads (IsWordOf (text_words behind_numbers)) behind_section_word text.now x.0 x.1.now) (λ stop. StopsReading (IsWordOf (text_words behind_numbers)) behind_section_word text.now stop) }
 {
-    let best = no_word();
-    let best = better(best, text, b"HEADER", SectionWord::Header);
-    let best = better(best, text, b"HEADER.FIELDS", SectionWord::Fields);
-    let best = better(best, text, b"HEADER.FIELDS.NOT", SectionWord::FieldsNot);
-    let best = better(best, text, b"TEXT", SectionWord::Text);
-    if !behind_numbers {
-        return take_word(best, text);
+    if behind_numbers {
+        return read_word(&SECTION_WORDS, text);
     }
-    let best = better(best, text, b"MIME", SectionWord::Mime);
-    take_word(best, text)
+    read_word(&SECTION_WORDS[..4], text)
 }
 
 // ---- sections

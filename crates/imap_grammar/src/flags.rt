@@ -10,8 +10,8 @@ ghost use Rattle.imap_words.specs.Keywords.{IsWordOf};
 ghost use Rattle.imap_grammar.specs.Flags.{IsFlag, IsFlagList, IsFlagsToEnd, AreFlags, HasFlags, EndsFlags, flags_of, storing_words, behind_storing, IsBits};
 
 use crate::command::StoreOp;
-use imap_words::{Kind, Stop, better, line_end, line_feed, no_word, octet, run, take_word};
-use mail_wire::is_same_name;
+use imap_words::{Kind, Stop, line_end, line_feed, octet, read_word, run};
+use mail_wire::{TableWord, is_same_name};
 
 /// Which flags were named.
 #[derive(Clone, Copy)]
@@ -127,16 +127,19 @@ pub fn flags_to_end(text: &[u8]) -> Result<(u8, &[u8]), Stop>
     Ok((flags, rest))
 }
 
-// Reads what STORE does, and whether it is silent.
+// What STORE does, and whether it is silent.
+const STORING_WORDS: [TableWord<(StoreOp, bool)>; 6] = [
+    TableWord(b"FLAGS", (StoreOp::Replace, false)),
+    TableWord(b"FLAGS.SILENT", (StoreOp::Replace, true)),
+    TableWord(b"+FLAGS", (StoreOp::Add, false)),
+    TableWord(b"+FLAGS.SILENT", (StoreOp::Add, true)),
+    TableWord(b"-FLAGS", (StoreOp::Remove, false)),
+    TableWord(b"-FLAGS.SILENT", (StoreOp::Remove, true)),
+];
+
+// Reads a word of that table.
 pub fn storing_word(text: &[u8]) -> Result<((StoreOp, bool), &[u8]), Stop>
     ensures { MatchResult result (λ x. Reads (IsWordOf storing_words) behind_storing text.now x.0 x.1.now) (λ stop. StopsReading (IsWordOf storing_words) behind_storing text.now stop) }
 {
-    let best = no_word();
-    let best = better(best, text, b"FLAGS", (StoreOp::Replace, false));
-    let best = better(best, text, b"FLAGS.SILENT", (StoreOp::Replace, true));
-    let best = better(best, text, b"+FLAGS", (StoreOp::Add, false));
-    let best = better(best, text, b"+FLAGS.SILENT", (StoreOp::Add, true));
-    let best = better(best, text, b"-FLAGS", (StoreOp::Remove, false));
-    let best = better(best, text, b"-FLAGS.SILENT", (StoreOp::Remove, true));
-    take_word(best, text)
+    read_word(&STORING_WORDS, text)
 }

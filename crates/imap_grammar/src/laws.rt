@@ -4,6 +4,7 @@ ghost use Rattle.imap_grammar.specs.Events.{IsDue};
 ghost use Rattle.imap_grammar.specs.FirstDue.{Due, IsFirstDue, ReadsCommands};
 ghost use Rattle.imap_grammar.specs.MailboxNames.{ReadsNames};
 ghost use Rattle.imap_grammar.specs.declared.event.Event.{Event};
+ghost use Rattle.imap_grammar.specs.declared.event.TheConstants.{APPEND_MAX};
 
 /// Some function tells what is due first.
 pub fn commands_are_read()
@@ -21,4 +22,9 @@ pub fn events_are_one()
 /// Some function gives the name of each text that is one in modified UTF-7.
 pub fn names_are_read()
     ensures { (name_of : List ℕ → Option (List ℕ)) × ReadsNames name_of }
+{}
+
+/// A message that APPEND brings has at most 32 MiB.
+pub fn append_limit_is_this()
+    ensures { APPEND_MAX ≡ 33554432 }
 {}

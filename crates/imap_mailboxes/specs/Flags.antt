@@ -8,9 +8,11 @@ use Rattle.imap_grammar.specs.declared.command.StoreOp.TheVariants.{Replace, Add
 abbrev pub has_flag : (flags flag : ℕ) → Bool
 has_flag flags flag = flags / flag % 2 == 1
 
+-- The word of a flag, where the message has it.
 abbrev pub flag_word : (flags flag : ℕ) → List ℕ → List (List ℕ)
 flag_word flags flag word = if has_flag flags flag then word ∷ [] else []
 
+-- The words of the flags that a message has (RFC 3501, 2.3.2).
 abbrev pub flag_words : ℕ → List (List ℕ)
 flag_words flags =
     flag_word flags 2 (codes "\\Answered") ++ (flag_word flags 4 (codes "\\Flagged") ++ (flag_word flags 8 (codes "\\Deleted")

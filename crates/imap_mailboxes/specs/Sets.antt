@@ -14,6 +14,7 @@ abbrev pub is_within : (last n : ℕ) → Option ℕ × Option ℕ → Bool
 is_within last n range =
     let a = end_of last range.0 in let b = end_of last range.1 in (nat_le a n && nat_le n b) || (nat_le b n && nat_le n a)
 
+-- The set names this number; `*` is the last one (RFC 3501, 9, sequence-set).
 abbrev pub is_in_set : (last : ℕ) → Set → ℕ → Bool
 is_in_set last set n = list_any (is_within last n) set.ranges
 

@@ -20,7 +20,7 @@ use Rattle.session_core.specs.Meanings.{Meanings, TellsTrees}
 use Rattle.session_core.specs.Turns.{all_turns}
 use Rattle.session_core.proofs.DoneLemmas.{changes_in-acts}
 use Rattle.session_core.proofs.StoreTurns.{EachTracks, all_track}
-use Rattle.imap_session.specs.ImapLaws.{comes}
+use Rattle.imap_session.specs.laws.ImapLaws.{comes}
 use Rattle.imap_session.specs.Machine.{State, Step, append_in, append_unless, appended, completed, date_or, done, ends_with, exists_lines, folder_named, not_authenticated, opened_in, out_of_order, reply, says, step, tagged, untagged}
 use Rattle.imap_session.specs.Putting.{HasRoomFor, IsAuthenticated, IsPut, IsRefused, MayBePut, Said, append_of, no_folder, no_message, not_enabled, one_more, put_step, too_large}
 use Rattle.imap_session.specs.Replies.{ReplyPart}

@@ -31,8 +31,8 @@ use Rattle.session_core.proofs.DoingLemmas.{Does-replies, DoesAll-nil}
 use Rattle.session_core.proofs.MeaningLemmas.{meanings_given}
 use Rattle.session_core.specs.Turns.{all_turns}
 use Rattle.session_core.proofs.StepLemmas.{StepsBy-turn, StepsBy-fails}
-use Rattle.imap_session.specs.CommandLaws.{said_of}
-use Rattle.imap_session.specs.ImapLaws.{at_due, framed_by}
+use Rattle.imap_session.specs.laws.CommandLaws.{said_of}
+use Rattle.imap_session.specs.laws.ImapLaws.{at_due, framed_by}
 use Rattle.imap_session.specs.Machine.{State, Step, ended, line, mode_of, not_authenticated, reply, untagged}
 use Rattle.imap_session.specs.Replies.{part_octets}
 use Rattle.imap_session.specs.Session.{ImapReady, ImapStands, IsSaidIn, KnowsState, Machine, TakesStep, TakesStepAt, date_at, due_step, due_turn, event_takes, greeting, imap_protocol, machine_next, moments_behind, next_turn, state_of, state_or_ended, turn_from}

@@ -17,7 +17,7 @@ use Rattle.session_core.specs.declared.desk.Desk.{Desk}
 use Rattle.session_core.proofs.DoingLemmas.{Does-replies, DoesFirst-none}
 use Rattle.session_core.proofs.MomentLemmas.{moment_date}
 use Rattle.imap_session.specs.Machine.{State, Step, answers, date_or, says, tagged}
-use Rattle.imap_session.specs.CommandLaws.{is_date_true}
+use Rattle.imap_session.specs.laws.CommandLaws.{is_date_true}
 use Rattle.imap_session.specs.Replies.{ReplyPart, part_octets, reply_octets}
 use Rattle.imap_session.specs.Session.{KnowsNext, KnowsState, TakesStep, TakesStepAt, date_at, moments_behind, state_of, state_or_ended}
 use Rattle.imap_session.specs.declared.states.ImapState.{ImapState}

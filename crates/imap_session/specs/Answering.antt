@@ -15,7 +15,7 @@ adds_to_store (command.Create written) = true
 adds_to_store (command.Append written flags date in_utf8 octets) = true
 adds_to_store other = false
 
--- it does so, or changes messages of the selected folder or takes them out
+-- The command may change the store: it adds to it, or changes messages of the selected folder or takes them out.
 abbrev pub changes_store : Command → Bool
 changes_store (command.Create written) = true
 changes_store (command.Append written flags date in_utf8 octets) = true
@@ -25,7 +25,7 @@ changes_store command.Expunge = true
 changes_store command.Close = true
 changes_store other = false
 
--- it tells of messages
+-- The command is FETCH, which tells of messages (RFC 3501, 6.4.5).
 abbrev pub is_fetch : Command → Bool
 is_fetch (command.Fetch by_uid set items) = true
 is_fetch other = false

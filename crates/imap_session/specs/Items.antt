@@ -25,6 +25,7 @@ use Rattle.imap_session.specs.Replies.{ReplyPart, text, shown, viewed}
 
 -- ---- what is served
 
+-- What a session is served of a message: the message itself in an enabled session, and its surrogate in a legacy one (RFC 6855, 3; RFC 6857).
 abbrev pub served_of : Meanings → Mode → StoreState → Listed → List ℕ
 served_of meanings mode store one = served_by meanings.surrogate mode (stored_octets store one.id)
 
@@ -32,10 +33,11 @@ served_of meanings mode store one = served_by meanings.surrogate mode (stored_oc
 abbrev pub size_of : Meanings → Mode → StoreState → Listed → ℕ
 size_of meanings mode store one = length (served_of meanings mode store one)
 
--- where a section stands in them, if there is one
+-- Where a section stands in what is served of a message, if there is one.
 abbrev pub section_at : Meanings → Mode → StoreState → Listed → (path : List ℕ) → Part → Option Span
 section_at meanings mode store one path what = section (meanings.outlines (served_of meanings mode store one)) path what
 
+-- These octets of what is served of a message.
 abbrev pub octets_at : Meanings → Mode → StoreState → Listed → Span → List ℕ
 octets_at meanings mode store one span = take span.len (drop span.at (served_of meanings mode store one))
 
@@ -44,6 +46,7 @@ abbrev pub header_octets : Meanings → Mode → StoreState → Listed → Optio
 header_octets meanings mode store one None = []
 header_octets meanings mode store one (Some span) = octets_at meanings mode store one span
 
+-- The header block of what is served of a message.
 abbrev pub whole_header : Meanings → Mode → StoreState → Listed → List ℕ
 whole_header meanings mode store one = header_octets meanings mode store one (section_at meanings mode store one [] place.Header)
 
@@ -53,9 +56,11 @@ whole_header meanings mode store one = header_octets meanings mode store one (se
 abbrev pub name_text : List ℕ → List ℕ
 name_text upper = if list_all is_atom_char upper then upper else quoted upper
 
+-- A field's name as a reply gives it: in upper case, as an atom or a quoted string.
 abbrev pub field_name : List ℕ → List ℕ
 field_name name = name_text (str_to_ascii_uppercase name)
 
+-- The word of a section of named fields, or of all others, and a parenthesis (RFC 3501, 6.4.5).
 abbrev pub fields_word : (negated : Bool) → List ℕ
 fields_word negated = if negated then codes "HEADER.FIELDS.NOT (" else codes "HEADER.FIELDS ("
 
@@ -82,11 +87,12 @@ section_name path what partial = codes "BODY[" ++ (join_with_byte 46 (map decima
 abbrev pub literal_head : (asked : List ℕ) → (size : ℕ) → ReplyPart
 literal_head asked size = text (asked ++ (codes " {" ++ (decimal size ++ codes "}\r\n")))
 
--- of a section: all of it, or from an octet on so many at most
+-- The part of a section that is asked for: all of it, or from an octet on so many at most (RFC 3501, 6.4.5).
 abbrev pub partial_span : Option (ℕ × ℕ) → Span → Span
 partial_span None span = span
 partial_span (Some asked) span = record { at = span.at + min asked.0 span.len; len = min asked.1 (span.len - asked.0) }
 
+-- All octets, or from an octet on so many at most (RFC 3501, 6.4.5).
 abbrev pub partial_octets : Option (ℕ × ℕ) → List ℕ → List ℕ
 partial_octets None octets = octets
 partial_octets (Some asked) octets = take asked.1 (drop asked.0 octets)
@@ -118,16 +124,19 @@ place_of (part.Fields names negated) = place.Header
 place_of part.Text = place.Text
 place_of part.Mime = place.Mime
 
+-- The reply of a section that is there, or isn't: fields are chosen from its header, and other sections are ranges of what is served.
 abbrev pub found_parts : Meanings → Mode → StoreState → Listed → (asked : List ℕ) → Option (ℕ × ℕ) → SectionPart → Option Span → List ReplyPart
 found_parts meanings mode store one asked partial (part.Fields names negated) span = fields_parts meanings mode store one asked partial (fields names negated) span
 found_parts meanings mode store one asked partial other span = shown_parts mode store one asked partial span
 
+-- The reply of a section: its name, and as a literal what is served of it, or NIL where it isn't there (RFC 3501, 7.4.2).
 abbrev pub section_parts : Meanings → Mode → StoreState → Listed → (asked path : List ℕ) → SectionPart → Option (ℕ × ℕ) → List ReplyPart
 section_parts meanings mode store one asked path what partial =
     found_parts meanings mode store one asked partial what (section_at meanings mode store one path (place_of what))
 
 -- ---- items
 
+-- The reply of an item of FETCH: its word and its value (RFC 3501, 7.4.2).
 abbrev pub item_parts : Meanings → Mode → StoreState → Listed → FetchItem → List ReplyPart
 item_parts meanings mode store one item.Flags = text (flags_text one.flags) ∷ []
 item_parts meanings mode store one item.Uid = text (codes "UID " ++ decimal one.uid) ∷ []
@@ -141,10 +150,12 @@ item_parts meanings mode store one item.Body = text (codes "BODY ") ∷ viewed m
 item_parts meanings mode store one item.BodyStructure = text (codes "BODYSTRUCTURE ") ∷ viewed mode (meanings.view_of (structure true) (served_of meanings mode store one)) ∷ []
 item_parts meanings mode store one (item.Section peek path what partial) = section_parts meanings mode store one (section_name path what partial) path what partial
 
+-- The item is UID.
 abbrev pub is_uid : FetchItem → Bool
 is_uid item.Uid = true
 is_uid other = false
 
+-- The item is FLAGS.
 abbrev pub is_flags : FetchItem → Bool
 is_flags item.Flags = true
 is_flags other = false

@@ -4,8 +4,5 @@ pub mod Machine
 pub mod Session
 pub mod Answering
 pub mod Putting
-pub mod CommandLaws
-pub mod ViewLaws
-pub mod FitLaws
-pub mod ImapLaws
+pub mod laws
 pub mod private

@@ -53,9 +53,11 @@ pub record Step : Type 0 where
 
 -- ---- replies
 
+-- A line of a reply: the octets and CRLF.
 abbrev pub line : List ℕ → ReplyPart
 line octets = text (octets ++ crlf)
 
+-- An untagged line: a star, a space and the octets (RFC 3501, 2.2.2).
 abbrev pub untagged : List ℕ → ReplyPart
 untagged octets = line (codes "* " ++ octets)
 
@@ -63,10 +65,11 @@ untagged octets = line (codes "* " ++ octets)
 abbrev pub tagged : (tag words : List ℕ) → ReplyPart
 tagged tag words = line (tag ++ (codes " " ++ words))
 
+-- The acts that give these parts.
 abbrev pub reply : List ReplyPart → List (Act ReplyPart)
 reply parts = map gives parts
 
--- these acts, and then the line that ends the command's replies
+-- A command does these acts, and then comes the line that ends its replies (RFC 3501, 2.2.2).
 abbrev pub ends_with : (tag words : List ℕ) → List (Act ReplyPart) → State → Step
 ends_with tag words acts state = record { acts = acts ++ reply (tagged tag words ∷ []); state = state }
 
@@ -74,30 +77,38 @@ ends_with tag words acts state = record { acts = acts ++ reply (tagged tag words
 abbrev pub answers : (tag words : List ℕ) → List ReplyPart → State → Step
 answers tag words parts state = ends_with tag words (reply parts) state
 
+-- Nothing changes, and one tagged line is the reply (RFC 3501, 2.2.2).
 abbrev pub says : (tag words : List ℕ) → State → Step
 says tag words state = answers tag words [] state
 
+-- The words of a command that was done (RFC 3501, 7.1.1).
 abbrev pub done : List ℕ
 done = codes "OK done"
 
+-- A command that this state doesn't allow is answered BAD (RFC 3501, 3 and 7.1.3).
 abbrev pub out_of_order : (tag : List ℕ) → State → Step
 out_of_order tag state = says tag (codes "BAD out of order") state
 
+-- A command that names no folder of the account is answered NO (RFC 3501, 7.1.2).
 abbrev pub no_such_folder : (tag : List ℕ) → State → Step
 no_such_folder tag state = says tag (codes "NO no such folder") state
 
+-- A command whose set names a message that isn't there is answered BAD (RFC 3501, 7.1.3).
 abbrev pub no_such_message : (tag : List ℕ) → State → Step
 no_such_message tag state = says tag (codes "BAD no such message") state
 
+-- A change of a folder that EXAMINE opened is answered NO (RFC 3501, 6.3.2).
 abbrev pub refused_as_read_only : (tag : List ℕ) → State → Step
 refused_as_read_only tag state = says tag (codes "NO read only") state
 
 -- ---- LOGIN and ENABLE
 
+-- LOGIN: the session is authenticated for this account, or answered NO where there is none (RFC 3501, 6.2.3).
 abbrev pub login_by : (tag : List ℕ) → Option ℕ → Step
 login_by tag None = says tag (codes "NO no") not_authenticated
 login_by tag (Some account) = says tag done (authenticated legacy account)
 
+-- ENABLE asks for UTF8=ACCEPT, in any case of its letters (RFC 6855, 3).
 abbrev pub asks_utf8 : List (List ℕ) → Bool
 asks_utf8 words = list_any (same_name (codes "UTF8=ACCEPT")) words
 
@@ -112,22 +123,26 @@ enable_step tag mode account asked = answers tag done (untagged (codes "ENABLED"
 abbrev pub folder_named : Meanings → Mode → StoreState → (account : ℕ) → List ℕ → Option ℕ
 folder_named meanings mode store account written = option_and_then (find_folder store.kept account) (meanings.name_of (is_enabled mode) written)
 
+-- The five flags that a message may have here (RFC 3501, 2.3.2).
 abbrev pub all_flags : List ℕ
 all_flags = codes "(\\Answered \\Flagged \\Deleted \\Seen \\Draft)"
 
+-- The flags that a client can change: all of them, or none in a folder that EXAMINE opened (RFC 3501, 7.1).
 abbrev pub permanent_flags : (read_only : Bool) → List ℕ
 permanent_flags read_only = if read_only then codes "()" else all_flags
 
+-- The untagged lines of SELECT and EXAMINE: how many messages there are, and the flags and numbers of the folder (RFC 3501, 6.3.1).
 abbrev pub folder_lines : StoreState → (folder : ℕ) → (read_only : Bool) → List ReplyPart
 folder_lines store folder read_only =
     untagged (decimal (length (listed store.kept folder)) ++ codes " EXISTS") ∷ untagged (codes "0 RECENT") ∷ untagged (codes "FLAGS " ++ all_flags)
     ∷ untagged (codes "OK [UIDVALIDITY 1] ok") ∷ untagged (codes "OK [UIDNEXT " ++ (decimal (uid_next store.kept folder) ++ codes "] ok"))
     ∷ untagged (codes "OK [PERMANENTFLAGS " ++ (permanent_flags read_only ++ codes "] ok")) ∷ []
 
+-- The words that end SELECT and EXAMINE (RFC 3501, 6.3.1 and 6.3.2).
 abbrev pub opened_words : (read_only : Bool) → List ℕ
 opened_words read_only = if read_only then codes "OK [READ-ONLY] done" else codes "OK [READ-WRITE] done"
 
--- where no folder is named none is selected any more
+-- SELECT and EXAMINE of a folder; where there is none, none is selected any more (RFC 3501, 6.3.1 and 6.3.2).
 abbrev pub select_by : (tag : List ℕ) → Mode → (account : ℕ) → (read_only : Bool) → StoreState → Option ℕ → Step
 select_by tag mode account read_only store None = no_such_folder tag (authenticated mode account)
 select_by tag mode account read_only store (Some folder) =
@@ -142,11 +157,13 @@ abbrev pub names_folder : List ℕ → Bool
 names_folder folder_name =
     is_utf8 folder_name && (nat_lt 0 (length folder_name) && (nat_le (length folder_name) NAME_MAX && (is_nfc (chars folder_name) && list_all may_stand_in_name (chars folder_name))))
 
+-- CREATE: the folder is made, unless the store refuses it (RFC 3501, 6.3.3).
 abbrev pub create_unless : (tag : List ℕ) → State → (account : ℕ) → (kept : List ℕ) → Option StoreFault → Step
 create_unless tag state account kept None = ends_with tag done (changes (records.Folder account kept ∷ []) ∷ []) state
 create_unless tag state account kept (Some refusal.Exists) = says tag (codes "NO exists") state
 create_unless tag state account kept (Some other) = says tag (codes "NO too large") state
 
+-- CREATE of a name: it must be one that a folder may have, without the delimiter at its end (RFC 3501, 6.3.3).
 abbrev pub create_by : (tag : List ℕ) → State → (account : ℕ) → StoreState → Option (List ℕ) → Step
 create_by tag state account store None = says tag (codes "NO bad name") state
 create_by tag state account store (Some given) =
@@ -165,9 +182,11 @@ abbrev pub list_lines : Mode → StoreState → (account : ℕ) → (reference p
 list_lines mode store account reference [] = untagged (codes "LIST (\\Noselect) NIL \"\"") ∷ []
 list_lines mode store account reference (x ∷ pattern) = flat_map (list_line mode (reference ++ x ∷ pattern)) (folder_names store.kept account)
 
+-- The message has the flag Seen (RFC 3501, 2.3.2).
 abbrev pub is_seen : Listed → Bool
 is_seen one = has_flag one.flags 1
 
+-- How many of the messages lack the flag Seen.
 abbrev pub unseen_among : List Listed → ℕ
 unseen_among messages = count_by (λ one. not (is_seen one)) messages
 
@@ -179,6 +198,7 @@ status_among status.UidNext messages next = codes "UIDNEXT " ++ decimal next
 status_among status.UidValidity messages next = codes "UIDVALIDITY 1"
 status_among status.Unseen messages next = codes "UNSEEN " ++ decimal (unseen_among messages)
 
+-- What STATUS tells of an item of a folder (RFC 3501, 6.3.10).
 abbrev pub status_text : StoreState → (folder : ℕ) → StatusItem → List ℕ
 status_text store folder asked = status_among asked (listed store.kept folder) (uid_next store.kept folder)
 
@@ -188,10 +208,12 @@ spaced [] = []
 spaced (one ∷ []) = one
 spaced (one ∷ next ∷ others) = one ++ (codes " " ++ spaced (next ∷ others))
 
+-- The line of STATUS: the folder's name, and its items in parentheses (RFC 3501, 7.2.4).
 abbrev pub status_line : Mode → StoreState → (folder : ℕ) → List StatusItem → List ReplyPart
 status_line mode store folder items =
     text (codes "* STATUS ") ∷ name mode (kept_folder_name store.kept folder) ∷ line (codes " (" ++ (spaced (map (status_text store folder) items) ++ codes ")")) ∷ []
 
+-- STATUS of a folder, if there is one (RFC 3501, 6.3.10).
 abbrev pub status_by : (tag : List ℕ) → State → Mode → StoreState → List StatusItem → Option ℕ → Step
 status_by tag state mode store items None = no_such_folder tag state
 status_by tag state mode store items (Some folder) = answers tag done (status_line mode store folder items) state
@@ -223,6 +245,7 @@ exists_lines (Some opened) kept folder = if opened == folder then untagged (deci
 abbrev pub appended : (folder flags : ℕ) → (date octets : List ℕ) → Record
 appended folder flags date octets = records.Message folder flags date octets
 
+-- APPEND: the message is put last in the folder, unless the store refuses it; a session that has the folder open is told how many there are.
 abbrev pub append_unless : (tag : List ℕ) → State → (opened : Option ℕ) → Kept → (folder : ℕ) → Record → Option StoreFault → Step
 append_unless tag state opened kept folder made None = ends_with tag done (changes (made ∷ []) ∷ reply (exists_lines opened (after_record kept made) folder)) state
 append_unless tag state opened kept folder made (Some other) = says tag (codes "NO too large") state
@@ -252,6 +275,7 @@ pub record Numbered : Type 0 where
   pub number : ℕ
   pub listed : Listed
 
+-- The message at this place with its number, or none.
 abbrev pub numbered_at : List Listed → (place : ℕ) → List Numbered
 numbered_at messages place = option_map_or (λ one. record { number = place + 1; listed = one } ∷ []) (slice_get messages place) []
 
@@ -264,6 +288,7 @@ abbrev pub for_each : (tag : List ℕ) → State → (by_uid : Bool) → Set →
 for_each tag state by_uid set messages act =
     if is_refused by_uid set messages then no_such_message tag state else ends_with tag done (flat_map act (chosen by_uid set messages)) state
 
+-- The record that gives a message these flags.
 abbrev pub flags_change : Listed → ℕ → List Record
 flags_change one flags = records.Flags one.id flags ∷ []
 
@@ -287,10 +312,11 @@ with_flags changed items = if changed && not (list_any is_flags items) then item
 abbrev pub becomes_seen : (read_only : Bool) → List FetchItem → Listed → Bool
 becomes_seen read_only items one = not read_only && (list_any sets_seen items && not (is_seen one))
 
--- as STORE's `+FLAGS (\Seen)` would set it
+-- The message with the flag Seen, as STORE's `+FLAGS (\Seen)` sets it (RFC 3501, 6.4.6).
 abbrev pub seen : Listed → Listed
 seen one = record one { flags = stored_flags Add one.flags 1 }
 
+-- The reply of FETCH for a message: its number, and its items in parentheses (RFC 3501, 7.4.2).
 abbrev pub fetch_reply : Meanings → Mode → StoreState → (number : ℕ) → Listed → List FetchItem → List ReplyPart
 fetch_reply meanings mode store number one items =
     text (codes "* " ++ (decimal number ++ codes " FETCH (")) ∷ parts_behind false (map (item_parts meanings mode store one) items) ++ line (codes ")") ∷ []
@@ -307,12 +333,14 @@ fetch_one meanings mode store by_uid read_only items one =
     then changes (flags_change one.listed (seen one.listed).flags) ∷ fetch_told meanings mode store by_uid items one.number (seen one.listed) true
     else fetch_told meanings mode store by_uid items one.number one.listed false
 
+-- FETCH of the messages of a set (RFC 3501, 6.4.5).
 abbrev pub fetch_step : Meanings → (tag : List ℕ) → State → Mode → (folder : ℕ) → (read_only : Bool) → StoreState → (by_uid : Bool) → Set → List FetchItem → Step
 fetch_step meanings tag state mode folder read_only store by_uid set items =
     for_each tag state by_uid set (listed store.kept folder) (fetch_one meanings mode store by_uid read_only items)
 
 -- ---- STORE
 
+-- The unique identifier of a message, where the command goes by these (RFC 3501, 6.4.8).
 abbrev pub uid_text : (by_uid : Bool) → Listed → List ℕ
 uid_text by_uid one = if by_uid then codes "UID " ++ (decimal one.uid ++ codes " ") else []
 
@@ -322,11 +350,13 @@ flags_reply by_uid silent one flags =
     if silent then []
     else untagged (decimal one.number ++ (codes " FETCH (" ++ (uid_text by_uid one.listed ++ (flags_text flags ++ codes ")")))) ∷ []
 
+-- STORE for one message: its flags are changed, and told unless the command is silent (RFC 3501, 6.4.6).
 abbrev pub store_one : (by_uid silent : Bool) → StoreOp → (named : ℕ) → Numbered → List (Act ReplyPart)
 store_one by_uid silent op named one =
     let flags = stored_flags op one.listed.flags named in
     changes (flags_change one.listed flags) ∷ reply (flags_reply by_uid silent one flags)
 
+-- STORE for the messages of a set; it is refused in a folder that EXAMINE opened (RFC 3501, 6.4.6).
 abbrev pub store_step : (tag : List ℕ) → State → (folder : ℕ) → (read_only : Bool) → StoreState → (by_uid : Bool) → Set → StoreOp → (silent : Bool) → (named : ℕ) → Step
 store_step tag state folder read_only store by_uid set op silent named =
     if read_only then refused_as_read_only tag state
@@ -334,6 +364,7 @@ store_step tag state folder read_only store by_uid set op silent named =
 
 -- ---- EXPUNGE and CLOSE
 
+-- The message has the flag Deleted (RFC 3501, 2.3.2).
 abbrev pub is_deleted : Listed → Bool
 is_deleted one = has_flag one.flags 8
 
@@ -348,27 +379,31 @@ abbrev pub taken_out : List ℕ → List (Act ReplyPart)
 taken_out [] = []
 taken_out (id ∷ ids) = changes (expunged (id ∷ ids)) ∷ []
 
+-- The numbers in the store of the messages that have the flag Deleted.
 abbrev pub deleted_ids : List Listed → List ℕ
 deleted_ids messages = map (λ (one : Listed). one.id) (filter is_deleted messages)
 
+-- EXPUNGE: the messages with the flag Deleted go, and each is told; it is refused in a folder that EXAMINE opened (RFC 3501, 6.4.3).
 abbrev pub expunge_step : (tag : List ℕ) → State → (read_only : Bool) → List Listed → Step
 expunge_step tag state read_only messages =
     if read_only then refused_as_read_only tag state
     else ends_with tag done (taken_out (deleted_ids messages) ++ reply (closing_up 1 messages)) state
 
+-- CLOSE: the messages with the flag Deleted go without being told, but not where EXAMINE opened the folder (RFC 3501, 6.4.2).
 abbrev pub close_step : (tag : List ℕ) → State → (read_only : Bool) → List Listed → Step
 close_step tag state read_only messages = ends_with tag done (if read_only then [] else taken_out (deleted_ids messages)) state
 
 -- ---- commands by state
 
--- those of every state
+-- CAPABILITY, which every state allows (RFC 3501, 6.1.1).
 abbrev pub capability : (tag : List ℕ) → State → Step
 capability tag state = answers tag done (untagged (codes "CAPABILITY IMAP4rev1 ENABLE UTF8=ACCEPT") ∷ []) state
 
+-- LOGOUT: BYE, and the session ends (RFC 3501, 6.1.3).
 abbrev pub logout : (tag : List ℕ) → Step
 logout tag = answers tag done (untagged (codes "BYE bye") ∷ []) ended
 
--- and what is left of them
+-- The commands that every state allows, and what is answered to those that this state doesn't allow (RFC 3501, 6.1).
 abbrev pub common_step : (tag : List ℕ) → State → Command → Step
 common_step tag state command.Capability = capability tag state
 common_step tag state command.Noop = says tag done state
@@ -376,6 +411,7 @@ common_step tag state command.Logout = logout tag
 common_step tag state command.NotHere = says tag (codes "NO not here") state
 common_step tag state other = out_of_order tag state
 
+-- A command before login: LOGIN, or one of every state (RFC 3501, 6.2).
 abbrev pub not_authenticated_step : Meanings → (tag : List ℕ) → StoreState → Command → Step
 not_authenticated_step meanings tag store (command.Login user password) = login_by tag (logged_in meanings.path_of store.kept user password)
 not_authenticated_step meanings tag store other = common_step tag not_authenticated other
@@ -391,10 +427,12 @@ mailbox_step meanings now tag state mode account store (command.Append written f
     append_in meanings tag state (opened_in state) mode store flags (date_or now date) in_utf8 octets (folder_named meanings mode store account written)
 mailbox_step meanings now tag state mode account store other = common_step tag state other
 
+-- A command after login, where no folder is open: ENABLE, one of mailboxes, or one of every state (RFC 3501, 6.3; RFC 5161, 3.1).
 abbrev pub authenticated_step : Meanings → (now tag : List ℕ) → Mode → (account : ℕ) → StoreState → Command → Step
 authenticated_step meanings now tag mode account store (command.Enable words) = enable_step tag mode account (asks_utf8 words)
 authenticated_step meanings now tag mode account store other = mailbox_step meanings now tag (authenticated mode account) mode account store other
 
+-- A command where a folder is open: one of its messages, of mailboxes, or of every state (RFC 3501, 6.4).
 abbrev pub selected_step : Meanings → (now tag : List ℕ) → Mode → (account folder : ℕ) → (read_only : Bool) → StoreState → Command → Step
 selected_step meanings now tag mode account folder read_only store command.Check = says tag done (selected mode account folder read_only)
 selected_step meanings now tag mode account folder read_only store (command.Fetch by_uid set items) =
@@ -426,7 +464,7 @@ abbrev pub lacks_date : Command → Bool
 lacks_date (command.Append written flags date in_utf8 octets) = not (is_some date)
 lacks_date other = false
 
--- such a message has the date of a moment, where one may be put into a folder
+-- The command takes the date of the next moment: an APPEND without a date, after login.
 abbrev pub takes_moment : State → Command → Bool
 takes_moment (authenticated mode account) said = lacks_date said
 takes_moment (selected mode account folder read_only) said = lacks_date said

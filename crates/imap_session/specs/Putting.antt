@@ -21,6 +21,7 @@ pub record Said : Type 0 where
   pub in_utf8 : Bool
   pub octets : List ℕ
 
+-- The APPEND that says this.
 abbrev pub append_of : Said → Command
 append_of said = command.Append said.written said.flags said.date said.in_utf8 said.octets
 
@@ -58,19 +59,21 @@ pub data Cause : Type 0 where
   no_message : Cause
   too_large : Cause
 
+-- The words of the reply for each cause.
 abbrev pub words_of_cause : Cause → List ℕ
 words_of_cause no_folder = codes "NO no such folder"
 words_of_cause not_enabled = codes "NO not enabled"
 words_of_cause no_message = codes "NO not a message"
 words_of_cause too_large = codes "NO too large"
 
+-- When each cause is one: no folder of this name, UTF8 before it was enabled, octets that are no message, or no room for them.
 abbrev pub IsCause : Meanings → Mode → (account : ℕ) → StoreState → Said → Cause → Type 0
 IsCause meanings mode account store said no_folder = folder_named meanings mode store account said.written ≡ None
 IsCause meanings mode account store said not_enabled = (said.in_utf8 ≡ true) × (mode ≡ legacy)
 IsCause meanings mode account store said no_message = ¬ IsStored (completed said.octets)
 IsCause meanings mode account store said too_large = ¬ HasRoomFor store (completed said.octets)
 
--- it is put into the folder that is named
+-- The message of an APPEND is put last into the folder that it names.
 abbrev pub IsPut : Meanings → (now tag : List ℕ) → State → Mode → (account : ℕ) → StoreState → Said → Step → Type 0
 IsPut meanings now tag state mode account store said taken =
     (folder : ℕ) × (folder_named meanings mode store account said.written ≡ Some folder) × (taken ≡ put_step now tag state store said folder)

@@ -7,6 +7,7 @@ use Rattle.surrogate_cache.specs.Served.{Mode, legacy, enabled, is_enabled, serv
 use Rattle.imap_mailboxes.specs.Names.{quoted, shown_name}
 use Rattle.session_core.specs.Meanings.{Meanings}
 
+-- A part of a reply.
 pub data ReplyPart : Type 0 where
   -- these octets
   text : (octets : List ℕ) → ReplyPart
@@ -24,6 +25,7 @@ part_octets meanings (name mode octets) = quoted (shown_name (is_enabled mode) o
 part_octets meanings (shown msg mode at len) = take len (drop at (served_by meanings.surrogate mode msg))
 part_octets meanings (viewed mode octets) = octets
 
+-- The octets of the parts, one behind another.
 abbrev pub reply_octets : Meanings → List ReplyPart → List ℕ
 reply_octets meanings parts = flat_map (part_octets meanings) parts
 
@@ -38,5 +40,6 @@ IsFit meanings (shown msg enabled at len) = Unit {0}
 IsFit meanings (viewed legacy octets) = list_all is_ascii octets ≡ true
 IsFit meanings (viewed enabled octets) = Unit {0}
 
+-- Each of the parts may be sent in its mode.
 abbrev pub AreFit : Meanings → List ReplyPart → Type 0
 AreFit meanings parts = AllByRecursion (IsFit meanings) parts

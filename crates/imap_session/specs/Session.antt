@@ -46,6 +46,7 @@ fits_shape [] [] = true
 fits_shape (letter ∷ shape) (x ∷ date) = fits_letter letter x && fits_shape shape date
 fits_shape shape date = false
 
+-- The test of a date: each octet fits its letter of the shape, and the month is one (RFC 3501, 9, date-time).
 abbrev pub is_date : List ℕ → Bool
 is_date date = fits_shape date_shape date && list_any (λ month. same_name month (slice_range date 3 6)) months
 
@@ -53,6 +54,7 @@ is_date date = fits_shape date_shape date && list_any (λ month. same_name month
 abbrev pub long_ago : List ℕ
 long_ago = codes " 1-Jan-1970 00:00:00 +0000"
 
+-- The date of the next moment, or that of a moment long ago where none is left or its text is no date.
 abbrev pub date_at : List Moment → List ℕ
 date_at [] = long_ago
 date_at (moment ∷ moments) = if is_date moment.internal then moment.internal else long_ago
@@ -62,6 +64,7 @@ abbrev pub moments_behind : (taken : Bool) → List Moment → List Moment
 moments_behind true (moment ∷ moments) = moments
 moments_behind other moments = moments
 
+-- What is due takes the next moment: an APPEND without a date, after login.
 abbrev pub event_takes : State → Event → Bool
 event_takes state (Command tag said) = takes_moment state said
 event_takes state other = false
@@ -76,6 +79,7 @@ due_step meanings now state store (Bad None at) = record { acts = reply (untagge
 due_step meanings now state store (TooLarge tag) = says tag (codes "NO too large") state
 due_step meanings now state store TooLong = record { acts = reply (untagged (codes "BYE line too long") ∷ []); state = ended }
 
+-- The turn for what is due: its acts, the machine after it, and the octets behind those it used.
 abbrev pub due_turn : Meanings → Machine → List ℕ → Due → Turn Machine (Act ReplyPart)
 due_turn meanings machine octets due =
     let taken = due_step meanings (date_at machine.moments) machine.state machine.store due.event in
@@ -90,6 +94,7 @@ due_turn meanings machine octets due =
       rest = drop due.used octets;
     }
 
+-- The turn at the head of the octets, where something is due.
 abbrev pub turn_by_reading : Meanings → Machine → List ℕ → Option (Turn Machine (Act ReplyPart))
 turn_by_reading meanings machine octets = option_map (due_turn meanings machine octets) (meanings.event_of (is_enabled (mode_of machine.state)) machine.seen octets)
 
@@ -98,15 +103,19 @@ abbrev pub turn_from : Meanings → State → Machine → List ℕ → Option (T
 turn_from meanings ended machine octets = None
 turn_from meanings state machine octets = turn_by_reading meanings machine octets
 
+-- The turn at the head of the octets, where something is due and the session hasn't ended.
 unfoldable pub next_turn : Meanings → Machine → List ℕ → Option (Turn Machine (Act ReplyPart))
 next_turn meanings machine octets = turn_from meanings machine.state machine octets
 
+-- The first line of a session (RFC 3501, 7.1.1).
 abbrev pub greeting : List ReplyPart
 greeting = untagged (codes "OK IMAP4rev1 ready") ∷ []
 
+-- A session begins before login, with nothing read (RFC 3501, 3.1).
 abbrev pub start_of : StoreState → List Moment → Machine
 start_of store moments = record { state = not_authenticated; store = store; seen = []; moments = moments }
 
+-- IMAP as a protocol: its greeting, its start, its turns, and what may be sent.
 abbrev pub imap_protocol : Protocol
 imap_protocol = record {
   S = Machine;
@@ -150,6 +159,7 @@ KnowsState store (imap.EnabledAuthenticated session) = session.state.account < l
 KnowsState store (imap.Selected session) = KnowsFolder store session.state.account session.state.folder session.state.messages.items
 KnowsState store (imap.EnabledSelected session) = KnowsFolder store session.state.account session.state.folder session.state.messages.items
 
+-- The store has what the session names, if the session goes on.
 abbrev pub KnowsNext : StoreState → Option ImapState → Type 0
 KnowsNext store None = Unit {0}
 KnowsNext store (Some session) = KnowsState store session
@@ -187,6 +197,7 @@ IsSaid (command.Append written flags (Some date) in_utf8 octets) = IsDate date �
 IsSaid (command.Append written flags None in_utf8 octets) = flags < 32
 IsSaid other = Unit {0}
 
+-- A command that is due says only dates that may be kept and flags that there are.
 abbrev pub IsSaidIn : Event → Type 0
 IsSaidIn (Command tag said) = IsSaid said
 IsSaidIn other = Unit {0}

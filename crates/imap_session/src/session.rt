@@ -6,9 +6,9 @@ ghost use Rattle.session_core.specs.Doing.{Replies};
 ghost use Rattle.session_core.specs.Keeps.{Keeps, fault_of};
 ghost use Rattle.session_core.specs.Served.{met_of};
 ghost use Rattle.session_core.specs.Serving.{ServesBy};
-ghost use Rattle.imap_session.specs.ImapLaws.{begins_fit_by, fits_by, framed_by, goes_on_by, quiet_by, waits_by};
 ghost use Rattle.imap_session.specs.Machine.{mode_of};
 ghost use Rattle.imap_session.specs.Session.{ImapReady, ImapStands, IsSaidIn, KnowsState, TakesStepAt, due_step, event_takes, imap_protocol, machine_next, state_of};
+ghost use Rattle.imap_session.specs.laws.ImapLaws.{begins_fit_by, fits_by, framed_by, goes_on_by, quiet_by, waits_by};
 ghost use Rattle.imap_session.specs.private.Lines.{bad_octets};
 
 use crate::commands::answer_command;

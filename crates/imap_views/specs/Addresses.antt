@@ -25,6 +25,7 @@ plain_item Comment octets = Separator
 abbrev pub plain_words : List TokenValue → List PhraseWord
 plain_words tokens = phrase_words true (map (λ t. plain_item t.kind t.octets) tokens)
 
+-- The words of a phrase as they stand, with spaces between them.
 abbrev pub plain_text : List TokenValue → List ℕ
 plain_text tokens = flat_map (λ (w : PhraseWord). w.octets ++ w.gap) (plain_words tokens)
 
@@ -92,7 +93,7 @@ IsListForm value text =
     ((forms : List ℕ) × HasForms value forms × (text ≡ list_form forms))
     ⊎ (((forms : List ℕ) → ¬ HasForms value forms) × (text ≡ nil))
 
--- the same, where there may be no such field
+-- The addresses of a field in an envelope, or NIL where there is no such field (RFC 3501, 7.4.2).
 abbrev pub IsAddressesForm : Option (List ℕ) → List ℕ → Type 0
 IsAddressesForm None text = text ≡ nil
 IsAddressesForm (Some value) text = IsListForm value text

@@ -18,6 +18,7 @@ abbrev pub IsAddressesFormOr : List ℕ → Option (List ℕ) → List ℕ → T
 IsAddressesFormOr from None text = text ≡ from
 IsAddressesFormOr from (Some value) text = IsAddressesForm (Some value) text
 
+-- The addresses of the first field of this name, or those of From where there is none (RFC 3501, 7.4.2).
 abbrev pub AreAddressesOr : List ℕ → List ℕ → List (List ℕ) → List ℕ → Type 0
 AreAddressesOr from name raws text = (value : Option (List ℕ)) × IsFirstValue name raws value × IsAddressesFormOr from value text
 

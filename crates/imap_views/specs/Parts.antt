@@ -36,6 +36,7 @@ value_said (x ∷ octets) = if x == 34 then unquoted (inner (x ∷ octets)) else
 abbrev pub pair_of : Piece → List ℕ
 pair_of piece = quoted_string (before_mark 61 piece.written) ++ 32 ∷ quoted_string (value_said (behind_mark 61 piece.written))
 
+-- The parameters of a part as a list of names and values, or NIL (RFC 3501, 7.4.2).
 abbrev pub pairs_of : List Piece → List ℕ
 pairs_of pieces = listed (map pair_of pieces)
 
@@ -46,6 +47,7 @@ pub record TypeValue : Type 0 where
   pub main : List ℕ
   pub params : List ℕ
 
+-- The parameters of a part that doesn't say its type: charset us-ascii (RFC 2045, 5.2).
 abbrev pub usual_params : List ℕ
 usual_params = in_parentheses (quoted_string (codes "charset") ++ 32 ∷ quoted_string (codes "us-ascii"))
 
@@ -53,9 +55,11 @@ usual_params = in_parentheses (quoted_string (codes "charset") ++ 32 ∷ quoted_
 abbrev pub usual_type : Bool → TypeValue
 usual_type digest = record { main = if digest then codes "message/rfc822" else codes "text/plain"; params = usual_params }
 
+-- The type of a part that doesn't say one: text/plain (RFC 2045, 5.2).
 abbrev pub plain_text_type : TypeValue
 plain_text_type = record { main = codes "text/plain"; params = usual_params }
 
+-- The value of a Content-Type says this type and these parameters (RFC 2045, 5.1).
 abbrev pub IsTypeSaid : List ℕ → TypeValue → Type 0
 IsTypeSaid text said = (pieces : List Piece) × HasPieces Content text said.main pieces × (said.params ≡ pairs_of pieces)
 
@@ -93,6 +97,7 @@ IsEncodingBy (Some text) name = IsSoleAtom text name ⊎ (((octets : List ℕ) �
 
 -- ---- all of it
 
+-- What a part says of itself: its type, id, description, encoding and disposition (RFC 2045; RFC 2183).
 pub record PartValue : Type 0 where
   pub typed : TypeValue
   pub id : Option (List ℕ)
@@ -118,5 +123,6 @@ pub record SaysPart (digest : Bool) (raws : List (List ℕ)) (part : PartValue) 
 abbrev pub main_type : List ℕ → List ℕ
 main_type main = quoted_string (before_mark 47 main)
 
+-- The subtype of a part, as a quoted string (RFC 3501, 7.4.2).
 abbrev pub sub_type : List ℕ → List ℕ
 sub_type main = quoted_string (behind_mark 47 main)

@@ -2,6 +2,7 @@
 use Rattle.std.specs.Prelude.{◌≡◌, ℕ, ◌==◌, if◌then◌else◌, List, [], ◌∷◌, ◌++◌, codes, Option, Some, None}
 use Rattle.address_grammar.specs.Addresses.{quoted_string}
 
+-- NIL, which stands for what isn't there (RFC 3501, 4.5).
 abbrev pub nil : List ℕ
 nil = codes "NIL"
 
@@ -10,6 +11,7 @@ abbrev pub nstring : Option (List ℕ) → List ℕ
 nstring None = nil
 nstring (Some text) = quoted_string text
 
+-- A text in parentheses, as lists are written (RFC 3501, 4.4).
 abbrev pub in_parentheses : List ℕ → List ℕ
 in_parentheses text = 40 ∷ (text ++ 41 ∷ [])
 

@@ -26,9 +26,11 @@ ended_lines [] = 0
 ended_lines (x ∷ []) = 0
 ended_lines (x ∷ y ∷ rest) = if is_crlf x y then suc (ended_lines rest) else ended_lines (y ∷ rest)
 
+-- The octets of an entity's header block.
 abbrev pub header_at : Seen → Outline → List ℕ
 header_at seen outline = slice_range seen.octets outline.at outline.body
 
+-- The octets of an entity's content.
 abbrev pub content_at : Seen → Outline → List ℕ
 content_at seen outline = slice_range seen.octets outline.body outline.end
 
@@ -37,6 +39,7 @@ abbrev pub behind_spaces : List (List ℕ) → List ℕ
 behind_spaces [] = []
 behind_spaces (text ∷ texts) = 32 ∷ (text ++ behind_spaces texts)
 
+-- The text in BODYSTRUCTURE, and nothing in BODY (RFC 3501, 7.4.2).
 abbrev pub where_extended : Seen → List ℕ → List ℕ
 where_extended seen text = if seen.extended then text else []
 
@@ -46,9 +49,11 @@ where_extended seen text = if seen.extended then text else []
 abbrev pub basic_words : PartValue → ℕ → List ℕ
 basic_words part size = spaced (main_type part.typed.main ∷ sub_type part.typed.main ∷ part.typed.params ∷ nstring part.id ∷ nstring part.description ∷ quoted_string part.encoding ∷ decimal size ∷ [])
 
+-- How many octets the content of an entity has.
 abbrev pub size_of : Outline → ℕ
 size_of outline = outline.end - outline.body
 
+-- How many lines end in the content of an entity, in digits.
 abbrev pub lines_in : Seen → Outline → List ℕ
 lines_in seen outline = decimal (ended_lines (content_at seen outline))
 
@@ -60,9 +65,11 @@ text_lines seen outline part = if starts_with nat_eq part.typed.main (codes "tex
 abbrev pub part_extension : Seen → PartValue → List ℕ
 part_extension seen part = where_extended seen (behind_spaces (nil ∷ part.disposition ∷ nil ∷ nil ∷ []))
 
+-- The structure of a part without parts: its basic fields, the lines of a text, and the extension data (RFC 3501, 7.4.2).
 abbrev pub leaf_form : Seen → Outline → PartValue → List ℕ
 leaf_form seen outline part = in_parentheses (basic_words part (size_of outline) ++ (text_lines seen outline part ++ part_extension seen part))
 
+-- The structure of a part that is a message: basic fields, its envelope, its body, its lines, and the extension data (RFC 3501, 7.4.2).
 abbrev pub message_form : Seen → Outline → PartValue → List ℕ → List ℕ → List ℕ
 message_form seen outline part envelope body =
     in_parentheses (basic_words part (size_of outline) ++ (behind_spaces (envelope ∷ body ∷ lines_in seen outline ∷ []) ++ part_extension seen part))
@@ -71,6 +78,7 @@ message_form seen outline part envelope body =
 abbrev pub multipart_extension : Seen → PartValue → List ℕ
 multipart_extension seen part = where_extended seen (behind_spaces (part.typed.params ∷ part.disposition ∷ nil ∷ nil ∷ []))
 
+-- The structure of a multipart: those of its parts, its subtype, and the extension data (RFC 3501, 7.4.2).
 abbrev pub multipart_form : Seen → PartValue → List ℕ → List ℕ
 multipart_form seen part parts = in_parentheses (parts ++ (behind_spaces (sub_type part.typed.main ∷ []) ++ multipart_extension seen part))
 
@@ -102,6 +110,7 @@ pub record IsMultipartForm (IsForm : FormRelation) (seen : Seen) (number : ℕ) 
   pub are_parts : AreForms IsForm (is_digest_type part.typed.main) (children_from 0 seen.outlines number) parts
   pub text_is : text ≡ multipart_form seen part parts
 
+-- The structure of an entity by its shape: a part without parts, a message, or a multipart (RFC 3501, 7.4.2).
 abbrev pub IsShapedForm : FormRelation → Seen → ℕ → Outline → PartValue → List ℕ → Shape → Type 0
 IsShapedForm IsForm seen number outline part text Leaf = text ≡ leaf_form seen outline part
 IsShapedForm IsForm seen number outline part text Message = IsMessageForm IsForm seen number outline part text

@@ -7,11 +7,13 @@ use Rattle.imap_views.specs.Chosen.{AreChosen}
 use Rattle.imap_views.specs.Envelopes.{HasEnvelope}
 use Rattle.imap_views.specs.Structures.{HasStructure}
 
+-- What is told of a header or of a message beside its octets.
 pub data View : Type 0 where
-  -- of a header
+  -- the envelope of a header
   envelope : View
+  -- the fields of a header that have these names, or all others
   fields : (names : List (List ℕ)) (negated : Bool) → View
-  -- of a message
+  -- the structure of a message, with the extension data or without
   structure : (extended : Bool) → View
 
 -- the structure of octets that have a tree

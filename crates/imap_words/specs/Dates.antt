@@ -9,10 +9,11 @@ pub record IsDigit (octets : List ℕ) (value : ℕ) : Type 0 where
   pub is : octets ≡ value ∷ []
   pub digit : is_digit value ≡ true
 
--- 2DIGIT, 4DIGIT
+-- 2DIGIT (RFC 3501, 9).
 abbrev pub IsTwoDigits : List ℕ → ℕ → Type 0
 IsTwoDigits = After IsDigit IsDigit
 
+-- 4DIGIT (RFC 3501, 9).
 abbrev pub IsFourDigits : List ℕ → ℕ → Type 0
 IsFourDigits = After IsTwoDigits IsTwoDigits
 

@@ -1,13 +1,10 @@
 -- Words of a table, in any case of their letters (RFC 3501, 9, rule 1).
 use Rattle.std.specs.Prelude.{◌≡◌, ℕ, ◌-◌, ◌<◌, ◌≤◌, nat_lt, Bool, true, ◌&&◌, List, [], ◌∷◌, ◌++◌, length, take, get_or, map, Contains, Option, MatchOption, if◌then◌else◌}
+pub use Rattle.mail_wire.specs.Tables.{Named}
 
+-- The ASCII letter in upper case, and any other octet as it is.
 abbrev pub upper : ℕ → ℕ
 upper x = if nat_lt 96 x && nat_lt x 123 then x - 32 else x
-
--- a word in upper case, and what it says
-pub record Named (V : Type 0) : Type 0 where
-  pub word : List ℕ
-  pub says : V
 
 -- one of the words, in any case
 pub record IsWordOf {V : Type 0} (table : List (Named V)) (octets : List ℕ) (value : V) : Type 0 where
@@ -27,11 +24,11 @@ pub record IsTable {V : Type 0} (table : List (Named V)) : Type 0 where
   pub each : (entry : Named V) → Contains table entry → map upper entry.word ≡ entry.word
   pub one : (entry other : Named V) → Contains table entry → Contains table other → entry.word ≡ other.word → entry.says ≡ other.says
 
--- behind a word an octet follows in a longer one
+-- The function tells for each word of a table which octets go on to a longer one.
 abbrev pub TellsLonger : {V : Type 0} → List (Named V) → (V → ℕ → Bool) → Type 0
 TellsLonger {V} table later = (entry : Named V) (x : ℕ) → Contains table entry → SomeBegins table (entry.word ++ upper x ∷ []) → later entry.says x ≡ true
 
--- so many octets of the text and the word are the same, and no more
+-- The text and the word begin with the same octets, so many and no more.
 pub record IsCommon (text word : List ℕ) (len : ℕ) : Type 0 where
   pub in_text : len ≤ length text
   pub in_word : len ≤ length word

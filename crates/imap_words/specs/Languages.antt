@@ -26,7 +26,7 @@ Or P Q octets value = P octets value ⊎ Q octets value
 abbrev pub Is : {V : Type 0} → V → List ℕ → V → Type 0
 Is v octets value = (octets ≡ []) × (value ≡ v)
 
--- this octet
+-- The one octet is this (RFC 5234, 2.3).
 abbrev pub IsOctet : ℕ → List ℕ → ℕ → Type 0
 IsOctet x octets value = (octets ≡ x ∷ []) × (value ≡ x)
 
@@ -36,7 +36,7 @@ pub record IsBetween (low high : ℕ) (octets : List ℕ) (value : ℕ) : Type 0
   pub from : low ≤ value
   pub to : value ≤ high
 
--- so many octets, whatever they are
+-- So many octets, whatever they are, as a literal has them (RFC 3501, 4.3).
 abbrev pub IsCounted : ℕ → List ℕ → List ℕ → Type 0
 IsCounted n octets value = (length octets ≡ n) × (value ≡ octets)
 
@@ -64,7 +64,7 @@ IsTail {E} Separator P End octets [] = (e : E) × End octets e
 IsTail {W} Separator P End octets (v ∷ vs) =
     (w : W) × (before front back : List ℕ) × (octets ≡ before ++ (front ++ back)) × Separator before w × P front v × IsTail Separator P End back vs
 
--- these, and then more
+-- An element of a list, and then more of them.
 abbrev pub IsMoreThan : {V W E : Type 0} → (List ℕ → W → Type 0) → (List ℕ → V → Type 0) → (List ℕ → E → Type 0) → List V → List ℕ → List V → Type 0
 IsMoreThan {V} Separator P End begun octets values = (more : List V) × (values ≡ begun ++ more) × IsTail Separator P End octets more
 

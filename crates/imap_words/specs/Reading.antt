@@ -10,11 +10,11 @@ abbrev pub BeginsIn : (ℕ → Bool) → List ℕ → Type 0
 BeginsIn p [] = ⊥
 BeginsIn p (x ∷ xs) = p x ≡ true
 
--- behind no word
+-- No octet goes on behind any word.
 abbrev pub never : {V : Type 0} → V → ℕ → Bool
 never value x = false
 
--- behind each word alike
+-- The same octets go on behind each word.
 abbrev pub always : {V : Type 0} → (ℕ → Bool) → V → ℕ → Bool
 always p value = p
 

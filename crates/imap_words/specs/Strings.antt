@@ -38,10 +38,11 @@ IsUtf8Four =
 abbrev pub IsHighChar : List ℕ → ℕ → Type 0
 IsHighChar = Or IsUtf8Two (Or IsUtf8Three IsUtf8Four)
 
--- where the second octet begins and ends behind this one
+-- The least second octet of a character that begins with this octet (RFC 3629, 4).
 abbrev pub least_second : ℕ → ℕ
 least_second x = if x == 224 then 160 else if x == 240 then 144 else 128
 
+-- The greatest second octet of a character that begins with this octet (RFC 3629, 4).
 abbrev pub greatest_second : ℕ → ℕ
 greatest_second x = if x == 237 then 159 else if x == 244 then 143 else 191
 
@@ -54,16 +55,19 @@ pub data QuotedChar : Type 0 where
   escaped : ℕ → QuotedChar
   high : List ℕ → QuotedChar
 
+-- QUOTED-CHAR; characters above 127 in a session with UTF8=ACCEPT alone (RFC 3501, 9; RFC 6855, 3).
 abbrev pub IsQuotedChar : Bool → QuotedChar → Type 0
 IsQuotedChar utf8 (text x) = is_quoted_text x ≡ true
 IsQuotedChar utf8 (escaped x) = is_quoted_special x ≡ true
 IsQuotedChar utf8 (high octets) = (utf8 ≡ true) × ((x : ℕ) × IsHighChar octets x)
 
+-- The octets of a character in a quoted string, a backslash before it where it is quoted (RFC 3501, 9).
 abbrev pub quoted_spelling : QuotedChar → List ℕ
 quoted_spelling (text x) = x ∷ []
 quoted_spelling (escaped x) = 92 ∷ x ∷ []
 quoted_spelling (high octets) = octets
 
+-- The octets that a character of a quoted string means, without a backslash before it.
 abbrev pub quoted_octets : QuotedChar → List ℕ
 quoted_octets (text x) = x ∷ []
 quoted_octets (escaped x) = x ∷ []
@@ -76,7 +80,7 @@ pub record IsSpecial (octets value : List ℕ) : Type 0 where
   pub value_is : value ≡ octet ∷ []
   pub special : is_quoted_special octet ≡ true
 
--- one of these, and what it says
+-- One character of a quoted string, and what it says (RFC 3501, 9).
 pub record IsOneQuoted (utf8 : Bool) (octets value : List ℕ) : Type 0 where
   pub item : QuotedChar
   pub is : IsQuotedChar utf8 item
@@ -159,30 +163,36 @@ abbrev pub BodyOf : HeadValue → List ℕ → List ℕ → Type 0
 BodyOf (whole v) = Is v
 BodyOf (literal n) = IsCounted n
 
--- the same for a field's name
+-- A number other than 0.
 pub record IsPositive (octets : List ℕ) (value : ℕ) : Type 0 where
   pub is_number : IsNumber32 octets value
   pub some : 0 < value
 
+-- The header of a literal that has an octet at least, for a field's name.
 pub record IsNameHeader (octets : List ℕ) (size : ℕ) : Type 0 where
   pub is_header : IsHeader octets size
   pub some : 0 < size
 
+-- A quoted string whose content is a field's name.
 pub record IsQuotedName (octets value : List ℕ) : Type 0 where
   pub is_quoted : IsQuoted false octets value
   pub is_name : IsRunOf is_name_char value value
 
+-- How a field's name begins: the whole of it, by itself or in quotes, or the header of a literal (RFC 3501, 9, header-fld-name).
 abbrev pub IsNameHead : List ℕ → HeadValue → Type 0
 IsNameHead =
     Or (Then (IsRunOf (passes NameAstring)) (λ v. Is (whole v))) (Or (Then IsQuotedName (λ v. Is (whole v))) (Then IsNameHeader (λ n. Is (literal n))))
 
+-- The octet would go on with the beginning of a field's name.
 abbrev pub behind_name_head : HeadValue → ℕ → Bool
 behind_name_head = behind_head NameAstring
 
+-- What follows the beginning of a field's name: nothing, or the octets of the literal, which are a name.
 abbrev pub NameBodyOf : HeadValue → List ℕ → List ℕ → Type 0
 NameBodyOf (whole v) = Is v
 NameBodyOf (literal n) = λ octets value. IsCounted n octets value × IsRunOf is_name_char octets octets
 
+-- What the beginning of a string is: the whole of it, or a literal by its size.
 abbrev pub head_value : Head → HeadValue
 head_value (Whole v) = whole v
 head_value (Literal n) = literal n

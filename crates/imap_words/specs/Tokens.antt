@@ -5,16 +5,19 @@ use Rattle.imap_words.specs.Languages.{After, IsOctet}
 use Rattle.imap_words.specs.declared.tokens.Kind.{Kind}
 use Rattle.imap_words.specs.declared.tokens.Kind.TheVariants as kind
 
--- SP, DQUOTE, "(" and ")"
+-- SP, a space (RFC 5234, B.1).
 abbrev pub IsSpace : List ℕ → ℕ → Type 0
 IsSpace = IsOctet 32
 
+-- DQUOTE, a double quote (RFC 5234, B.1).
 abbrev pub IsDoubleQuote : List ℕ → ℕ → Type 0
 IsDoubleQuote = IsOctet 34
 
+-- An opening parenthesis.
 abbrev pub IsOpenParenthesis : List ℕ → ℕ → Type 0
 IsOpenParenthesis = IsOctet 40
 
+-- A closing parenthesis.
 abbrev pub IsCloseParenthesis : List ℕ → ℕ → Type 0
 IsCloseParenthesis = IsOctet 41
 
@@ -99,6 +102,7 @@ IsTag = IsRunOf is_tag_char
 
 -- ---- numbers
 
+-- DIGIT, 0 to 9 (RFC 5234, B.1).
 unfoldable pub is_digit : ℕ → Bool
 is_digit x = nat_lt 47 x && nat_lt x 58
 
@@ -114,6 +118,7 @@ pub record IsNumber32 (octets : List ℕ) (value : ℕ) : Type 0 where
   pub value_is : value ≡ decimal_from 0 octets
   pub bound : value < 2 ^ 32
 
+-- The octets begin with the digit 0.
 abbrev pub BeginsZero : List ℕ → Type 0
 BeginsZero [] = ⊥
 BeginsZero (x ∷ xs) = x ≡ 48

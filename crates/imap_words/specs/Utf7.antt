@@ -13,6 +13,7 @@ is_printable c = nat_le 32 c && nat_le c 126
 abbrev pub unit_octets : ℕ → List ℕ
 unit_octets unit = unit / 256 ∷ unit % 256 ∷ []
 
+-- The octets of a character in UTF-16 (RFC 2781, 2.1).
 abbrev pub char_octets : ℕ → List ℕ
 char_octets c = flat_map unit_octets (encode_utf16 c)
 
@@ -45,12 +46,15 @@ modified_utf7 name = written_behind [] (chars name)
 
 -- ---- words of the reader's own contracts
 
+-- Each of the numbers is a character of Unicode.
 abbrev pub AreScalars : List ℕ → Type 0
 AreScalars cs = all_scalars cs ≡ true
 
+-- The characters in UTF-8.
 abbrev pub encoded : List ℕ → List ℕ
 encoded cs = encode_utf8_all cs
 
+-- Any octet but `-`, which ends a shift (RFC 3501, 5.1.3).
 abbrev pub is_no_dash : ℕ → Bool
 is_no_dash x = not (x == 45)
 
@@ -58,5 +62,6 @@ is_no_dash x = not (x == 45)
 abbrev pub IsShift : List ℕ → List ℕ → Type 0
 IsShift symbols cs = ((symbols ≡ []) × (cs ≡ 38 ∷ [])) ⊎ ((0 < length symbols) × AreScalars cs × (symbols ≡ modified_base64 (utf16_octets cs)))
 
+-- No `-` stands in the text.
 abbrev pub has_no_dash : List ℕ → Bool
 has_no_dash text = list_all is_no_dash text

@@ -5,9 +5,10 @@ ghost use Rattle.imap_words.specs.Keywords.{IsWordOf};
 ghost use Rattle.imap_words.specs.Tokens.{is_digit as is_digit_of};
 ghost use Rattle.imap_words.specs.Dates.{IsDateTime, IsDateTimeText, IsDigit, IsTwoDigits, IsFourDigits, IsTime, IsZone, IsDateDayFixed, months};
 
-use crate::keywords::{better, no_word, take_word};
+use crate::keywords::read_word;
 use crate::stop::Stop;
 use crate::tokens::octet;
+use mail_wire::TableWord;
 
 #[tactic(auto, unfolding(crate::specs::Tokens::is_digit))]
 fn is_digit(octet: u8) -> bool
@@ -55,24 +56,27 @@ fn day(text: &[u8]) -> Result<(u8, &[u8]), Stop>
     two_digits(text)
 }
 
+// The months.
+const MONTHS: [TableWord<u8>; 12] = [
+    TableWord(b"JAN", 1),
+    TableWord(b"FEB", 2),
+    TableWord(b"MAR", 3),
+    TableWord(b"APR", 4),
+    TableWord(b"MAY", 5),
+    TableWord(b"JUN", 6),
+    TableWord(b"JUL", 7),
+    TableWord(b"AUG", 8),
+    TableWord(b"SEP", 9),
+    TableWord(b"OCT", 10),
+    TableWord(b"NOV", 11),
+    TableWord(b"DEC", 12),
+];
+
 // Reads a month.
 fn month(text: &[u8]) -> Result<(u8, &[u8]), Stop>
     ensures { MatchResult result (λ x. Reads (IsWordOf months) never text.now x.0 x.1.now) (λ stop. StopsReading (IsWordOf months) never text.now stop) }
 {
-    let best = no_word();
-    let best = better(best, text, b"JAN", 1);
-    let best = better(best, text, b"FEB", 2);
-    let best = better(best, text, b"MAR", 3);
-    let best = better(best, text, b"APR", 4);
-    let best = better(best, text, b"MAY", 5);
-    let best = better(best, text, b"JUN", 6);
-    let best = better(best, text, b"JUL", 7);
-    let best = better(best, text, b"AUG", 8);
-    let best = better(best, text, b"SEP", 9);
-    let best = better(best, text, b"OCT", 10);
-    let best = better(best, text, b"NOV", 11);
-    let best = better(best, text, b"DEC", 12);
-    take_word(best, text)
+    read_word(&MONTHS, text)
 }
 
 fn time(text: &[u8]) -> Result<(u8, &[u8]), Stop>

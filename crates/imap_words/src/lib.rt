@@ -15,7 +15,7 @@ mod tokens;
 mod utf7;
 
 pub use dates::date_time;
-pub use keywords::{Best, better, no_word, take_word};
+pub use keywords::read_word;
 pub use sets::set_and_space;
 pub use stop::Stop;
 pub use strings::{Head, header, header8, name_head, string_head};

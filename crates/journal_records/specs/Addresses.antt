@@ -12,11 +12,11 @@ use Rattle.journal_records.specs.declared.limits.TheConstants.{TEXT_MAX}
 abbrev pub IsTextOfAddress : List ℕ → Address → Type 0
 IsTextOfAddress text address = HasPath (in_angles text) (Some address)
 
--- it is the text of an address
+-- The octets are the text of an address.
 abbrev pub IsAddressText : List ℕ → Type 0
 IsAddressText text = (address : Address) × IsTextOfAddress text address
 
--- and within the limit of a text
+-- The octets are the text of an address, and within the limit of a text.
 abbrev pub IsKeptAddress : List ℕ → Type 0
 IsKeptAddress text = IsAddressText text × (length text ≤ TEXT_MAX)
 
@@ -29,7 +29,7 @@ abbrev pub path_text : Option Address → List ℕ
 path_text None = []
 path_text (Some address) = address_text address
 
--- it is a normal form, which is its own
+-- The octets are a domain in its normal form.
 abbrev pub IsDomainText : List ℕ → Type 0
 IsDomainText name = normal_form name ≡ Some name
 

@@ -27,6 +27,7 @@ pub record IsNoFrame (octets : List ℕ) : Type 0 where
   pub no_prefix : IsCutShort octets → ⊥
   pub no_list : (fields rest : List ℕ) → 0 < length fields → length fields ≤ RECORD_MAX → octets ≢ octet_list fields ++ rest
 
+-- What octets begin with: a record that is cut short, nothing that can be one, or a whole one of so many octets.
 abbrev pub IsFrame : Frame → List ℕ → Type 0
 IsFrame frames.CutShort octets = IsCutShort octets
 IsFrame frames.Bad octets = IsNoFrame octets
@@ -45,6 +46,7 @@ pub record IsBeginning (octets : List ℕ) : Type 0 where
   pub shorter : length octets < 8
   pub same : octets ≡ take (length octets) first_octets
 
+-- How octets begin: with fewer than a journal begins with, all of them such; with a journal's first octets; or otherwise.
 abbrev pub IsBeginningOf : Beginning → List ℕ → Type 0
 IsBeginningOf beginnings.Prefix octets = IsBeginning octets
 IsBeginningOf beginnings.Journal octets = octets ≡ first_octets ++ drop 8 octets

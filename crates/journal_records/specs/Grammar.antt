@@ -22,6 +22,7 @@ fits_letter letter x =
     else if letter == 97 then true
     else x == letter
 
+-- The names of the months (RFC 3501, 9, date-month).
 abbrev pub months : List (List ℕ)
 months =
     codes "Jan" ∷ codes "Feb" ∷ codes "Mar" ∷ codes "Apr" ∷ codes "May" ∷ codes "Jun" ∷ codes "Jul" ∷ codes "Aug" ∷ codes "Sep" ∷ codes "Oct" ∷ codes "Nov" ∷ codes "Dec" ∷ []

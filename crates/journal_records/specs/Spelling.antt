@@ -34,6 +34,7 @@ record_text one = octet_list (fields_of one)
 abbrev pub first_octets : List ℕ
 first_octets = codes "MAILJNL1"
 
+-- The octets of a journal: its first eight, and each record in order.
 abbrev pub journal : List Record → List ℕ
 journal all = first_octets ++ flat_map record_text all
 
@@ -52,6 +53,6 @@ Fits (records.Expunge message) = message < 2 ^ 32
 Fits (records.Queue path addresses octets) = HasLength path × (length addresses < 2 ^ 32) × AllByRecursion HasLength addresses × HasLength octets
 Fits (records.Settle entry index) = (entry < 2 ^ 32) × (index < 2 ^ 32)
 
--- it has a spelling within the limit of a record
+-- The record has a spelling within the limit of a record.
 abbrev pub IsWritableRecord : Record → Type 0
 IsWritableRecord one = Fits one × (length (fields_of one) ≤ RECORD_MAX)

@@ -1,5 +1,6 @@
-//! A law of records.
+//! Laws of records and of their limits.
 ghost use Rattle.std.specs.Prelude.{◌≡◌, ℕ, List, ◌++◌};
+ghost use Rattle.journal_records.specs.declared.limits.TheConstants.{NAME_MAX, RECORD_MAX, TEXT_MAX};
 ghost use Rattle.journal_records.specs.declared.records.Record.{Record};
 ghost use Rattle.journal_records.specs.Spelling.{Fits, IsWritableRecord, fields_of, record_text};
 
@@ -7,4 +8,11 @@ ghost use Rattle.journal_records.specs.Spelling.{Fits, IsWritableRecord, fields_
 pub fn records_are_told_apart()
     ensures fields { (a b : Record) → Fits a → Fits b → fields_of a ≡ fields_of b → a ≡ b }
     ensures texts { (a b : Record) (x y : List ℕ) → IsWritableRecord a → IsWritableRecord b → record_text a ++ x ≡ record_text b ++ y → (a ≡ b) × (x ≡ y) }
+{}
+
+/// The limits have these values: a text of 64 KiB, a name of 255 octets, a record of 64 MiB.
+pub fn limits_are_these()
+    ensures text { TEXT_MAX ≡ 65536 }
+    ensures name { NAME_MAX ≡ 255 }
+    ensures record_octets { RECORD_MAX ≡ 67108864 }
 {}

@@ -12,6 +12,7 @@ use Rattle.kept_mail.specs.Records.{are_too_many, recipient_count}
 abbrev pub copy_for : List ℕ → List ℕ → ℕ → Record
 copy_for date octets folder = records.Message folder 0 date octets
 
+-- The folders INBOX of these accounts.
 abbrev pub inboxes_of : Kept → List ℕ → List ℕ
 inboxes_of kept accounts = map (λ account. unwrap_or (inbox_of kept account) 0) accounts
 

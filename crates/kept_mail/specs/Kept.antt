@@ -15,6 +15,7 @@ use Rattle.address_grammar.specs.declared.Address.{Address}
 use Rattle.journal_records.specs.Addresses.{is_same_mailbox, is_same_domain, address_of}
 use Rattle.journal_records.specs.Grammar.{inbox, kept_name}
 
+-- What a store keeps: its accounts, its domains, its folders, their messages, and the entries of its queue.
 pub record Kept : Type 0 where
   pub accounts : List Account
   pub domains : List (List ℕ)
@@ -22,6 +23,7 @@ pub record Kept : Type 0 where
   pub messages : List Message
   pub entries : List Entry
 
+-- What an empty journal keeps.
 abbrev pub nothing : Kept
 nothing = record { accounts = []; domains = []; folders = []; messages = []; entries = [] }
 
@@ -31,18 +33,23 @@ change_at change [] at = []
 change_at change (x ∷ xs) zero = change x ∷ xs
 change_at change (x ∷ xs) (suc at) = x ∷ change_at change xs at
 
+-- The message with these flags.
 abbrev pub with_flags : ℕ → Message → Message
 with_flags flags message = record message { flags = flags }
 
+-- The message after it was expunged.
 abbrev pub gone : Message → Message
 gone message = record message { live = false }
 
+-- A recipient of this address who isn't settled.
 abbrev pub waiting : List ℕ → Recipient
 waiting address = record { address = address; waits = true }
 
+-- The recipient once delivery to them has succeeded or was given up.
 abbrev pub settled : Recipient → Recipient
 settled recipient = record recipient { waits = false }
 
+-- The entry with the recipient at this place settled.
 abbrev pub without : ℕ → Entry → Entry
 without index entry = record entry { recipients = change_at settled entry.recipients index }
 
@@ -69,6 +76,7 @@ abbrev pub after_all : Kept → List Record → Kept
 after_all kept [] = kept
 after_all kept (one ∷ others) = after_all (after_record kept one) others
 
+-- What a journal of these records keeps.
 abbrev pub store_of : List Record → Kept
 store_of all = after_all nothing all
 
@@ -103,6 +111,7 @@ find_folder kept account name = first_named account (kept_name name) 0 kept.fold
 abbrev pub names_among : ℕ → List Folder → List (List ℕ)
 names_among account folders = map (λ (folder : Folder). folder.name) (filter (λ (folder : Folder). folder.account == account) folders)
 
+-- The names of an account's folders, in the order in which they were made.
 abbrev pub folder_names : Kept → ℕ → List (List ℕ)
 folder_names kept account = names_among account kept.folders
 
@@ -110,7 +119,7 @@ folder_names kept account = names_among account kept.folders
 abbrev pub kept_folder_name : Kept → (folder : ℕ) → List ℕ
 kept_folder_name kept folder = option_map_or (λ (one : Folder). one.name) (slice_get kept.folders folder) []
 
--- one more than the number of messages that a folder ever had
+-- The unique identifier that the next message of a folder gets: one more than the number of messages it ever had (RFC 3501, 2.3.1.1).
 abbrev pub uid_next : Kept → ℕ → ℕ
 uid_next kept folder = count_by (λ message. message.folder == folder) kept.messages + 1
 
@@ -124,6 +133,7 @@ listed_from folder at uid (message ∷ messages) =
     else listed_from folder (at + 1) (uid + 1) messages)
     else listed_from folder (at + 1) uid messages
 
+-- The messages of a folder that aren't expunged, with unique identifiers that count from 1 in order of arrival (RFC 3501, 2.3.1.1).
 abbrev pub listed : Kept → ℕ → List Listed
 listed kept folder = listed_from folder 0 1 kept.messages
 
@@ -142,6 +152,7 @@ first_account path_of address at [] = None
 first_account path_of address at (account ∷ accounts) =
     if is_account_of path_of address account then Some at else first_account path_of address (at + 1) accounts
 
+-- The first account of this address.
 abbrev pub find_account : (List ℕ → Option (Option Address)) → Kept → Address → Option ℕ
 find_account path_of kept address = first_account path_of address 0 kept.accounts
 
@@ -149,6 +160,7 @@ find_account path_of kept address = first_account path_of address 0 kept.account
 abbrev pub is_local : Kept → List ℕ → Bool
 is_local kept domain = list_any (λ name. is_same_domain name domain) kept.domains
 
+-- There is an account, and its password is this one.
 abbrev pub has_password : Option Account → List ℕ → Bool
 has_password None password = false
 has_password (Some account) password = bytes_eq account.password password

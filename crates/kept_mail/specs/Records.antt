@@ -19,6 +19,7 @@ abbrev pub IsLive : Option Message → Type 0
 IsLive None = ⊥
 IsLive (Some message) = IsTrue message.live
 
+-- The recipient is there and isn't settled.
 abbrev pub IsWaiting : Option Recipient → Type 0
 IsWaiting None = ⊥
 IsWaiting (Some recipient) = IsTrue recipient.waits
@@ -56,7 +57,7 @@ IsInOrder kept (records.Queue path addresses octets) =
     × (recipient_count kept.entries + length addresses ≤ THINGS_MAX)
 IsInOrder kept (records.Settle entry index) = IsUnsettled (slice_get kept.entries entry) index
 
--- it has a spelling within the limit of a record, and is in order
+-- The record has a spelling within its limit, and may stand behind those that led to what is kept.
 pub record IsRecord (kept : Kept) (one : Record) : Type 0 where
   pub fits : Fits one
   pub short : length (fields_of one) ≤ RECORD_MAX

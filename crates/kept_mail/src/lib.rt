@@ -23,7 +23,7 @@ pub use folders::{folder_key, names_among, put_folder, reserve_folder};
 pub use kept::{
     Account, Entry, Folder, Listed, Message, Numbers, Recipient, Recipients, waiting_entry,
 };
-pub use limits::{MESSAGE_MAX, RECIPIENTS_MAX, THINGS_MAX};
+pub use limits::{MESSAGE_MAX, RECIPIENTS_MAX, THINGS_MAX, limits_are_these};
 pub use messages::{list_back, put_flags, take_away};
 pub use names::{number_of, put_first, take_back};
 pub use parcels::{

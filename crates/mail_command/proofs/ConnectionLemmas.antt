@@ -21,7 +21,7 @@ use Rattle.mail_store.proofs.CatchLemmas.{behind_journal, end_changed}
 use Rattle.mail_store.proofs.FollowLemmas.{followed}
 use Rattle.session_core.specs.Acts.{Act, changes_in}
 use Rattle.session_core.specs.Around.{Around}
-use Rattle.session_core.specs.Desks.{HasFirst, IsNextCache, IsOpen, WorksWithin}
+use Rattle.session_core.specs.Desks.{HasFirst, IsNextCache, IsOpen, OpensOrCatchesUp, WorksWithin}
 use Rattle.session_core.specs.Done.{IsDone}
 use Rattle.session_core.specs.Keeps.{Keeps, answer_of}
 use Rattle.session_core.specs.Protocol.{Protocol}
@@ -43,6 +43,7 @@ use Rattle.mail_command.proofs.SessionLemmas.{IsLent}
 -- a desk that was readied, with what is lent to its session
 pub record IsReadied (begun : Around) (kept : Option Desk) (limits : Limits) (old : Option (List ℕ)) : Type 0 where
   pub opens : IfSome old (λ octets. HasFirst kept octets → OpensTo octets begun.keeper.octets begun.desk.store.kept)
+  pub anew : IfSome old (λ octets. OpensOrCatchesUp kept octets begun.keeper.octets begun.desk.store.kept)
   pub cache : IfSome old (λ octets. IsNextCache limits kept octets begun.desk.cache)
   pub place : IfSome begun.keeper.octets (λ octets. begun.desk.store.end ≡ length octets)
   pub works : IsOpen begun.desk
@@ -59,6 +60,7 @@ served_next protocol begun done reading opened new a b kept left limits old came
       begun = begun;
       done = done;
       opens = is.opens;
+      anew = is.anew;
       cache = is.cache;
       limits_are = is.limits_are;
       message_limit = is.works.agrees ∙ ap (λ (all : Limits). all.message_max) is.limits_are;

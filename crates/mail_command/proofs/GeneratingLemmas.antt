@@ -12,7 +12,7 @@ use Rattle.mail_wire.specs.Lines.{crlf}
 use Rattle.mail_wire.specs.Octets.{same_name}
 use Rattle.mail_wire.specs.Transcript.{taken_of}
 use Rattle.journal_records.specs.Grammar.{IsDate, fits_letter}
-use Rattle.imap_session.specs.CommandLaws.{is_date_date}
+use Rattle.imap_session.specs.laws.CommandLaws.{is_date_date}
 use Rattle.imap_session.specs.Session.{fits_shape}
 use Rattle.surrogate_rope.specs.Layout.{HasSurrogate}
 use Rattle.kept_mail.specs.declared.limits.TheConstants.{THINGS_MAX}

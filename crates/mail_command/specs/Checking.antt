@@ -22,6 +22,7 @@ pub record HasFigures (msg : List ℕ) (figures : Figures) : Type 0 where
 abbrev pub number_line : List ℕ → ℕ → List ℕ
 number_line word number = word ++ (decimal number ++ crlf)
 
+-- The line that tells whether the message needs UTF-8.
 abbrev pub utf8_line : Bool → List ℕ
 utf8_line true = codes "utf8 yes" ++ crlf
 utf8_line false = codes "utf8 no" ++ crlf

@@ -3,7 +3,7 @@ use Rattle.std.specs.Prelude.{◌≡◌, ℕ, List, ◌++◌, Option, IfSome}
 use Rattle.mail_wire.specs.Telling.{Telling}
 use Rattle.mail_store.specs.Answers.{OpensTo}
 use Rattle.session_core.specs.Around.{Around}
-use Rattle.session_core.specs.Desks.{HasFirst, IsNextCache}
+use Rattle.session_core.specs.Desks.{HasFirst, IsNextCache, OpensOrCatchesUp}
 use Rattle.session_core.specs.Serving.{Course, ServesFrom}
 use Rattle.session_core.specs.declared.desk.Desk.{Desk}
 use Rattle.session_core.specs.declared.desk.Limits.{Limits}
@@ -11,11 +11,12 @@ use Rattle.session_core.specs.declared.serving.Served.{Served}
 
 -- A session was served from a desk within these limits, whose cache was that of the desk that was kept. If the journal went on from what
 -- the kept desk had, the session's store was the fold of the whole records of the journal, whoever wrote them, and the keeper held them and
--- nothing more when it began. What is kept now is the desk as the session left it.
+-- nothing more when it began; whatever it was, no record had gone. What is kept now is the desk as the session left it.
 pub record ServesNext (course : Course) (kept left : Option Desk) (limits : Limits) (old new : Option (List ℕ)) (before now : Telling) (came : Served) : Type 0 where
   pub begun : Around
   pub done : Around
   pub opens : IfSome old (λ octets. HasFirst kept octets → OpensTo octets begun.keeper.octets begun.desk.store.kept)
+  pub anew : IfSome old (λ octets. OpensOrCatchesUp kept octets begun.keeper.octets begun.desk.store.kept)
   pub cache : IfSome old (λ octets. IsNextCache limits kept octets begun.desk.cache)
   pub limits_are : begun.desk.limits ≡ limits
   pub message_limit : begun.desk.store.message_max ≡ limits.message_max

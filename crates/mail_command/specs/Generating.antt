@@ -15,7 +15,7 @@ abbrev pub generated : ℕ → List ℕ
 generated number =
     (codes "From: a@example.org" ++ crlf) ++ (codes "Subject: s" ++ (decimal number ++ (space_and_e_acute ++ (crlf ++ (crlf ++ (decimal number ++ crlf))))))
 
--- so many of them, from the number 0 on
+-- So many generated messages, from the number 0 on.
 abbrev pub generated_messages : ℕ → List (List ℕ)
 generated_messages zero = []
 generated_messages (suc number) = generated_messages number ++ generated number ∷ []
@@ -27,5 +27,6 @@ pub record AreTotals (number : ℕ) (totals : Totals) : Type 0 where
   pub stored : totals.stored ≡ sum_by length (generated_messages number)
   pub served : totals.served ≡ sum_by length surrogates
 
+-- The lines that `gen` ends with: how many messages, and how many octets they and their surrogates have.
 abbrev pub totals_text : ℕ → Totals → List ℕ
 totals_text number totals = number_line (codes "messages ") number ++ (number_line (codes "stored ") totals.stored ++ number_line (codes "served ") totals.served)

@@ -7,6 +7,7 @@ use Rattle.imap_session.specs.Session.{imap_protocol}
 use Rattle.mail_command.specs.declared.roles.Role.{Role}
 use Rattle.mail_command.specs.declared.roles.Role.TheVariants.{Pop, Smtp, Imap}
 
+-- The protocol that a server of this role speaks.
 abbrev pub protocol_for : Role → Protocol
 protocol_for Pop = pop_protocol
 protocol_for Smtp = smtp_protocol

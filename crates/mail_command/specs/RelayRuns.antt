@@ -52,7 +52,7 @@ pub record KeepsFirst (path_of : List ℕ → Option (Option Address)) (before :
   pub carried : Carried path_of before bag replies first acts count
   pub holds : HoldsBegun octets before.desk.store (changes_in acts)
 
--- the same of a run from this desk
+-- The keeper opens with the records of the store, and the first of those that acts of a run from this desk bring.
 abbrev pub KeepsFirstOf : (path_of : List ℕ → Option (Option Address)) → Desk → (clock : Option ℕ) → Option (List ℕ) → Type 0
 KeepsFirstOf path_of desk clock octets = (before : Around) × (before.desk ≡ desk) × (before.clock ≡ clock) × KeepsFirst path_of before octets
 

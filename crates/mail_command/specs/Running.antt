@@ -23,10 +23,11 @@ use Rattle.mail_wire.specs.declared.traffic.TheConstants.{PIECE}
 
 -- ---- words of no command
 
+-- What is given for words that are no command.
 abbrev pub words_refused : List ℕ
 words_refused = codes "words refused" ++ crlf
 
--- they are told so, or that was broken off
+-- What is done for words that are no command: they are refused, or that was broken off.
 pub data RefusesWords (before now : Telling) (status : ℕ) : Type 0 where
   Told : Gives before now words_refused → status ≡ 4 → RefusesWords before now status
   BrokenOff : GivesPrefix before now words_refused → IsBrokenOff status → RefusesWords before now status
@@ -65,14 +66,17 @@ abbrev pub IsExact : Task → Telling → ℕ → Type 0
 IsExact task before result =
     IfSome before.left (λ octets. (status : ℕ) (given : List ℕ) → Outcome task octets status given → (result ≡ status) ⊎ IsBrokenOff result)
 
+-- What a command does that reads one message: by its status it answered all of it, or it was broken off.
 pub record RunsTask (task : Task) (before now : Telling) (status : ℕ) : Type 0 where
   pub answers : ¬ IsBrokenOff status → AnswersAll task before now status
   pub broken_off : IsBrokenOff status → BreaksOff task before now
   pub exact : IsExact task before status
 
+-- What `downgrade` does.
 abbrev pub RunsDowngrade : Telling → Telling → ℕ → Type 0
 RunsDowngrade = RunsTask Downgrade
 
+-- What `check` does.
 abbrev pub RunsCheck : Telling → Telling → ℕ → Type 0
 RunsCheck = RunsTask Check
 
@@ -88,6 +92,7 @@ pub data RunsGen (number : ℕ) (before now : Telling) (status : ℕ) : Type 0 w
 
 -- ---- all that leave the keeper alone
 
+-- What a command does that leaves the journal alone.
 abbrev pub RunsApart : Apart → Telling → Telling → ℕ → Type 0
 RunsApart (apart.Message task) = RunsTask task
 RunsApart (apart.Gen number) = RunsGen number

@@ -15,6 +15,7 @@ use Rattle.mail_command.specs.declared.tasks.Task.TheVariants as task
 abbrev pub IsDowngrade : List (List ℕ) → Type 0
 IsDowngrade words = words ≡ codes "downgrade" ∷ []
 
+-- The one word is `check`.
 abbrev pub IsCheck : List (List ℕ) → Type 0
 IsCheck words = words ≡ codes "check" ∷ []
 

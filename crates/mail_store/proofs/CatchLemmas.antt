@@ -38,7 +38,7 @@ pub caught_up : (told has : Option (List ℕ)) (old new : StoreState) (had : ℕ
     → IfSome told (λ octets. IsCutShort (drop new.end octets)) → has ≡ option_map (take new.end) told → IfSome told (λ octets. CatchesUp old octets has new.kept)
 caught_up None has old new had n enough r cut h = tt
 caught_up (Some octets) has old new had n enough r cut h =
-    record { enough = omega (arith, n, enough); opens = λ all was. opened_again octets old new has r cut h all was }
+    record { enough = omega (arith, n, enough); place = new.end; first = h; cut = cut; opens = λ all was. opened_again octets old new has r cut h all was }
 
 pub end_caught : (told has : Option (List ℕ)) (end had : ℕ) → IfSome told (λ octets. had ≡ length octets) → end ≤ had → has ≡ option_map (take end) told
     → IfSome has (λ octets. end ≡ length octets)

@@ -183,6 +183,7 @@ EndsJournal-read (Some octets) first store none eight begins r cut =
       text = rw (eqb_zero store.end long) text;
       left = subst (λ (l : List ℕ). HasRecords l r.more) (sym text) (whole_journal r.more h.begins.records);
       begun = λ (e : store.end ≡ 0). absurd (omega (arith, e, long));
+      beginning = λ (e : store.end ≡ 0). absurd (omega (arith, e, long));
     }
 
 pub IsFold-read : (told : Option (List ℕ)) (first store : StoreState) → first.kept ≡ nothing → IsReadTo told first store → IsFold store.kept
@@ -240,4 +241,4 @@ leaves_half (Some old) (Some new) end kept e h = half_left old end kept new e h
 -- ---- calls of the keeper, one after the other
 
 pub Stays-then : (before between now : KeeperTelling) → KeeperStays before between → KeeperStays between now → KeeperStays before now
-Stays-then before between now a b = record { same = b.same ∙ a.same; later = omega (arith, a.later, b.later); sure = λ h. b.sure (a.sure h) }
+Stays-then before between now a b = record { same = b.same ∙ a.same; unappended = b.unappended ∙ a.unappended; later = omega (arith, a.later, b.later); sure = λ h. b.sure (a.sure h) }

@@ -8,6 +8,7 @@ use Rattle.journal_records.specs.declared.records.Record.{Record}
 use Rattle.kept_mail.specs.Kept.{Kept, nothing, store_of}
 use Rattle.kept_mail.specs.Records.{AreRecords}
 use Rattle.journal_records.specs.Spelling.{journal}
+use Rattle.mail_wire.specs.Keeping.{one_more}
 use Rattle.mail_store.specs.Opening.{HasRecords, IsBadAt}
 
 -- the fault that a refused call of a keeper is
@@ -15,7 +16,7 @@ abbrev pub open_fault : Failed → OpenFault
 open_fault outcomes.Outside = faults.Keeper
 open_fault outcomes.Memory = faults.Memory
 
--- this is kept after some records
+-- What is kept is what some records lead to.
 pub record IsFold (kept : Kept) : Type 0 where
   pub all : List Record
   pub records : AreRecords nothing all
@@ -33,6 +34,10 @@ abbrev pub IsJournalFault : List ℕ → Option (List ℕ) → OpenFault → Typ
 IsJournalFault old new faults.Keeper = Unit {0}
 IsJournalFault old new (faults.BadJournal at) = IsBadAt old at × (new ≡ Some old)
 IsJournalFault old new faults.Memory = Unit {0}
+
+-- Nothing was appended, or this holds and one append was made.
+abbrev pub BeginsOnce : Type 0 → Option ℕ → Option ℕ → Type 0
+BeginsOnce Holds before now = (now ≡ before) ⊎ (Holds × (now ≡ one_more before))
 
 -- the octets are as before, or have the same whole records
 abbrev pub LeavesRecords : Option (List ℕ) → Option (List ℕ) → Type 0

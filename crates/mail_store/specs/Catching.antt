@@ -1,7 +1,8 @@
 -- What catching up does: the records that stand in a keeper behind those that a store has.
-use Rattle.std.specs.Prelude.{◌≡◌, ◌⊎◌, ℕ, ◌<◌, ◌≤◌, List, ◌++◌, length, drop, Option, IfSome}
+use Rattle.std.specs.Prelude.{◌≡◌, ◌⊎◌, ℕ, ◌<◌, ◌≤◌, List, ◌++◌, length, take, drop, Option, Some, IfSome}
 use Rattle.std.specs.List.{flat_map}
 use Rattle.journal_records.specs.declared.records.Record.{Record}
+use Rattle.journal_records.specs.Frames.{IsCutShort}
 use Rattle.journal_records.specs.Spelling.{record_text, journal}
 use Rattle.mail_store.specs.declared.opening.OpenFault.{OpenFault}
 use Rattle.mail_store.specs.declared.opening.OpenFault.TheVariants as faults
@@ -26,10 +27,13 @@ pub record ReadsOn (told : Option (List ℕ)) (old new : StoreState) : Type 0 wh
   pub store : new ≡ record (with_records old more) { failed = new.failed }
   pub text : IfSome told (λ octets. drop old.end octets ≡ flat_map record_text more ++ drop new.end octets)
 
--- There are no fewer octets than the store had. Where they begin with the journal of its records, what is kept now are the whole
--- records that the octets had, and the new octets are their journal.
+-- There are no fewer octets than the store had, and a prefix of a record at most was cut off their end. Where they begin with the journal
+-- of the store's records, what is kept now are the whole records that the octets had, and the new octets are their journal.
 pub record CatchesUp (store : StoreState) (old : List ℕ) (new : Option (List ℕ)) (kept : Kept) : Type 0 where
   pub enough : store.end ≤ length old
+  pub place : ℕ
+  pub first : new ≡ Some (take place old)
+  pub cut : IsCutShort (drop place old)
   pub opens : (all : List Record) → HasReadFirst store old all → OpensTo old new kept
 
 -- There are fewer octets than the store had, and the place is their end. Or they begin with the journal of the store's records, and

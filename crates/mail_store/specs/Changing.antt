@@ -2,7 +2,7 @@
 use Rattle.std.specs.Prelude.{◌≡◌, ◌≢◌, ℕ, ◌<◌, ◌≤◌, List, ◌++◌, length, take, map, Bool, true, false, ◌||◌, not, Option, Some, None, is_some, Result, Ok, Err, nat_lt, slice_get, IfSome, if◌then◌else◌}
 use Rattle.std.specs.List.{All, flat_map, list_all}
 use Rattle.std.specs.Option.{option_map_or}
-use Rattle.mail_wire.specs.Keeping.{with_last}
+use Rattle.mail_wire.specs.Keeping.{one_more, with_last}
 use Rattle.mail_wire.specs.KeeperTelling.{KeeperTelling}
 use Rattle.address_grammar.specs.declared.Address.{Address}
 use Rattle.mail_store.specs.declared.changing.StoreFault.{StoreFault}
@@ -43,6 +43,15 @@ pub record LeavesAll {T : Type 0} (old new : StoreState) (before now : KeeperTel
   pub store : new ≡ old
   pub keeper : now ≡ before
   pub answer : result ≢ Err faults.Keeper
+
+-- What a call that wasn't done left of the keeper. A refused one didn't come to it, so that it tells the same. One that the keeper broke
+-- off made its one append, and one that wanted memory made none.
+abbrev pub LeavesKeeper : KeeperTelling → KeeperTelling → StoreFault → Type 0
+LeavesKeeper before now faults.Keeper = now.appends ≡ one_more before.appends
+LeavesKeeper before now faults.Memory = now.appends ≡ before.appends
+LeavesKeeper before now faults.Exists = now ≡ before
+LeavesKeeper before now faults.NoSuch = now ≡ before
+LeavesKeeper before now faults.TooLarge = now ≡ before
 
 -- The call is refused exactly so, unless memory was wanted; and only a call that isn't refused comes to the keeper.
 abbrev pub IsRefusedAs : {T : Type 0} → Result T StoreFault → Option StoreFault → Type 0
@@ -102,6 +111,7 @@ pub record IsDeliverable (store : StoreState) (delivery : Delivery) : Type 0 whe
   pub addresses : All IsSendable delivery.remote
   pub few : length delivery.remote ≤ RECIPIENTS_MAX
 
+-- A delivery is refused where a message has more octets than one may have, or where it would be more things than a store may keep.
 abbrev pub delivery_refusal : StoreState → Delivery → Option StoreFault
 delivery_refusal store delivery =
     if has_large_octets store.message_max delivery || has_many_things store.kept delivery then Some faults.TooLarge else None
@@ -126,12 +136,15 @@ append_refusal store octets =
 abbrev pub is_live : Kept → ℕ → Bool
 is_live kept id = option_map_or (λ (message : Message). message.live) (slice_get kept.messages id) false
 
+-- New flags are refused where the message isn't there.
 abbrev pub flags_refusal : Kept → ℕ → Option StoreFault
 flags_refusal kept id = if is_live kept id then None else Some faults.NoSuch
 
+-- An expunge is refused where one of the messages isn't there.
 abbrev pub expunge_refusal : Kept → List ℕ → Option StoreFault
 expunge_refusal kept ids = if list_all (is_live kept) ids then None else Some faults.NoSuch
 
+-- The records that expunge these messages.
 abbrev pub expunged : List ℕ → List Record
 expunged ids = map records.Expunge ids
 
@@ -141,5 +154,6 @@ expunged ids = map records.Expunge ids
 abbrev pub is_unsettled : Kept → ℕ → ℕ → Bool
 is_unsettled kept entry index = option_map_or (λ (one : Entry). option_map_or (λ (recipient : Recipient). recipient.waits) (slice_get one.recipients index) false) (slice_get kept.entries entry) false
 
+-- Settling is refused where the entry has no such recipient, or one who is settled.
 abbrev pub settle_refusal : Kept → ℕ → ℕ → Option StoreFault
 settle_refusal kept entry index = if is_unsettled kept entry index then None else Some faults.NoSuch

@@ -15,7 +15,7 @@ abbrev pub places_where : {T : Type 0} → (T → Bool) → ℕ → List T → L
 places_where test at [] = []
 places_where test at (x ∷ xs) = if test x then at ∷ places_where test (at + 1) xs else places_where test (at + 1) xs
 
--- the same places, each with a number of what stands there
+-- The places of a list where the test holds, each with a number of what stands there.
 abbrev pub sizes_where : {T : Type 0} → (T → Bool) → (T → ℕ) → ℕ → List T → List (ℕ × ℕ)
 sizes_where test size at [] = []
 sizes_where test size at (x ∷ xs) = if test x then (at, size x) ∷ sizes_where test size (at + 1) xs else sizes_where test size (at + 1) xs
@@ -36,7 +36,7 @@ open_numbers entries = places_where is_open 0 entries
 abbrev pub waiting_count : Entry → ℕ
 waiting_count entry = count_by waits entry.recipients
 
--- the same entries, each with how many of its recipients aren't settled
+-- The entries of the queue that wait, each with how many of its recipients aren't settled.
 abbrev pub open_counts : List Entry → List (ℕ × ℕ)
 open_counts entries = sizes_where is_open waiting_count 0 entries
 

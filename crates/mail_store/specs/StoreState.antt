@@ -15,6 +15,7 @@ use Rattle.kept_mail.specs.Records.{recipient_count}
 use Rattle.journal_records.specs.Stored.{IsStored}
 use Rattle.mail_store.specs.Queue.{open_counts, IsKeptEntry}
 
+-- A store: what it keeps, its limit of a message, whether its journal may hold other records, and where that ends.
 pub record StoreState : Type 0 where
   -- the fold of the records
   pub kept : Kept

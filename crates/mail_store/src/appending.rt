@@ -1,12 +1,12 @@
 //! A message put last in a folder.
-ghost use Rattle.std.specs.Prelude.{◌≡◌, ◌≢◌, ◌≤◌, ◌<◌, ◌+◌, ◌∷◌, ◌++◌, ◌||◌, [], length, nat_lt, vec_len, vec_capacity, IfOk, OnOk, None, Err, false};
-ghost use Rattle.mail_wire.specs.Keeping.{HasKeeperCause};
+ghost use Rattle.std.specs.Prelude.{◌≡◌, ◌≢◌, ◌≤◌, ◌<◌, ◌+◌, ◌∷◌, ◌++◌, ◌||◌, [], length, nat_lt, vec_len, vec_capacity, IfOk, OnOk, IfErr, None, Err, false};
+ghost use Rattle.mail_wire.specs.Keeping.{HasKeeperCause, one_more};
 ghost use Rattle.journal_records.specs.declared.limits.TheConstants.{RECORD_MAX};
 ghost use Rattle.journal_records.specs.declared.records.Record.TheVariants as records;
 ghost use Rattle.journal_records.specs.Spelling.{record_text};
 ghost use Rattle.kept_mail.specs.Kept.{uid_next};
 ghost use Rattle.kept_mail.specs.Records.{are_too_many};
-ghost use Rattle.mail_store.specs.Changing.{Changes, IsRefusedAs, IsAppendable, append_refusal};
+ghost use Rattle.mail_store.specs.Changing.{Changes, LeavesKeeper, IsRefusedAs, IsAppendable, append_refusal};
 ghost use Rattle.mail_store.specs.private.Appending.{live_message, IsNewMessage};
 ghost use Rattle.mail_store.specs.private.Writing.{Writes};
 ghost use Rattle.mail_store.specs.declared.changing.StoreFault.TheVariants as faults;
@@ -63,6 +63,8 @@ fn write_message<J: Keeper>(
     ensures message_room { OnOk result (vec_len messages.new < vec_capacity messages.new) }
     ensures previous_room { OnOk result (vec_len previous.new < vec_capacity previous.new) }
     ensures cause { HasKeeperCause (J.tells keeper.old) (J.tells keeper.new) result StoreFault.Keeper }
+    ensures once { OnOk result ((J.tells keeper.new).appends ≡ one_more (J.tells keeper.old).appends) }
+    ensures apart { IfErr result (LeavesKeeper (J.tells keeper.old) (J.tells keeper.new)) }
 {
     messages.reserve(1)?;
     previous.reserve(1)?;
@@ -87,6 +89,8 @@ impl Store {
         ensures uid { IfOk result (λ uid. uid ≡ uid_next self.old.kept folder) }
         ensures refusal { IsRefusedAs result (append_refusal self.old octets.now) }
         ensures cause { HasKeeperCause (J.tells keeper.old) (J.tells keeper.new) result StoreFault.Keeper }
+        ensures once { OnOk result ((J.tells keeper.new).appends ≡ one_more (J.tells keeper.old).appends) }
+        ensures apart { IfErr result (LeavesKeeper (J.tells keeper.old) (J.tells keeper.new)) }
     {
         let made = self.new_message(folder, flags, date, octets)?;
         self.put_new_message(keeper, made)
@@ -131,6 +135,8 @@ impl Store {
         ensures uid { IfOk result (λ uid. uid ≡ uid_next self.old.kept made.own.folder) }
         ensures refusal { IsRefusedAs result None }
         ensures cause { HasKeeperCause (J.tells keeper.old) (J.tells keeper.new) result StoreFault.Keeper }
+        ensures once { OnOk result ((J.tells keeper.new).appends ≡ one_more (J.tells keeper.old).appends) }
+        ensures apart { IfErr result (LeavesKeeper (J.tells keeper.old) (J.tells keeper.new)) }
     {
         let uid = self.uid_next(made.own.folder);
         write_message(

@@ -16,6 +16,7 @@ fn cut_behind<J: Keeper>(keeper: &mut J, had: u64, end: u64) -> Result<(), OpenF
     ensures cut { OnOk result ((J.tells keeper.new).octets ≡ option_map (take end) (J.tells keeper.old).octets) }
     ensures same { OnErr result ((J.tells keeper.new).octets ≡ (J.tells keeper.old).octets) }
     ensures cause { HasKeeperCause (J.tells keeper.old) (J.tells keeper.new) result OpenFault.Keeper }
+    ensures unappended { (J.tells keeper.new).appends ≡ (J.tells keeper.old).appends }
     ensures outside { IfErr result IsOutside }
 {
     if had <= end {
@@ -33,6 +34,7 @@ fn read_behind<J: Keeper>(alloc: Global, keeper: &mut J, store: &mut Store) -> R
     ensures same { OnErr result ((J.tells keeper.new).octets ≡ (J.tells keeper.old).octets) }
     ensures fault { IfErr result (λ fault. IfSome (J.tells keeper.old).octets (λ old. IsCatchFault store.old old fault)) }
     ensures cause { HasKeeperCause (J.tells keeper.old) (J.tells keeper.new) result OpenFault.Keeper }
+    ensures unappended { (J.tells keeper.new).appends ≡ (J.tells keeper.old).appends }
 {
     let had = keeper.len()?;
     let end = store.end();
@@ -61,6 +63,7 @@ impl Store {
         ensures same { OnErr result ((J.tells keeper.new).octets ≡ (J.tells keeper.old).octets) }
         ensures fault { IfErr result (λ fault. IfSome (J.tells keeper.old).octets (λ old. IsCatchFault self.old old fault)) }
         ensures cause { HasKeeperCause (J.tells keeper.old) (J.tells keeper.new) result OpenFault.Keeper }
+        ensures unappended { (J.tells keeper.new).appends ≡ (J.tells keeper.old).appends }
 
         // The store is marked as failed exactly where it is refused.
         ensures failed { self.new.failed ≡ is_err result }

@@ -1,7 +1,7 @@
 //! The calls that change a store, and write the change to its keeper.
-ghost use Rattle.std.specs.Prelude.{◌≡◌, ◌≢◌, ◌≤◌, ◌<◌, ◌+◌, ◌==◌, ◌||◌, ◌∷◌, [], length, vec_len, vec_capacity, IfOk, OnOk, IsUtf8, None, Err, false, map};
+ghost use Rattle.std.specs.Prelude.{◌≡◌, ◌≢◌, ◌≤◌, ◌<◌, ◌+◌, ◌==◌, ◌||◌, ◌∷◌, [], length, vec_len, vec_capacity, IfOk, OnOk, IfErr, IsUtf8, None, Err, false, map};
 ghost use Rattle.std.specs.List.{All, IsDistinct, flat_map};
-ghost use Rattle.mail_wire.specs.Keeping.{HasKeeperCause};
+ghost use Rattle.mail_wire.specs.Keeping.{HasKeeperCause, one_more};
 ghost use Rattle.ace_domains.specs.Domains.{normal_form, compared_form};
 ghost use Rattle.kept_mail.specs.Kept.{is_local};
 ghost use Rattle.mail_store.specs.private.Accounts.{IsNewAccount, room_refusal};
@@ -14,7 +14,7 @@ ghost use Rattle.journal_records.specs.declared.limits.TheConstants.{TEXT_MAX};
 ghost use Rattle.journal_records.specs.declared.records.Record.TheVariants as records;
 ghost use Rattle.journal_records.specs.Addresses.{WithPaths, IsSendable, mailbox_key as mailbox_key_of};
 ghost use Rattle.journal_records.specs.Spelling.{record_text};
-ghost use Rattle.mail_store.specs.Changing.{Changes, LeavesAll, IsRefusedAs, IsDeliverable, domain_refusal, account_refusal, delivery_refusal, expunge_refusal, flags_refusal, expunged};
+ghost use Rattle.mail_store.specs.Changing.{Changes, LeavesAll, LeavesKeeper, IsRefusedAs, IsDeliverable, domain_refusal, account_refusal, delivery_refusal, expunge_refusal, flags_refusal, expunged};
 ghost use Rattle.kept_mail.specs.Deliveries.{queued as queued_of, copy_for, inboxes_of, has_many_things, delivered, has_large_octets as has_large_octets_of};
 ghost use Rattle.mail_store.specs.declared.changing.StoreFault.TheVariants as faults;
 
@@ -123,6 +123,8 @@ fn write_delivery<J: Keeper>(
     ensures previous_room { OnOk result (vec_len previous.new + length letter.entry.parcel.now.copies.items ≤ vec_capacity previous.new) }
     ensures entry_room { OnOk result (vec_len entries.new < vec_capacity entries.new) }
     ensures cause { HasKeeperCause (J.tells keeper.old) (J.tells keeper.new) result StoreFault.Keeper }
+    ensures once { OnOk result ((J.tells keeper.new).appends ≡ one_more (J.tells keeper.old).appends) }
+    ensures apart { IfErr result (LeavesKeeper (J.tells keeper.old) (J.tells keeper.new)) }
 {
     reserve_delivery(messages, previous, entries, letter.parcel.copies.len())?;
     let parts = parts_of(
@@ -143,6 +145,8 @@ impl Store {
             (records.Domain (compared_form domain.now) ∷ []) }
         ensures refusal { IsRefusedAs result (domain_refusal self.old.kept domain.now) }
         ensures cause { HasKeeperCause (J.tells keeper.old) (J.tells keeper.new) result StoreFault.Keeper }
+        ensures once { OnOk result ((J.tells keeper.new).appends ≡ one_more (J.tells keeper.old).appends) }
+        ensures apart { IfErr result (LeavesKeeper (J.tells keeper.old) (J.tells keeper.new)) }
     {
         let named = self.named_domain(domain)?;
         self.domains.reserve(1)?;
@@ -197,6 +201,8 @@ impl Store {
         ensures number { IfOk result (λ account. account ≡ length self.old.kept.accounts) }
         ensures refusal { WithPaths (λ path_of. IsRefusedAs result (account_refusal path_of self.old.kept address.now)) }
         ensures cause { HasKeeperCause (J.tells keeper.old) (J.tells keeper.new) result StoreFault.Keeper }
+        ensures once { OnOk result ((J.tells keeper.new).appends ≡ one_more (J.tells keeper.old).appends) }
+        ensures apart { IfErr result (LeavesKeeper (J.tells keeper.old) (J.tells keeper.new)) }
     {
         let made = self.new_account(address, password)?;
         self.put_new_account(keeper, made)
@@ -214,6 +220,8 @@ impl Store {
         ensures number { IfOk result (λ account. account ≡ length self.old.kept.accounts) }
         ensures refusal { IsRefusedAs result None }
         ensures cause { HasKeeperCause (J.tells keeper.old) (J.tells keeper.new) result StoreFault.Keeper }
+        ensures once { OnOk result ((J.tells keeper.new).appends ≡ one_more (J.tells keeper.old).appends) }
+        ensures apart { IfErr result (LeavesKeeper (J.tells keeper.old) (J.tells keeper.new)) }
     {
         let account = made.named.number;
         let inbox = reserve_account(
@@ -370,6 +378,8 @@ impl Store {
         ensures refusal { IsRefusedAs result (delivery_refusal self.old delivery.now) }
         ensures nothing { delivered self.old.kept delivery.now ≡ [] → LeavesAll self.old self.new (J.tells keeper.old) (J.tells keeper.new) result }
         ensures cause { HasKeeperCause (J.tells keeper.old) (J.tells keeper.new) result StoreFault.Keeper }
+        ensures once { delivered self.old.kept delivery.now ≢ [] → OnOk result ((J.tells keeper.new).appends ≡ one_more (J.tells keeper.old).appends) }
+        ensures apart { IfErr result (LeavesKeeper (J.tells keeper.old) (J.tells keeper.new)) }
     {
         let parcel = self.parcel(delivery)?;
         if is_for_nobody(delivery) {
@@ -395,6 +405,8 @@ impl Store {
         ensures changes { Changes self.old self.new (J.tells keeper.old).octets (J.tells keeper.new).octets result (delivered self.old.kept delivery.now) }
         ensures refusal { IsRefusedAs result None }
         ensures cause { HasKeeperCause (J.tells keeper.old) (J.tells keeper.new) result StoreFault.Keeper }
+        ensures once { OnOk result ((J.tells keeper.new).appends ≡ one_more (J.tells keeper.old).appends) }
+        ensures apart { IfErr result (LeavesKeeper (J.tells keeper.old) (J.tells keeper.new)) }
     {
         let letter = Letter {
             alloc: self.alloc,
@@ -479,6 +491,8 @@ impl Store {
         ensures changes { Changes self.old self.new (J.tells keeper.old).octets (J.tells keeper.new).octets result (records.Flags id flags ∷ []) }
         ensures refusal { IsRefusedAs result (flags_refusal self.old.kept id) }
         ensures cause { HasKeeperCause (J.tells keeper.old) (J.tells keeper.new) result StoreFault.Keeper }
+        ensures once { OnOk result ((J.tells keeper.new).appends ≡ one_more (J.tells keeper.old).appends) }
+        ensures apart { IfErr result (LeavesKeeper (J.tells keeper.old) (J.tells keeper.new)) }
     {
         if !is_live(&self.messages, id) {
             return Err(StoreFault::NoSuch);
@@ -515,6 +529,8 @@ impl Store {
         ensures refusal { IsRefusedAs result (expunge_refusal self.old.kept ids.now) }
         ensures nothing { expunged ids.now ≡ [] → LeavesAll self.old self.new (J.tells keeper.old) (J.tells keeper.new) result }
         ensures cause { HasKeeperCause (J.tells keeper.old) (J.tells keeper.new) result StoreFault.Keeper }
+        ensures once { expunged ids.now ≢ [] → OnOk result ((J.tells keeper.new).appends ≡ one_more (J.tells keeper.old).appends) }
+        ensures apart { IfErr result (LeavesKeeper (J.tells keeper.old) (J.tells keeper.new)) }
     {
         if !are_live(&self.messages, ids) {
             return Err(StoreFault::NoSuch);

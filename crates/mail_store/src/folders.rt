@@ -1,11 +1,11 @@
 //! The folders of accounts, by their names.
-ghost use Rattle.std.specs.Prelude.{◌≡◌, ◌≢◌, ◌<◌, ◌∷◌, [], length, slice_get, bytes_eq, IfOk, OnOk, IfSome, IsUtf8, None, Err, false};
+ghost use Rattle.std.specs.Prelude.{◌≡◌, ◌≢◌, ◌<◌, ◌∷◌, [], length, slice_get, bytes_eq, IfOk, OnOk, IfErr, IfSome, IsUtf8, None, Err, false};
 ghost use Rattle.std.specs.List.{All};
-ghost use Rattle.mail_wire.specs.Keeping.{HasKeeperCause};
+ghost use Rattle.mail_wire.specs.Keeping.{HasKeeperCause, one_more};
 ghost use Rattle.journal_records.specs.declared.records.Record.TheVariants as records;
 ghost use Rattle.journal_records.specs.Grammar.{IsFolderName, inbox, kept_name};
 ghost use Rattle.journal_records.specs.Spelling.{record_text};
-ghost use Rattle.mail_store.specs.Changing.{Changes, IsRefusedAs, folder_refusal};
+ghost use Rattle.mail_store.specs.Changing.{Changes, LeavesKeeper, IsRefusedAs, folder_refusal};
 ghost use Rattle.kept_mail.specs.Kept.{first_named, find_folder, folder_names, kept_folder_name};
 ghost use Rattle.kept_mail.specs.Records.{HasRoom};
 ghost use Rattle.mail_store.specs.private.Folders.{IsNewFolder};
@@ -99,6 +99,8 @@ impl Store {
         ensures number { IfOk result (λ folder. folder ≡ length self.old.kept.folders) }
         ensures refusal { IsRefusedAs result (folder_refusal self.old.kept account name.now) }
         ensures cause { HasKeeperCause (J.tells keeper.old) (J.tells keeper.new) result StoreFault.Keeper }
+        ensures once { OnOk result ((J.tells keeper.new).appends ≡ one_more (J.tells keeper.old).appends) }
+        ensures apart { IfErr result (LeavesKeeper (J.tells keeper.old) (J.tells keeper.new)) }
     {
         let made = self.new_folder(account, name)?;
         self.put_new_folder(keeper, made)
@@ -116,6 +118,8 @@ impl Store {
         ensures number { IfOk result (λ folder. folder ≡ length self.old.kept.folders) }
         ensures refusal { IsRefusedAs result None }
         ensures cause { HasKeeperCause (J.tells keeper.old) (J.tells keeper.new) result StoreFault.Keeper }
+        ensures once { OnOk result ((J.tells keeper.new).appends ≡ one_more (J.tells keeper.old).appends) }
+        ensures apart { IfErr result (LeavesKeeper (J.tells keeper.old) (J.tells keeper.new)) }
     {
         let folder = made.named.number;
         reserve_folder(&mut self.folders, &mut self.contents)?;

@@ -33,6 +33,7 @@ pub fn fill<J: Keeper>(
     ensures len { OnOk result (length buffer.new.items ≡ len) }
     ensures octets { OnOk result (IfSome (J.tells keeper.old).octets (λ octets. buffer.new.items ≡ take len (drop at octets))) }
     ensures same { (J.tells keeper.new).octets ≡ (J.tells keeper.old).octets }
+    ensures unappended { (J.tells keeper.new).appends ≡ (J.tells keeper.old).appends }
     ensures cause { HasKeeperCause (J.tells keeper.old) (J.tells keeper.new) result OpenFault.Keeper }
     ensures outside { IfErr result IsOutside }
 {
@@ -48,6 +49,7 @@ pub fn frame_at<J: Keeper>(keeper: &mut J, at: u64, had: u64) -> Result<Frame, O
     ensures frame { IfOk result (λ frame. IfSome (J.tells keeper.old).octets (λ octets. IsFrame frame (drop at octets))) }
     ensures room { IfOk result (λ frame. FitsIn frame (had - at)) }
     ensures same { (J.tells keeper.new).octets ≡ (J.tells keeper.old).octets }
+    ensures unappended { (J.tells keeper.new).appends ≡ (J.tells keeper.old).appends }
     ensures cause { HasKeeperCause (J.tells keeper.old) (J.tells keeper.new) result OpenFault.Keeper }
     ensures outside { IfErr result IsOutside }
 {
@@ -71,6 +73,7 @@ pub fn read_beginning<J: Keeper>(
     ensures beginning { IfOk result (λ beginning. IfSome (J.tells keeper.old).octets (IsBeginningOf beginning)) }
     ensures long { IfOk result (λ beginning. IsLong beginning had) }
     ensures same { (J.tells keeper.new).octets ≡ (J.tells keeper.old).octets }
+    ensures unappended { (J.tells keeper.new).appends ≡ (J.tells keeper.old).appends }
     ensures cause { HasKeeperCause (J.tells keeper.old) (J.tells keeper.new) result OpenFault.Keeper }
     ensures outside { IfErr result IsOutside }
 {

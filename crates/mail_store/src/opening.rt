@@ -2,10 +2,10 @@
 ghost use Rattle.std.specs.Prelude.{◌≡◌, ◌+◌, ◌≤◌, length, drop, ◌<◌, ◌^◌, IfOk, OnOk, OnErr, IfErr, IfSome, option_map, false};
 ghost use Rattle.mail_wire.specs.Keeping.{HasKeeperCause};
 ghost use Rattle.mail_store.specs.private.Adding.{AddsNext, Added};
-ghost use Rattle.mail_store.specs.Answers.{open_fault, IsFold, OpensTo, IsJournalFault, LeavesRecords};
+ghost use Rattle.mail_store.specs.Answers.{BeginsOnce, open_fault, IsFold, OpensTo, IsJournalFault, LeavesRecords};
 ghost use Rattle.kept_mail.specs.declared.limits.TheConstants.{MESSAGE_MAX};
 ghost use Rattle.kept_mail.specs.Kept.{nothing};
-ghost use Rattle.journal_records.specs.Frames.{IsBeginningOf, IsCutShort};
+ghost use Rattle.journal_records.specs.Frames.{IsBeginning, IsBeginningOf, IsCutShort};
 ghost use Rattle.mail_store.specs.private.Replaying.{IsOutside, IsFieldsFault, IsReadTo, IsRestFault, fields_at, EndsJournalAt, IsReadingFault, repaired, HalfRepairs};
 ghost use Rattle.journal_records.specs.declared.frames.Beginning.TheVariants as beginnings;
 
@@ -86,6 +86,7 @@ fn add_at<J: Keeper>(
     ensures stays { OnErr result (store.new ≡ store.old) }
     ensures fault { IfErr result (IsFieldsFault (J.tells keeper.old).octets at len store.old) }
     ensures same { (J.tells keeper.new).octets ≡ (J.tells keeper.old).octets }
+    ensures unappended { (J.tells keeper.new).appends ≡ (J.tells keeper.old).appends }
     ensures cause { HasKeeperCause (J.tells keeper.old) (J.tells keeper.new) result OpenFault.Keeper }
 {
     fill(alloc, keeper, at + 4, len, buffer)?;
@@ -113,6 +114,7 @@ pub(crate) fn read_on<J: Keeper>(
     ensures within { store.new.end ≤ had }
     ensures fault { IfErr result (IsRestFault (J.tells keeper.old).octets store.new) }
     ensures same { (J.tells keeper.new).octets ≡ (J.tells keeper.old).octets }
+    ensures unappended { (J.tells keeper.new).appends ≡ (J.tells keeper.old).appends }
     ensures cause { HasKeeperCause (J.tells keeper.old) (J.tells keeper.new) result OpenFault.Keeper }
 {
     loop {
@@ -147,6 +149,7 @@ fn replay<J: Keeper>(
     ensures failed { OnOk result (store.new.failed ≡ store.old.failed) }
     ensures fault { IfErr result (λ fault. IfSome (J.tells keeper.old).octets (λ octets. IsReadingFault octets fault)) }
     ensures same { (J.tells keeper.new).octets ≡ (J.tells keeper.old).octets }
+    ensures unappended { (J.tells keeper.new).appends ≡ (J.tells keeper.old).appends }
     ensures cause { HasKeeperCause (J.tells keeper.old) (J.tells keeper.new) result OpenFault.Keeper }
 {
     read_on(alloc, keeper, store, had, buffer)?;
@@ -171,6 +174,7 @@ fn read_all<J: Keeper>(
     ensures failed { OnOk result (store.new.failed ≡ store.old.failed) }
     ensures fault { IfErr result (λ fault. IfSome (J.tells keeper.old).octets (λ octets. IsReadingFault octets fault)) }
     ensures same { (J.tells keeper.new).octets ≡ (J.tells keeper.old).octets }
+    ensures unappended { (J.tells keeper.new).appends ≡ (J.tells keeper.old).appends }
     ensures cause { HasKeeperCause (J.tells keeper.old) (J.tells keeper.new) result OpenFault.Keeper }
 {
     let mut buffer = Vec::new(alloc);
@@ -187,6 +191,7 @@ fn repair<J: Keeper>(keeper: &mut J, had: u64, end: u64) -> Result<(), OpenFault
     requires within { end ≤ had }
     ensures repaired { OnOk result ((J.tells keeper.new).octets ≡ option_map (repaired end) (J.tells keeper.old).octets) }
     ensures half { OnErr result (HalfRepairs end (J.tells keeper.old).octets (J.tells keeper.new).octets) }
+    ensures appended { BeginsOnce (end ≡ 0) (J.tells keeper.old).appends (J.tells keeper.new).appends }
     ensures cause { HasKeeperCause (J.tells keeper.old) (J.tells keeper.new) result OpenFault.Keeper }
     ensures outside { IfErr result IsOutside }
 {
@@ -220,6 +225,8 @@ impl Store {
 
         // Whatever it answers, the keeper's records are the same.
         ensures leaves { LeavesRecords (J.tells keeper.old).octets (J.tells keeper.new).octets }
+        // It appends nothing, unless no journal is begun there.
+        ensures begins { BeginsOnce (IfSome (J.tells keeper.old).octets IsBeginning) (J.tells keeper.old).appends (J.tells keeper.new).appends }
     {
         let had = keeper.len()?;
         let mut store = Store::new(alloc, message_max);

@@ -1,11 +1,11 @@
 //! The queue: the entries with a recipient who waits, and recipients that are taken off.
-ghost use Rattle.std.specs.Prelude.{◌≡◌, ◌⊎◌, ◌≤◌, ◌<◌, ◌+◌, ◌∷◌, ◌++◌, [], length, slice_get, IfOk, OnOk, OnErr, Some, false, option_map};
+ghost use Rattle.std.specs.Prelude.{◌≡◌, ◌⊎◌, ◌≤◌, ◌<◌, ◌+◌, ◌∷◌, ◌++◌, [], length, slice_get, IfOk, OnOk, OnErr, IfErr, Some, false, option_map};
 ghost use Rattle.std.specs.List.{All, AllZip};
 ghost use Rattle.std.specs.Option.{option_to_list};
 ghost use Rattle.std.specs.BTreeMap.{is_at};
 ghost use Rattle.std.specs.Map.{set_value};
 ghost use Rattle.std.specs.Ordering.{nat_cmp};
-ghost use Rattle.mail_wire.specs.Keeping.{HasKeeperCause};
+ghost use Rattle.mail_wire.specs.Keeping.{HasKeeperCause, one_more};
 ghost use Rattle.journal_records.specs.Addresses.{IsAddressText, IsKeptAddress, IsTextOfAddress};
 ghost use Rattle.journal_records.specs.Spelling.{record_text as record_text_of};
 ghost use Rattle.journal_records.specs.Stored.{IsStored};
@@ -13,7 +13,7 @@ ghost use Rattle.journal_records.specs.declared.records.Record.TheVariants as re
 ghost use Rattle.kept_mail.specs.Kept.{change_at, without};
 ghost use Rattle.kept_mail.specs.Records.{IsUnsettled, recipient_count};
 ghost use Rattle.kept_mail.specs.declared.limits.TheConstants.{THINGS_MAX};
-ghost use Rattle.mail_store.specs.Changing.{Changes, IsRefusedAs, settle_refusal};
+ghost use Rattle.mail_store.specs.Changing.{Changes, LeavesKeeper, IsRefusedAs, settle_refusal};
 ghost use Rattle.mail_store.specs.Queue.{HasPaths, IsKeptEntry, IsQueue, IsQueued, IsTextOfPath, IsUnsettledAt, open_counts, places_where, told_count, waiting_count as waiting_count_of, waits};
 ghost use Rattle.mail_store.specs.private.Queue.{IsAwaited, PutsUnsettled, awaited as awaited_of, count_at, opened};
 
@@ -267,6 +267,8 @@ impl Store {
         ensures changes { Changes self.old self.new (J.tells keeper.old).octets (J.tells keeper.new).octets result (records.Settle entry index ∷ []) }
         ensures refusal { IsRefusedAs result (settle_refusal self.old.kept entry index) }
         ensures cause { HasKeeperCause (J.tells keeper.old) (J.tells keeper.new) result StoreFault.Keeper }
+        ensures once { OnOk result ((J.tells keeper.new).appends ≡ one_more (J.tells keeper.old).appends) }
+        ensures apart { IfErr result (LeavesKeeper (J.tells keeper.old) (J.tells keeper.new)) }
     {
         if !is_unsettled(&self.entries, entry, index) {
             return Err(StoreFault::NoSuch);

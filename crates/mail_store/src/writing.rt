@@ -1,9 +1,10 @@
 //! Records written to a keeper.
-ghost use Rattle.std.specs.Prelude.{◌≡◌, ◌+◌, List, ℕ, None, length, IfOk, OnOk, OnErr};
+ghost use Rattle.std.specs.Prelude.{◌≡◌, ◌+◌, List, ℕ, None, length, IfOk, OnOk, OnErr, IfErr};
 ghost use Rattle.std.specs.List.{flat_map};
-ghost use Rattle.mail_wire.specs.Keeping.{HasKeeperCause};
+ghost use Rattle.mail_wire.specs.Keeping.{HasKeeperCause, one_more};
 ghost use Rattle.kept_mail.specs.private.Names.{PutsName, number_named};
 ghost use Rattle.mail_store.specs.private.Names.{number_hashed};
+ghost use Rattle.mail_store.specs.Changing.{LeavesKeeper};
 ghost use Rattle.mail_store.specs.private.Writing.{Writes};
 
 use crate::changing::StoreFault;
@@ -44,6 +45,8 @@ pub fn write_parts<J: Keeper>(
 ) -> Result<(), StoreFault>
     ensures writes { Writes progress.old progress.new (J.tells keeper.old).octets (J.tells keeper.new).octets result (flat_map (λ part. part.now) parts.now) }
     ensures cause { HasKeeperCause (J.tells keeper.old) (J.tells keeper.new) result StoreFault.Keeper }
+    ensures once { OnOk result ((J.tells keeper.new).appends ≡ one_more (J.tells keeper.old).appends) }
+    ensures apart { IfErr result (LeavesKeeper (J.tells keeper.old) (J.tells keeper.new)) }
 {
     let end = end_behind(progress.end, parts)?;
     match keeper.append_all(parts) {
@@ -67,6 +70,8 @@ pub fn write<J: Keeper>(
 ) -> Result<(), StoreFault>
     ensures writes { Writes progress.old progress.new (J.tells keeper.old).octets (J.tells keeper.new).octets result text.now }
     ensures cause { HasKeeperCause (J.tells keeper.old) (J.tells keeper.new) result StoreFault.Keeper }
+    ensures once { OnOk result ((J.tells keeper.new).appends ≡ one_more (J.tells keeper.old).appends) }
+    ensures apart { IfErr result (LeavesKeeper (J.tells keeper.old) (J.tells keeper.new)) }
 {
     write_parts(keeper, &[text], progress)
 }
@@ -92,6 +97,8 @@ pub fn write_named<J: Keeper>(
     ensures ok { OnOk result (PutsName (number_named numbers.old) (number_named numbers.new) named.now.name named.now.number) }
     ensures err { OnErr result ((q : List ℕ) → number_named numbers.new q ≡ number_named numbers.old q) }
     ensures cause { HasKeeperCause (J.tells keeper.old) (J.tells keeper.new) result StoreFault.Keeper }
+    ensures once { OnOk result ((J.tells keeper.new).appends ≡ one_more (J.tells keeper.old).appends) }
+    ensures apart { IfErr result (LeavesKeeper (J.tells keeper.old) (J.tells keeper.new)) }
 {
     put_first(alloc, numbers, named.name.as_slice(), named.number)?;
     match write(keeper, named.text.as_slice(), progress) {
@@ -116,6 +123,8 @@ pub fn write_mailbox<J: Keeper>(
     ensures ok { OnOk result (PutsName (number_hashed numbers.old) (number_hashed numbers.new) named.now.name named.now.number) }
     ensures err { OnErr result ((q : List ℕ) → number_hashed numbers.new q ≡ number_hashed numbers.old q) }
     ensures cause { HasKeeperCause (J.tells keeper.old) (J.tells keeper.new) result StoreFault.Keeper }
+    ensures once { OnOk result ((J.tells keeper.new).appends ≡ one_more (J.tells keeper.old).appends) }
+    ensures apart { IfErr result (LeavesKeeper (J.tells keeper.old) (J.tells keeper.new)) }
 {
     put_mailbox(alloc, numbers, named.name.as_slice(), named.number)?;
     match write(keeper, named.text.as_slice(), progress) {

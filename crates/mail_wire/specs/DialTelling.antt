@@ -6,6 +6,7 @@ use Rattle.mail_wire.specs.declared.outside.Failed.{Failed}
 use Rattle.mail_wire.specs.declared.outside.Failed.TheVariants.{Outside, Memory}
 use Rattle.mail_wire.specs.Telling.{Telling}
 
+-- What a dial tells of itself, which makes connections to other servers.
 pub record DialTelling : Type 0 where
   -- the octets that the next server sends, where it tells
   pub sends : Option (List ℕ)
@@ -28,7 +29,7 @@ pub record IsDialled (dial : DialTelling) (wire : Telling) : Type 0 where
 abbrev pub with_host : Option (List (List ℕ)) → List ℕ → Option (List (List ℕ))
 with_host asked host = option_map (λ hosts. hosts ++ host ∷ []) asked
 
--- it was asked for this host once more, or for none
+-- A dial was asked for this host once more, or for none.
 abbrev pub AsksAtMost : Option (List (List ℕ)) → Option (List (List ℕ)) → List ℕ → Type 0
 AsksAtMost old new host = (new ≡ old) ⊎ (new ≡ with_host old host)
 

@@ -22,10 +22,12 @@ pub data FoldedItem : Type 0 where
   Octet : ℕ → FoldedItem
   Fold : ℕ → FoldedItem
 
+-- An octet other than CR and LF, or a fold by its white (RFC 5322, 2.2.3).
 abbrev pub IsFoldedItem : FoldedItem → Type 0
 IsFoldedItem (Octet x) = is_line_end x ≡ false
 IsFoldedItem (Fold white) = is_white white ≡ true
 
+-- An octet by itself, or CRLF and white for a fold (RFC 5322, 2.2.3).
 abbrev pub item_octets : FoldedItem → List ℕ
 item_octets (Octet x) = x ∷ []
 item_octets (Fold white) = 13 ∷ 10 ∷ white ∷ []

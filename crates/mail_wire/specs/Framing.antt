@@ -6,6 +6,7 @@ use Rattle.mail_wire.specs.declared.framing.TheConstants.{LINE_MAX}
 use Rattle.mail_wire.specs.declared.framing.FoundLine.{FoundLine}
 use Rattle.mail_wire.specs.declared.framing.FoundLine.TheVariants as found
 
+-- What the octets of a stream begin with.
 pub data Framed : Type 0 where
   -- no whole line yet
   waiting : Framed
@@ -22,6 +23,7 @@ line_or_too_long cut octets = if nat_le (length cut.line) LINE_MAX then whole cu
 abbrev pub waiting_or_too_long : List ℕ → Framed
 waiting_or_too_long octets = if nat_le (length octets) LINE_MAX then waiting else too_long (drop LINE_MAX octets)
 
+-- What octets begin with that have their first CRLF at this cut, or none.
 abbrev pub framed_at : Option Cut → List ℕ → Framed
 framed_at None octets = waiting_or_too_long octets
 framed_at (Some cut) octets = line_or_too_long cut octets

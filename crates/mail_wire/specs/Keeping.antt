@@ -1,5 +1,5 @@
 -- What a call of a keeper does, by its answer, and what several calls do.
-use Rattle.std.specs.Prelude.{◌≡◌, ◌≤◌, ℕ, List, ◌++◌, length, take, drop, Option, IfSome, option_map, Result, Ok, Err, IfOk, OnOk, IsTrue, IsErrOf}
+use Rattle.std.specs.Prelude.{◌≡◌, ◌≤◌, ℕ, ◌+◌, List, ◌++◌, length, take, drop, Option, IfSome, option_map, Result, Ok, Err, IfOk, OnOk, IsTrue, IsErrOf}
 use Rattle.mail_wire.specs.declared.outside.Failed.{Failed}
 use Rattle.mail_wire.specs.declared.outside.Failed.TheVariants.{Outside, Memory}
 use Rattle.mail_wire.specs.KeeperTelling.{KeeperTelling}
@@ -22,6 +22,16 @@ abbrev pub PutsLast : {T : Type 0} → Option (List ℕ) → Option (List ℕ) �
 PutsLast old new (Ok done) from = new ≡ with_last old from
 PutsLast old new (Err Outside) from = (n : ℕ) × (new ≡ with_last old (take n from))
 PutsLast old new (Err Memory) from = new ≡ old
+
+-- one append more than there were, where they are told
+abbrev pub one_more : Option ℕ → Option ℕ
+one_more appends = option_map (λ n. n + 1) appends
+
+-- `append` made one append, also where the outside failed, and none for want of memory
+abbrev pub AppendsOnce : {T : Type 0} → Option ℕ → Option ℕ → Result T Failed → Type 0
+AppendsOnce old new (Ok done) = new ≡ one_more old
+AppendsOnce old new (Err Outside) = new ≡ one_more old
+AppendsOnce old new (Err Memory) = new ≡ old
 
 -- `cut` left the first n octets at `Ok`, and all of them else
 abbrev pub CutsTo : {T : Type 0} → Option (List ℕ) → Option (List ℕ) → Result T Failed → ℕ → Type 0

@@ -1,5 +1,7 @@
 pub mod Numbers
+pub mod Characters
 pub mod Octets
+pub mod Tables
 pub mod Spans
 pub mod Lines
 pub mod Dots

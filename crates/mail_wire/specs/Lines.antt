@@ -7,6 +7,7 @@ use Rattle.mail_wire.specs.declared.values.Span.{Span}
 abbrev pub crlf : List ℕ
 crlf = 13 ∷ 10 ∷ []
 
+-- The two octets are CR and LF (RFC 5322, 2.1).
 abbrev pub is_crlf : ℕ → ℕ → Bool
 is_crlf x y = x == 13 && y == 10
 

@@ -6,6 +6,7 @@ use Rattle.mail_wire.specs.Lines.{crlf}
 abbrev pub StandsAt : List ℕ → ℕ → ℕ → Type 0
 StandsAt octets at x = slice_get octets at ≡ Some x
 
+-- A NUL stands at this place, which no message may have (RFC 5322, 2.3).
 abbrev pub IsNul : List ℕ → ℕ → Type 0
 IsNul octets at = StandsAt octets at 0
 
@@ -17,6 +18,7 @@ IsBareCr octets at = StandsAt octets at 13 × ¬ StandsAt octets (at + 1) 10
 abbrev pub IsBareLf : List ℕ → ℕ → Type 0
 IsBareLf octets at = StandsAt octets at 10 × ((before : ℕ) → at ≡ before + 1 → ¬ StandsAt octets before 13)
 
+-- A NUL, or a CR or LF that isn't part of a CRLF, stands at this place (RFC 5322, 2.3).
 abbrev pub IsFaulty : List ℕ → ℕ → Type 0
 IsFaulty octets at = IsNul octets at ⊎ IsBareCr octets at ⊎ IsBareLf octets at
 

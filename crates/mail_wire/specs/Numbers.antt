@@ -2,6 +2,7 @@
 use Rattle.std.specs.Prelude.{ℕ, ◌+◌, ◌-◌, ◌*◌, Bool, ◌&&◌, nat_le, List, [], ◌∷◌, Option, Some, None, if◌then◌else◌, fold}
 use Rattle.std.specs.List.{list_all}
 
+-- DIGIT, 0 to 9 (RFC 5234, B.1).
 abbrev pub is_digit : ℕ → Bool
 is_digit x = nat_le 48 x && nat_le x 57
 

@@ -27,6 +27,6 @@ is_high octets = not (list_all is_ascii octets)
 abbrev pub is_field_name_octet : ℕ → Bool
 is_field_name_octet x = nat_le 33 x && nat_le x 126 && not (nat_eq x 58)
 
--- the same, whatever the case of ASCII letters
+-- Two texts are the same, whatever the case of their ASCII letters.
 unfoldable pub same_name : List ℕ → List ℕ → Bool
 same_name name other = bytes_eq (str_to_ascii_lowercase name) (str_to_ascii_lowercase other)

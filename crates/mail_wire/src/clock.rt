@@ -63,7 +63,10 @@ pub struct SystemClock<R> {
 }
 
 impl<R: SystemHandle> SystemClock<R> {
-    pub fn new(rt: R) -> Self {
+    /// The clock of this handle.
+    pub fn new(rt: R) -> Self
+        ensures { result.rt ≡ rt }
+    {
         SystemClock { rt }
     }
 }

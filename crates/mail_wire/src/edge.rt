@@ -1,5 +1,5 @@
 //! The wire over standard input and output. It tells nothing of what it carries, and counts its failures.
-ghost use Rattle.std.specs.Prelude.{◌≤◌, None, false, length, IfOk};
+ghost use Rattle.std.specs.Prelude.{◌≡◌, ◌≤◌, None, false, length, IfOk};
 ghost use Rattle.mail_wire.specs.Causes.{HasCause};
 
 use crate::faults::Faults;
@@ -48,7 +48,13 @@ pub struct StdWire<R, W> {
 }
 
 impl<R: Read, W: Write> StdWire<R, W> {
-    pub fn new(reader: R, writer: W) -> Self {
+    /// A wire over these sides, which hasn't failed yet.
+    pub fn new(reader: R, writer: W) -> Self
+        ensures reader { result.reader ≡ reader }
+        ensures writer { result.writer ≡ writer }
+        ensures count { result.faults.count ≡ 0 }
+        ensures failure { result.faults.last ≡ None }
+    {
         StdWire {
             reader,
             writer,
@@ -66,7 +72,9 @@ impl<R: Read, W: Write> StdWire<R, W> {
     }
 
     /// Why the last call that failed did.
-    pub fn failure(&self) -> Option<WireFailure> {
+    pub fn failure(&self) -> Option<WireFailure>
+        ensures { result ≡ self.now.faults.last }
+    {
         self.faults.last
     }
 }

@@ -1,6 +1,6 @@
 //! Failures of the outside: how many there were, and why the last one came.
 ghost use Rattle.std.specs.Prelude.{◌≡◌, Ok, None, IfOk};
-ghost use Rattle.mail_wire.specs.Causes.{HasCause};
+ghost use Rattle.mail_wire.specs.Causes.{HasCause, KeepsLast};
 
 use crate::outside::Failed;
 
@@ -23,10 +23,11 @@ impl<E: Copy> Faults<E> {
         }
     }
 
-    /// Counts a failure, and keeps why it came.
+    /// Counts a failure, and keeps why it came. The reason of an earlier one is then gone.
     pub fn counted<T>(&mut self, done: Result<T, E>) -> Result<T, Failed>
         ensures cause { HasCause self.old.count self.new.count result }
         ensures ok { IfOk result (λ value. done ≡ Ok value) }
+        ensures last { KeepsLast self.old.last self.new.last done }
     {
         match done {
             Ok(value) => Ok(value),

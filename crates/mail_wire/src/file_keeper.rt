@@ -20,7 +20,13 @@ pub struct FileKeeper<F: Files<File = File>> {
 
 impl<F: Files<File = File>> FileKeeper<F> {
     /// A keeper over the file at this path, which isn't opened yet.
-    pub fn new(files: F, path: &'static str) -> Self {
+    pub fn new(files: F, path: &'static str) -> Self
+        ensures files { result.files ≡ files }
+        ensures path { result.path ≡ path.entry }
+        ensures closed { result.file ≡ None }
+        ensures count { result.faults.count ≡ 0 }
+        ensures failure { result.faults.last ≡ None }
+    {
         FileKeeper {
             files,
             path,
@@ -31,13 +37,16 @@ impl<F: Files<File = File>> FileKeeper<F> {
 
     /// Closes the file, so that another program may have it. The next call opens it again.
     pub fn release(&mut self)
-        ensures faults { self.new.faults.count ≡ self.old.faults.count }
+        ensures closed { self.new.file ≡ None }
+        ensures faults { self.new.faults ≡ self.old.faults }
     {
         self.file = None;
     }
 
     /// Why the last call that failed did.
-    pub fn failure(&self) -> Option<io::Error> {
+    pub fn failure(&self) -> Option<io::Error>
+        ensures { result ≡ self.now.faults.last }
+    {
         self.faults.last
     }
 }
@@ -95,7 +104,7 @@ fn write_last<T: Write + Seek>(file: &mut T, parts: &[&[u8]]) -> io::Result<()> 
 }
 
 impl<F: Files<File = File>> Keeper for FileKeeper<F> {
-    ghost tells = { λ keeper. record { octets = None; faults = keeper.faults.count; never_fails = false } };
+    ghost tells = { λ keeper. record { octets = None; appends = None; faults = keeper.faults.count; never_fails = false } };
 
     fn len(&mut self) -> Result<u64, Failed> {
         let file = opened(&mut self.file, &self.files, self.path);

@@ -3,7 +3,7 @@ ghost use Rattle.std.specs.Prelude.{◌≡◌, ◌+◌, ◌≤◌, length, IfSom
 ghost use Rattle.std.specs.List.{flat_map};
 ghost use Rattle.mail_wire.specs.Causes.{HasCause, StaysSure};
 ghost use Rattle.mail_wire.specs.KeeperTelling.{KeeperTelling};
-ghost use Rattle.mail_wire.specs.Keeping.{TellsLen, FillsFrom, PutsLast, CutsTo};
+ghost use Rattle.mail_wire.specs.Keeping.{TellsLen, FillsFrom, PutsLast, AppendsOnce, CutsTo};
 
 use crate::outside::Failed;
 
@@ -17,6 +17,7 @@ pub trait Keeper {
     fn len(&mut self) -> Result<u64, Failed>
         ensures len { TellsLen (tells self.old).octets result }
         ensures same { (tells self.new).octets ≡ (tells self.old).octets }
+        ensures appends { (tells self.new).appends ≡ (tells self.old).appends }
         ensures cause { HasCause (tells self.old).faults (tells self.new).faults result }
         ensures sure { StaysSure (tells self.old).never_fails (tells self.new).never_fails result };
 
@@ -25,12 +26,14 @@ pub trait Keeper {
         requires { IfSome (tells self.old).octets (λ kept. at + length into.old ≤ length kept) }
         ensures read { FillsFrom (tells self.old).octets at result into.new }
         ensures same { (tells self.new).octets ≡ (tells self.old).octets }
+        ensures appends { (tells self.new).appends ≡ (tells self.old).appends }
         ensures cause { HasCause (tells self.old).faults (tells self.new).faults result }
         ensures sure { StaysSure (tells self.old).never_fails (tells self.new).never_fails result };
 
     /// Puts octets last.
     fn append(&mut self, from: &[u8]) -> Result<(), Failed>
         ensures octets { PutsLast (tells self.old).octets (tells self.new).octets result from.now }
+        ensures appends { AppendsOnce (tells self.old).appends (tells self.new).appends result }
         ensures cause { HasCause (tells self.old).faults (tells self.new).faults result }
         ensures sure { StaysSure (tells self.old).never_fails (tells self.new).never_fails result }
     {
@@ -40,6 +43,7 @@ pub trait Keeper {
     /// Puts the parts last, one after the other, by one call.
     fn append_all(&mut self, parts: &[&[u8]]) -> Result<(), Failed>
         ensures octets { PutsLast (tells self.old).octets (tells self.new).octets result (flat_map (λ part. part.now) parts.now) }
+        ensures appends { AppendsOnce (tells self.old).appends (tells self.new).appends result }
         ensures cause { HasCause (tells self.old).faults (tells self.new).faults result }
         ensures sure { StaysSure (tells self.old).never_fails (tells self.new).never_fails result };
 
@@ -47,6 +51,7 @@ pub trait Keeper {
     fn cut(&mut self, len: u64) -> Result<(), Failed>
         requires { IfSome (tells self.old).octets (λ kept. len ≤ length kept) }
         ensures octets { CutsTo (tells self.old).octets (tells self.new).octets result len }
+        ensures appends { (tells self.new).appends ≡ (tells self.old).appends }
         ensures cause { HasCause (tells self.old).faults (tells self.new).faults result }
         ensures sure { StaysSure (tells self.old).never_fails (tells self.new).never_fails result };
 }

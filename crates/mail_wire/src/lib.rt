@@ -11,11 +11,13 @@ mod framing;
 mod in_memory;
 mod items;
 mod keeping;
+pub mod laws;
 mod mem_dial;
 mod mem_keeper;
 mod message;
 mod numbers;
 mod outside;
+mod tables;
 mod text;
 mod traffic;
 mod values;
@@ -36,6 +38,7 @@ pub use mem_keeper::MemKeeper;
 pub use message::{MESSAGE_MAX, first_faulty, is_ended, is_message};
 pub use numbers::{are_digits, read_number};
 pub use outside::{Entry, Failed, Fault, Wire};
+pub use tables::{TableWord, find_word};
 pub use text::{
     LineSpans, find_crlf, is_ascii, is_same_name, is_utf8, is_white, is_white_text, line_len,
     lines, push_unfolded, split_white, unfold,

@@ -2,7 +2,7 @@
 ghost use Rattle.std.specs.Prelude.{◌≡◌, ◌==◌, ◌++◌, Some, length, IsTrue, IsNone, OnOk, OnErr};
 ghost use Rattle.std.specs.List.{flat_map};
 
-use crate::in_memory::Failure;
+use crate::in_memory::{Failing, Failure};
 use crate::keeping::Keeper;
 use crate::outside::Failed;
 use crate::values::Octets;
@@ -12,8 +12,8 @@ use std::marker::Model;
 #[derive(Debug, Drop)]
 pub struct MemKeeper {
     octets: Vec<u8>,
-    failures: Vec<Failure>,
-    calls: u64,
+    failing: Failing,
+    appends: u64,
     faults: u64,
 }
 
@@ -25,8 +25,9 @@ impl Model for MemKeeper {
 
     ghost view = { λ a. record {
       octets = a.octets.items;
+      appends = a.appends;
       faults = a.faults;
-      never_fails = length a.failures.items == 0;
+      never_fails = length a.failing.failures.items == 0;
     } };
 }
 
@@ -34,13 +35,14 @@ impl MemKeeper {
     /// A keeper of these octets.
     pub fn new(octets: Octets, failures: Vec<Failure>) -> Self
         ensures octets { result.octets ≡ octets }
+        ensures appends { result.appends ≡ 0 }
         ensures faults { result.faults ≡ 0 }
         ensures never_fails { result.never_fails ≡ (length failures.items == 0) }
     {
         MemKeeper {
             octets: octets.into_vec(),
-            failures,
-            calls: 0,
+            failing: Failing::new(failures),
+            appends: 0,
             faults: 0,
         }
     }
@@ -50,19 +52,6 @@ impl MemKeeper {
         ensures { result.now ≡ self.now.octets }
     {
         &self.octets
-    }
-
-    // Whether the next call is to fail, and the call is counted.
-    fn next_failure(&mut self) -> Option<Failure>
-        ensures same { self.new ≡ self.old }
-        ensures never { IsTrue self.old.never_fails → IsNone result }
-    {
-        let call = self.calls;
-        self.calls = call.saturating_add(1);
-        self.failures
-            .iter()
-            .copied()
-            .find(|failure| failure.call == call)
     }
 }
 
@@ -84,12 +73,13 @@ fn put_all(octets: &mut Vec<u8>, parts: &[&[u8]]) -> Result<(), AllocError>
 impl Keeper for MemKeeper {
     ghost tells = { λ keeper. record {
       octets = Some keeper.octets;
+      appends = Some keeper.appends;
       faults = keeper.faults;
       never_fails = keeper.never_fails;
     } };
 
     fn len(&mut self) -> Result<u64, Failed> {
-        if self.next_failure().is_some() {
+        if self.failing.next().is_some() {
             self.faults = self.faults.saturating_add(1);
             return Err(Failed::Outside);
         }
@@ -97,7 +87,7 @@ impl Keeper for MemKeeper {
     }
 
     fn read_at(&mut self, at: u64, into: &mut [u8]) -> Result<(), Failed> {
-        if self.next_failure().is_some() {
+        if self.failing.next().is_some() {
             self.faults = self.faults.saturating_add(1);
             return Err(Failed::Outside);
         }
@@ -107,9 +97,14 @@ impl Keeper for MemKeeper {
     }
 
     fn append_all(&mut self, parts: &[&[u8]]) -> Result<(), Failed> {
-        let failure = self.next_failure();
+        let failure = self.failing.next();
         let before = self.octets.len();
+        // 2^64 appends want more memory than there is
+        let Some(appends) = self.appends.checked_add(1) else {
+            return Err(Failed::Memory);
+        };
         put_all(&mut self.octets, parts)?;
+        self.appends = appends;
         if let Some(failure) = failure {
             self.octets.truncate(before.saturating_add(failure.kept));
             self.faults = self.faults.saturating_add(1);
@@ -119,7 +114,7 @@ impl Keeper for MemKeeper {
     }
 
     fn cut(&mut self, len: u64) -> Result<(), Failed> {
-        if self.next_failure().is_some() {
+        if self.failing.next().is_some() {
             self.faults = self.faults.saturating_add(1);
             return Err(Failed::Outside);
         }

@@ -19,6 +19,7 @@ use Rattle.param_grammar.specs.Joining.{ParamValue, SaysParams}
 use Rattle.mime_tree.specs.declared.openings.Opening.{Opening}
 use Rattle.mime_tree.specs.declared.openings.Opening.TheVariants.{Nothing, Message, Parts}
 
+-- An ASCII letter.
 abbrev pub is_letter : ℕ → Bool
 is_letter x = (nat_le 65 x && nat_le x 90) || (nat_le 97 x && nat_le x 122)
 
@@ -30,6 +31,7 @@ is_digit_or_sign x = (nat_le 39 x && nat_le x 41) || (nat_le 43 x && nat_le x 58
 abbrev pub is_other_sign : ℕ → Bool
 is_other_sign x = (x == 32 || x == 61) || (x == 63 || x == 95)
 
+-- An octet that may stand in a boundary: bchars (RFC 2046, 5.1.1).
 abbrev pub is_boundary_octet : ℕ → Bool
 is_boundary_octet x = is_letter x || is_digit_or_sign x || is_other_sign x
 
@@ -37,12 +39,15 @@ is_boundary_octet x = is_letter x || is_digit_or_sign x || is_other_sign x
 unfoldable pub is_usable : List ℕ → Bool
 is_usable boundary = nat_le 1 (length boundary) && (nat_le (length boundary) 70 && (list_all is_boundary_octet boundary && not (slice_index boundary (length boundary - 1) == 32)))
 
+-- A message inside another one: message/rfc822 (RFC 2046, 5.2.1) or message/global (RFC 6532, 3.7).
 abbrev pub is_message_type : List ℕ → Bool
 is_message_type main = bytes_eq main (codes "message/rfc822") || bytes_eq main (codes "message/global")
 
+-- One of the types multipart (RFC 2046, 5.1).
 abbrev pub is_multipart_type : List ℕ → Bool
 is_multipart_type main = starts_with nat_eq main (codes "multipart/")
 
+-- multipart/digest, whose parts are messages unless they say otherwise (RFC 2046, 5.1.5).
 abbrev pub is_digest_type : List ℕ → Bool
 is_digest_type main = bytes_eq main (codes "multipart/digest")
 
@@ -57,6 +62,7 @@ usable_of None = None
 usable_of (Some (Text text)) = if is_usable text then Some text else None
 usable_of (Some (Opaque charset octets source)) = None
 
+-- The parts that this boundary divides, or nothing without a boundary.
 abbrev pub divided : Option (List ℕ) → Bool → Opening
 divided None digest = Nothing
 divided (Some boundary) digest = Parts boundary digest
@@ -81,6 +87,7 @@ OpensByText text opening =
 abbrev pub opening_by_default : Bool → Opening
 opening_by_default digest = if digest then Message else Nothing
 
+-- An entity is opened as the value of its Content-Type says, or as text or a message where there is none (RFC 2045, 5.2; RFC 2046, 5.1.5).
 abbrev pub OpensByType : Bool → Option (List ℕ) → Opening → Type 0
 OpensByType digest None opening = opening ≡ opening_by_default digest
 OpensByType digest (Some text) opening = OpensByText text opening

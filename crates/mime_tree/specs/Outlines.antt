@@ -13,9 +13,11 @@ pub record Outline : Type 0 where
   pub end : ℕ
   pub shape : Shape
 
+-- An entity without its header block.
 abbrev pub outline_of : Entity → Outline
 outline_of entity = record { parent = entity.parent; depth = entity.depth; at = entity.at; body = entity.body; end = entity.end; shape = entity.shape }
 
+-- The entities without their header blocks.
 abbrev pub outlines_of : List Entity → List Outline
 outlines_of entities = map outline_of entities
 

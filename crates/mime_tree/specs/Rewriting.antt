@@ -68,7 +68,8 @@ blocks_of octets entities = map (λ (entity : Entity). raws_of octets entity.blo
 abbrev pub size_before : Entity → List (List ℕ) → ℕ → ℕ
 size_before entity fields place = if nat_le entity.block.end place then length (concat fields) else 0
 
--- the same of all entities: to each its fields, as they are or as they are made anew
+-- How many octets the fields have of all blocks that end at or before the place: to each entity its fields, as they are or as they are made
+-- anew.
 abbrev pub sizes_before : List Entity → List (List (List ℕ)) → ℕ → ℕ
 sizes_before [] blocks place = 0
 sizes_before (entity ∷ entities) [] place = 0

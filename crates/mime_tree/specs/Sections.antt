@@ -33,7 +33,7 @@ named_at outlines number n Multipart = child outlines number n
 named_at outlines number n Message = itself number n
 named_at outlines number n Leaf = itself number n
 
--- the same, where there is such an entity
+-- The entity that a number names within another one, where there is such an entity (RFC 3501, 6.4.5).
 abbrev pub named : List Outline → ℕ → ℕ → Option ℕ
 named outlines number n = option_and_then (λ (outline : Outline). named_at outlines number n outline.shape) (slice_get outlines number)
 
@@ -43,6 +43,7 @@ next_at outlines number n Message = named outlines (number + 1) n
 next_at outlines number n Multipart = named outlines number n
 next_at outlines number n Leaf = named outlines number n
 
+-- The entity that a further part number names, within this one (RFC 3501, 6.4.5).
 abbrev pub next : List Outline → ℕ → ℕ → Option ℕ
 next outlines number n = option_and_then (λ (outline : Outline). next_at outlines number n outline.shape) (slice_get outlines number)
 
@@ -56,16 +57,19 @@ abbrev pub named_by : List Outline → List ℕ → Option ℕ
 named_by outlines [] = None
 named_by outlines (n ∷ path) = option_and_then (named_on outlines path) (named outlines 0 n)
 
+-- The span from one place to another.
 abbrev pub between : ℕ → ℕ → Span
 between from to = record { at = from; len = to - from }
 
--- an entity, its header and its content
+-- an entity: its header block and its content
 abbrev pub whole_of : Outline → Span
 whole_of outline = between outline.at outline.end
 
+-- The header block of an entity.
 abbrev pub header_of : Outline → Span
 header_of outline = between outline.at outline.body
 
+-- The content of an entity.
 abbrev pub content_of : Outline → Span
 content_of outline = between outline.body outline.end
 
@@ -82,6 +86,7 @@ part_of outlines number Mime outline = Some (header_of outline)
 part_of outlines number Header outline = option_map header_of (child_of outlines number outline.shape)
 part_of outlines number Text outline = option_map content_of (child_of outlines number outline.shape)
 
+-- Where the asked part of the entity of this number stands, if there is one (RFC 3501, 6.4.5).
 abbrev pub part_at : List Outline → Part → ℕ → Option Span
 part_at outlines part number = option_and_then (part_of outlines number part) (slice_get outlines number)
 

@@ -20,6 +20,7 @@ abbrev pub charset_of : UnitValue → List ℕ
 charset_of (Text octets) = codes "UTF-8"
 charset_of (Opaque charset octets source) = charset
 
+-- The octets of a value, in its charset.
 abbrev pub octets_in : UnitValue → List ℕ
 octets_in (Text octets) = octets
 octets_in (Opaque charset octets source) = octets
@@ -36,6 +37,7 @@ pub record IsPartOf (unit : UnitValue) (part rest : List ℕ) : Type 0 where
   pub ends : EndsPart unit (part ++ rest) (length part)
   pub most : (n : ℕ) → length part < n → EndsPart unit (part ++ rest) n → 60 < length (escaped (take n (part ++ rest)))
 
+-- The parts of a value, each the longest one that fits (RFC 2231, 3).
 abbrev pub AreSectionTexts : UnitValue → List (List ℕ) → Type 0
 AreSectionTexts unit [] = ⊤
 AreSectionTexts unit (part ∷ parts) = IsPartOf unit part (concat parts) × AreSectionTexts unit parts

@@ -18,6 +18,7 @@ use Rattle.param_grammar.specs.Escapes.{IsEscaped}
 use Rattle.param_grammar.specs.Extended.{IsExtended}
 use Rattle.param_grammar.specs.Names.{NameParts, HasNameParts}
 
+-- The token is a quoted string.
 abbrev pub is_quoted : TokenKind → Bool
 is_quoted Quoted = true
 is_quoted Atom = false
@@ -38,6 +39,7 @@ sections_of text tokens = slice_split (is_mark_at text 59) tokens
 abbrev pub solid : List Token → List Token
 solid tokens = filter (λ token. not (is_blank token.kind)) tokens
 
+-- The token is an atom, and all its octets are ASCII.
 abbrev pub is_ascii_atom : List ℕ → Token → Bool
 is_ascii_atom text token = is_atom_kind token.kind && list_all is_ascii (octets_at text token.span)
 

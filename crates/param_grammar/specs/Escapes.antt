@@ -9,14 +9,17 @@ pub data EscapedItem : Type 0 where
   Plain : ℕ → EscapedItem
   Escape : ℕ → ℕ → EscapedItem
 
+-- An octet other than `%`, or two hexadecimal digits (RFC 2231, 7).
 abbrev pub IsEscapedItem : EscapedItem → Type 0
 IsEscapedItem (Plain x) = x ≢ 37
 IsEscapedItem (Escape high low) = (digit_value high < 16) × (digit_value low < 16)
 
+-- An octet by itself, or `%` and its two digits (RFC 2231, 7).
 abbrev pub item_spelling : EscapedItem → List ℕ
 item_spelling (Plain x) = x ∷ []
 item_spelling (Escape high low) = 37 ∷ high ∷ low ∷ []
 
+-- The octet that is spelled (RFC 2231, 7).
 abbrev pub item_octet : EscapedItem → ℕ
 item_octet (Plain x) = x
 item_octet (Escape high low) = 16 * digit_value high + digit_value low
@@ -47,5 +50,6 @@ is_attribute_octet x = is_letter_or_digit x || list_any (λ s. x == s) (codes "!
 abbrev pub escaped_octet : ℕ → List ℕ
 escaped_octet x = if is_attribute_octet x then x ∷ [] else percent_encode_byte x
 
+-- Octets as an extended value spells them (RFC 2231, 7).
 abbrev pub escaped : List ℕ → List ℕ
 escaped octets = flat_map escaped_octet octets

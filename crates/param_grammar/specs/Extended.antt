@@ -14,6 +14,7 @@ pub record IsExtended (value charset text : List ℕ) : Type 0 where
   pub language_first : lacks 39 language ≡ true
   pub charset_is : list_all is_token_octet charset ≡ true
 
+-- There are no octets.
 abbrev pub is_nothing : List ℕ → Bool
 is_nothing [] = true
 is_nothing (x ∷ xs) = false

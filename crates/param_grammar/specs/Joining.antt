@@ -26,6 +26,7 @@ abbrev pub decimal_onward : ℕ → List ℕ → ℕ
 decimal_onward number [] = number
 decimal_onward number (digit ∷ digits) = decimal_onward (10 * number + digit_value digit) digits
 
+-- The number that decimal digits write.
 abbrev pub decimal_value : List ℕ → ℕ
 decimal_value digits = decimal_onward 0 digits
 
@@ -33,9 +34,11 @@ decimal_value digits = decimal_onward 0 digits
 abbrev pub is_part_of : List ℕ → Piece → Bool
 is_part_of base piece = is_some piece.number && bytes_eq piece.base base
 
+-- The numbered pieces of the parameter of this name.
 abbrev pub parts_named : List ℕ → List Piece → List Piece
 parts_named base pieces = filter (is_part_of base) pieces
 
+-- The piece has this number.
 abbrev pub has_number : ℕ → Piece → Bool
 has_number n piece = option_map_or (λ digits. decimal_value digits == n) piece.number false
 
@@ -61,6 +64,7 @@ pub record ParamValue : Type 0 where
   pub name : List ℕ
   pub unit : UnitValue
 
+-- What the parameter of a piece says: its numbered pieces joined (RFC 2231, 3), or the piece itself.
 abbrev pub unit_at : List Piece → Piece → UnitValue
 unit_at pieces piece = if is_some piece.number then joined_unit (parts_named piece.base pieces) else unit_of piece.charset piece.octets
 

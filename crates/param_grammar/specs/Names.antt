@@ -25,14 +25,17 @@ pub record NameParts : Type 0 where
   pub number : Option (List ℕ)
   pub is_extended : Bool
 
+-- A star and the digits of a piece's number, where it has one (RFC 2231, 3).
 abbrev pub number_suffix : Option (List ℕ) → List ℕ
 number_suffix None = []
 number_suffix (Some digits) = 42 ∷ digits
 
+-- The star behind the name of an extended value (RFC 2231, 4).
 abbrev pub star_suffix : Bool → List ℕ
 star_suffix false = []
 star_suffix true = 42 ∷ []
 
+-- A parameter's name as it is written: `a`, `a*`, `a*0` or `a*0*` (RFC 2231, 7).
 abbrev pub name_of : NameParts → List ℕ
 name_of p = p.base ++ (number_suffix p.number ++ star_suffix p.is_extended)
 
@@ -59,5 +62,6 @@ abbrev pub HasBehind : Option (List ℕ) → Option (List ℕ) → Bool → Type
 HasBehind None number is_extended = (number ≡ None) × (is_extended ≡ false)
 HasBehind (Some suffix) number is_extended = HasSuffix suffix number is_extended
 
+-- The parts of a name.
 abbrev pub parts_value : Name → NameParts
 parts_value p = record { base = p.base.now; number = option_copied p.number; is_extended = p.is_extended }

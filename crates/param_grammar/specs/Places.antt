@@ -10,6 +10,7 @@ use Rattle.param_grammar.specs.declared.places.Place.{Place}
 use Rattle.param_grammar.specs.declared.places.Stretch.{Stretch}
 use Rattle.param_grammar.specs.private.Placing.{IsPieceBy}
 
+-- The place of a stretch.
 abbrev pub span_of : Stretch → Span
 span_of s = record { at = s.at; len = s.len }
 
@@ -33,5 +34,6 @@ ArePlaced text (place ∷ places) pieces = (piece : Piece) × (more : List Piece
 abbrev pub no_piece : Piece
 no_piece = record { base = []; number = None; charset = []; octets = []; written = [] }
 
+-- The piece of this number among pieces.
 abbrev pub piece_in : List Piece → ℕ → Piece
 piece_in pieces number = get_or pieces number no_piece

@@ -21,7 +21,7 @@ use Rattle.pop_session.specs.Commands.{Command, command_of}
 use Rattle.mail_wire.specs.Numbers.{number_of}
 use Rattle.pop_session.specs.History.{after_command, after_commands, commands_by, commands_up_to, commands_in, IsOfMode, is_utf8, enables, some_enables, mode_behind, IsQuit}
 use Rattle.pop_session.specs.Machine.{ReplyPart, line, shown, State, authorization, transaction, ended, done, out_of_order, syntax_error, listed_at, step, authorization_step, transaction_step, dele_message, dele_step, pass_step}
-use Rattle.pop_session.specs.PopLaws.{step_quiet}
+use Rattle.pop_session.specs.laws.PopLaws.{step_quiet}
 use Rattle.pop_session.specs.Session.{Machine, pop_grammar, pop_protocol, turns_of, start_of, wants_in}
 
 -- ---- one command

@@ -1,10 +1,9 @@
 -- The words of a command line (RFC 1939, 3).
-use Rattle.std.specs.Prelude.{ℕ, ◌+◌, ◌-◌, ◌==◌, List, Bool, Option, None, Some, length, take, drop, map, codes, if◌then◌else◌, option_and_then, position}
+use Rattle.std.specs.Prelude.{ℕ, ◌+◌, ◌-◌, ◌==◌, List, [], ◌∷◌, Bool, Option, None, Some, length, take, drop, codes, unwrap_or, option_and_then, position}
 use Rattle.std.specs.List.{before_first}
 use Rattle.std.specs.Option.{option_map}
-use Rattle.std.specs.Str.{bytes_eq}
-use Rattle.std.specs.Char.{to_ascii_lowercase}
 use Rattle.mail_wire.specs.Numbers.{number_of}
+use Rattle.mail_wire.specs.Tables.{Named, said_by}
 use Rattle.pop_session.specs.declared.command.Keyword.{Keyword}
 use Rattle.pop_session.specs.declared.command.TopNumbers.{TopNumbers}
 use Rattle.pop_session.specs.declared.command.Keyword.TheVariants as keyword
@@ -14,27 +13,28 @@ pub record Command : Type 0 where
   pub keyword : Keyword
   pub argument : Option (List ℕ)
 
--- the keyword of this name, which is in lower case
-abbrev pub keyword_named : List ℕ → Keyword
-keyword_named name =
-    if bytes_eq name (codes "user") then keyword.User
-    else (if bytes_eq name (codes "pass") then keyword.Pass
-    else (if bytes_eq name (codes "utf8") then keyword.Utf8
-    else (if bytes_eq name (codes "stat") then keyword.Stat
-    else (if bytes_eq name (codes "list") then keyword.List
-    else (if bytes_eq name (codes "retr") then keyword.Retr
-    else (if bytes_eq name (codes "quit") then keyword.Quit
-    else (if bytes_eq name (codes "capa") then keyword.Capa
-    else (if bytes_eq name (codes "uidl") then keyword.Uidl
-    else (if bytes_eq name (codes "top") then keyword.Top
-    else (if bytes_eq name (codes "dele") then keyword.Dele
-    else (if bytes_eq name (codes "rset") then keyword.Rset
-    else (if bytes_eq name (codes "noop") then keyword.Noop else keyword.Other))))))))))))
+-- the keywords that are read
+abbrev pub keywords : List (Named Keyword)
+keywords =
+    record { word = codes "user"; says = keyword.User }
+    ∷ record { word = codes "pass"; says = keyword.Pass }
+    ∷ record { word = codes "utf8"; says = keyword.Utf8 }
+    ∷ record { word = codes "stat"; says = keyword.Stat }
+    ∷ record { word = codes "list"; says = keyword.List }
+    ∷ record { word = codes "retr"; says = keyword.Retr }
+    ∷ record { word = codes "quit"; says = keyword.Quit }
+    ∷ record { word = codes "capa"; says = keyword.Capa }
+    ∷ record { word = codes "uidl"; says = keyword.Uidl }
+    ∷ record { word = codes "top"; says = keyword.Top }
+    ∷ record { word = codes "dele"; says = keyword.Dele }
+    ∷ record { word = codes "rset"; says = keyword.Rset }
+    ∷ record { word = codes "noop"; says = keyword.Noop } ∷ []
 
 -- keywords are read in any case
 abbrev pub keyword_of : List ℕ → Keyword
-keyword_of word = keyword_named (map to_ascii_lowercase word)
+keyword_of word = unwrap_or (said_by keywords word) keyword.Other
 
+-- A space, which divides a keyword from its argument (RFC 1939, 3).
 abbrev pub is_space : ℕ → Bool
 is_space x = x == 32
 
@@ -42,6 +42,7 @@ is_space x = x == 32
 abbrev pub text_of : List ℕ → List ℕ
 text_of line = take (length line - 2) line
 
+-- What follows the first space, if there is one (RFC 1939, 3).
 unfoldable pub argument_of : List ℕ → Option (List ℕ)
 argument_of text = option_map (λ at. drop (at + 1) text) (position is_space text)
 
@@ -49,6 +50,7 @@ argument_of text = option_map (λ at. drop (at + 1) text) (position is_space tex
 abbrev pub command_of : List ℕ → Command
 command_of line = record { keyword = keyword_of (before_first is_space (text_of line)); argument = argument_of (text_of line) }
 
+-- The message number and the number of lines of TOP, where the latter is one (RFC 1939, 7).
 abbrev pub with_lines : ℕ → Option ℕ → Option TopNumbers
 with_lines number None = None
 with_lines number (Some lines) = Some (record { number = number; lines = lines })

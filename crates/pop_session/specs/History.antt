@@ -57,13 +57,13 @@ abbrev pub is_utf8 : Keyword → Option (List ℕ) → Bool
 is_utf8 keyword.Utf8 None = true
 is_utf8 word argument = false
 
--- it asks for UTF-8, before login
+-- The command enables UTF-8: it is an UTF8 that is accepted, before login (RFC 6856, 2).
 abbrev pub enables : State → Command → Bool
 enables (authorization mode user) command = is_utf8 command.keyword command.argument
 enables (transaction mode maildrop) command = false
 enables ended command = false
 
--- one of these commands does so
+-- One of these commands enables UTF-8.
 abbrev pub some_enables : Meanings → Machine → List Command → Bool
 some_enables meanings machine [] = false
 some_enables meanings machine (command ∷ commands) = enables machine.state command || some_enables meanings (after_command meanings machine command) commands
@@ -81,6 +81,7 @@ IsQuit (authorization mode user) command = ⊥
 IsQuit (transaction mode maildrop) command = (command.keyword ≡ keyword.Quit) × (command.argument ≡ None)
 IsQuit ended command = ⊥
 
+-- The number is one of these.
 abbrev pub is_among : ℕ → List ℕ → Bool
 is_among number [] = false
 is_among number (n ∷ numbers) = (number == n) || is_among number numbers
@@ -106,7 +107,7 @@ marks_by listing marks keyword.Dele (Some text) = marks_by_number listing marks 
 marks_by listing marks keyword.Rset None = []
 marks_by listing marks word argument = marks
 
--- and behind these commands
+-- The messages that are marked behind these commands.
 abbrev pub marks_after : List Listed → List ℕ → List Command → List ℕ
 marks_after listing marks [] = marks
 marks_after listing marks (command ∷ commands) = marks_after listing (marks_by listing marks command.keyword command.argument) commands
@@ -136,6 +137,7 @@ number_in keyword.Retr (Some text) = number_of text
 number_in keyword.Top (Some text) = option_map (λ (numbers : TopNumbers). numbers.number) (top_numbers_of text)
 number_in word argument = None
 
+-- The reply is one line that begins with `-ERR ` (RFC 1939, 3).
 abbrev pub IsRefused : List ReplyPart → Type 0
 IsRefused reply = (text : List ℕ) × (reply ≡ says (codes "-ERR " ++ text))
 

@@ -29,6 +29,7 @@ pub data ReplyPart : Type 0 where
   -- of what the mode serves of a message, so many octets from this place on
   shown : (msg : List ℕ) (mode : Mode) (at len : ℕ) → ReplyPart
 
+-- The states of a session (RFC 1939, 3).
 pub data State : Type 0 where
   -- AUTHORIZATION, with the name that USER gave
   authorization : (mode : Mode) (user : Option (List ℕ)) → State
@@ -49,24 +50,31 @@ acts_in taken = acts_of taken.changes taken.reply
 
 -- ---- replies
 
+-- A reply of one line.
 abbrev pub says : List ℕ → List ReplyPart
 says text = line text ∷ []
 
+-- What a command is answered that was done (RFC 1939, 3).
 abbrev pub done : List ReplyPart
 done = says (codes "+OK")
 
+-- What QUIT is answered (RFC 1939, 4 and 6).
 abbrev pub bye : List ReplyPart
 bye = says (codes "+OK bye")
 
+-- What a login is answered that fails (RFC 1939, 7).
 abbrev pub not_admitted : List ReplyPart
 not_admitted = says (codes "-ERR no")
 
+-- What a command is answered that the state doesn't allow (RFC 1939, 3).
 abbrev pub out_of_order : List ReplyPart
 out_of_order = says (codes "-ERR out of order")
 
+-- What a command is answered whose argument is none of its (RFC 1939, 3).
 abbrev pub syntax_error : List ReplyPart
 syntax_error = says (codes "-ERR syntax")
 
+-- What a command is answered that names no message, or one that is marked as deleted (RFC 1939, 5).
 abbrev pub no_such_message : List ReplyPart
 no_such_message = says (codes "-ERR no such message")
 
@@ -98,6 +106,7 @@ abbrev pub deleted_ids : List MaildropMessage → List ℕ
 deleted_ids [] = []
 deleted_ids (one ∷ maildrop) = if one.deleted then one.listed.id ∷ deleted_ids maildrop else deleted_ids maildrop
 
+-- The message, marked as deleted or not.
 abbrev pub marked : Bool → MaildropMessage → MaildropMessage
 marked deleted one = record one { deleted = deleted }
 
@@ -129,12 +138,15 @@ listing_from row number (one ∷ maildrop) =
     if one.deleted then listing_from row (number + 1) maildrop
     else line (two_numbers [] number (row one.listed)) ∷ listing_from row (number + 1) maildrop
 
+-- The reply of LIST or UIDL without a number: a line for each message that isn't marked, and a dot (RFC 1939, 5 and 7).
 abbrev pub listing_reply : (Listed → ℕ) → List MaildropMessage → List ReplyPart
 listing_reply row maildrop = line (codes "+OK") ∷ listing_from row 1 maildrop ++ line (codes ".") ∷ []
 
+-- The reply of LIST or UIDL of one message (RFC 1939, 5 and 7).
 abbrev pub listing_one_reply : (Listed → ℕ) → ℕ → Listed → List ReplyPart
 listing_one_reply row number one = says (two_numbers (codes "+OK ") number (row one))
 
+-- The reply of RETR: what the session is served of the message, and a dot (RFC 1939, 5).
 abbrev pub retr_reply : Meanings → Mode → StoreState → ℕ → Listed → List ReplyPart
 retr_reply meanings mode store number one =
     line (codes "+OK") ∷ shown (listed_octets store one) mode 0 (size_of meanings mode store one) ∷ line (codes ".") ∷ []
@@ -148,6 +160,7 @@ top_lines n (first ∷ lines) = if bytes_eq first crlf then first ∷ take n lin
 abbrev pub top_length : ℕ → List ℕ → ℕ
 top_length n octets = sum_by length (top_lines n (lines_of octets))
 
+-- The reply of TOP: the header, the empty line and so many lines of what the session is served, and a dot (RFC 1939, 7).
 abbrev pub top_reply : Meanings → Mode → StoreState → ℕ → ℕ → Listed → List ReplyPart
 top_reply meanings mode store lines number one =
     line (codes "+OK") ∷ shown (listed_octets store one) mode 0 (top_length lines (served_by meanings.surrogate mode (listed_octets store one)))
@@ -180,6 +193,7 @@ of_top row maildrop (Some numbers) = of_message (row numbers.lines) numbers.numb
 abbrev pub inbox_messages : Kept → ℕ → List Listed
 inbox_messages kept account = option_map_or (listed kept) (inbox_of kept account) []
 
+-- A message of the maildrop at login, when none is marked.
 abbrev pub unmarked : Listed → MaildropMessage
 unmarked one = record { listed = one; deleted = false }
 
@@ -246,6 +260,7 @@ abbrev pub dele_message : Mode → List MaildropMessage → ℕ → Option Liste
 dele_message mode maildrop number None = answers no_such_message (transaction mode maildrop)
 dele_message mode maildrop number (Some one) = answers done (transaction mode (with_deleted number maildrop))
 
+-- DELE: the message of the number is marked as deleted, if there is one (RFC 1939, 5).
 abbrev pub dele_step : Mode → List MaildropMessage → Option ℕ → Step
 dele_step mode maildrop None = answers syntax_error (transaction mode maildrop)
 dele_step mode maildrop (Some number) = dele_message mode maildrop number (listed_at maildrop number)

@@ -13,7 +13,7 @@ use Rattle.pop_session.specs.Machine.{ReplyPart, line, shown}
 abbrev pub multi_line : List ℕ → List ℕ
 multi_line octets = stuffed octets ++ missing_end octets
 
--- the same, with the line behind them that ends the reply
+-- A text in a reply of many lines, with the line behind it that ends the reply (RFC 1939, 3).
 abbrev pub ended_lines : List ℕ → List ℕ
 ended_lines octets = multi_line octets ++ codes ".\r\n"
 
@@ -32,5 +32,6 @@ IsFit meanings (line octets) = list_all is_ascii octets ≡ true
 IsFit meanings (shown msg legacy at len) = HasSurrogate msg (meanings.surrogate msg) × HasAsciiBlocks (meanings.surrogate msg)
 IsFit meanings (shown msg enabled at len) = Unit {0}
 
+-- Each of the parts may be sent.
 abbrev pub AreFit : Meanings → List ReplyPart → Type 0
 AreFit meanings parts = AllByRecursion (IsFit meanings) parts

@@ -28,6 +28,7 @@ pub record Machine : Type 0 where
   pub state : State
   pub store : StoreState
 
+-- What a line is answered that is longer than one may be; the session ends.
 abbrev pub line_too_long : List ReplyPart
 line_too_long = says (codes "-ERR line too long")
 
@@ -35,6 +36,7 @@ line_too_long = says (codes "-ERR line too long")
 abbrev pub after_step : StoreState → Step → Machine
 after_step store taken = record { state = taken.state; store = with_records store (records_of taken.changes) }
 
+-- The first line of a session (RFC 1939, 4).
 abbrev pub greeting : List ReplyPart
 greeting = says (codes "+OK ready")
 
@@ -55,9 +57,11 @@ line_row meanings machine text =
     let taken = step meanings machine.state machine.store (command_of text) in
     record { acts = asking asked (acts_in taken); after = after_step machine.store taken }
 
+-- A line that is too long is answered, and ends the session.
 abbrev pub long_row : Machine → Row Machine ReplyPart
 long_row machine = record { acts = acts_of [] line_too_long; after = record machine { state = ended } }
 
+-- POP3 by its rows: its greeting, what each state reads, and what each line brings.
 abbrev pub pop_grammar : Grammar
 pop_grammar = record {
   S = Machine;
@@ -72,6 +76,7 @@ pop_grammar = record {
   IsSound = λ machine. AreStored machine.store.kept.messages;
 }
 
+-- POP3 as a protocol.
 abbrev pub pop_protocol : Protocol
 pop_protocol = protocol_of pop_grammar
 
@@ -81,9 +86,11 @@ turns_of meanings machine octets = all_turns (pop_protocol.next meanings) machin
 
 -- ---- what values stand for
 
+-- The machine that a session stands for, with the store of its desk.
 abbrev pub machine_of : PopState → Desk → Machine
 machine_of session desk = record { state = state_of session; store = desk.store }
 
+-- A session stands for its machine, whatever moments are to come.
 abbrev pub PopStands : List Moment → PopState → Desk → Machine → Type 0
 PopStands more session desk machine = machine ≡ machine_of session desk
 

@@ -10,10 +10,10 @@ ghost use Rattle.session_core.specs.Served.{met_of};
 ghost use Rattle.session_core.specs.Serving.{ServesBy};
 ghost use Rattle.session_core.specs.declared.rows.Wants.TheVariants.{Line};
 ghost use Rattle.pop_session.specs.Machine.{transaction, answers, done, marked, authorization_step, transaction_asks, transaction_step, transaction_reply, dele_step, quit_step};
-ghost use Rattle.pop_session.specs.PopLaws.{agrees_by, opening_fits_by, rows_fit_by, long_rows_fit_by};
 ghost use Rattle.pop_session.specs.Replies.{reply_octets};
 ghost use Rattle.pop_session.specs.Session.{pop_grammar, pop_protocol, PopStands, KnowsPop, TakesStep};
 ghost use Rattle.pop_session.specs.States.{state_or_ended, KnowsState, Knows};
+ghost use Rattle.pop_session.specs.laws.PopLaws.{agrees_by, opening_fits_by, rows_fit_by, long_rows_fit_by};
 
 use crate::command::{Command, Keyword, is_of_transaction, read_command, read_top_numbers};
 use crate::replies::{

@@ -20,14 +20,17 @@ has_normal address = not (is_high address.local) && is_some (normal_form address
 abbrev pub is_plain : Address → Bool
 is_plain address = not (is_high address.local) && not (is_high address.domain)
 
+-- Whether an address is ASCII, has a normal form that is, or needs UTF-8 (RFC 5891, 4; RFC 6531, 3.2).
 abbrev pub form_of : Address → Form
 form_of address = if is_plain address then form.Ascii else (if has_normal address then form.Normal else form.Utf8)
 
+-- The address isn't ASCII, and has a normal form that is.
 abbrev pub is_normal : Form → Bool
 is_normal form.Ascii = false
 is_normal form.Normal = true
 is_normal form.Utf8 = false
 
+-- The address needs UTF-8.
 abbrev pub is_utf8 : Form → Bool
 is_utf8 form.Ascii = false
 is_utf8 form.Normal = false

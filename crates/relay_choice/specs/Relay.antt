@@ -30,12 +30,13 @@ pub record Run : Type 0 where
   pub acts : List Act
   pub end : End
 
--- these acts come first
+-- What comes of a run, with these acts before its acts.
 abbrev pub behind_acts : List Act → Run → Run
 behind_acts acts run = record { acts = acts ++ run.acts; end = run.end }
 
 -- ---- what comes of a letter
 
+-- Whether and how a letter is sent to a recipient, by what it needs and what the server offers.
 abbrev pub plan_of : Offer → Letter → Recipient → Plan
 plan_of offer letter recipient = plan_for letter.demands recipient.form offer
 
@@ -43,6 +44,7 @@ plan_of offer letter recipient = plan_for letter.demands recipient.form offer
 abbrev pub sent_behind : Offer → Letter → (from : ℕ) → List Recipient
 sent_behind offer letter from = filter (λ recipient. is_sent (plan_of offer letter recipient)) (drop from letter.recipients)
 
+-- The recipients to whom the letter is sent.
 abbrev pub sent_to : Offer → Letter → List Recipient
 sent_to offer letter = sent_behind offer letter 0
 
@@ -55,6 +57,7 @@ merged (plan.Send ∷ plans) (one ∷ outcomes) = one ∷ merged plans outcomes
 merged (plan.SendNormal ∷ plans) [] = merged plans []
 merged (plan.SendNormal ∷ plans) (one ∷ outcomes) = one ∷ merged plans outcomes
 
+-- The recipients of a letter are settled: those to whom it isn't sent are refused, the others have these outcomes.
 abbrev pub settled : Offer → (number : ℕ) → Letter → (outcomes : List Outcome) → Act
 settled offer number letter outcomes = act.Settle number (merged (map (plan_of offer letter) letter.recipients) outcomes)
 
@@ -78,10 +81,12 @@ pub data Transaction : Type 0 where
   -- the run ends within it
   ended : (acts : List Act) (end : End) → Transaction
 
+-- What comes of a transaction, with an act before its acts.
 abbrev pub behind_act : Act → Transaction → Transaction
 behind_act first (done acts outcomes left) = done (first ∷ acts) outcomes left
 behind_act first (ended acts end) = ended (first ∷ acts) end
 
+-- What comes of a transaction, with these octets sent first.
 abbrev pub says : List ℕ → Transaction → Transaction
 says octets course = behind_act (act.Say octets) course
 
@@ -139,6 +144,7 @@ course_to offer number letter [] replies = done [] [] replies
 course_to offer number letter (recipient ∷ recipients) replies =
     says (mail_line offer letter (recipient ∷ recipients)) (mail_course offer number (recipient ∷ recipients) replies)
 
+-- What comes of a letter over these replies.
 abbrev pub letter_course : Offer → (number : ℕ) → Letter → List Reply → Transaction
 letter_course offer number letter replies = course_to offer number letter (sent_to offer letter) replies
 
@@ -174,9 +180,11 @@ act_octets messages (act.Say octets) = octets
 act_octets messages (act.SayData number) = option_map_or data_text (slice_get messages number) []
 act_octets messages (act.Settle number outcomes) = []
 
+-- The octets that these acts send.
 abbrev pub sent_octets : (messages : List (List ℕ)) → List Act → List ℕ
 sent_octets messages acts = flat_map (act_octets messages) acts
 
+-- The server took the message for this recipient.
 abbrev pub is_sent_outcome : Outcome → Bool
 is_sent_outcome outcome.Sent = true
 is_sent_outcome (outcome.Refused detail code) = false
@@ -187,9 +195,10 @@ outcomes_in (act.Say octets) = []
 outcomes_in (act.SayData number) = []
 outcomes_in (act.Settle number outcomes) = outcomes
 
--- how many recipients the letters were sent to, and how many are still open
+-- how many recipients the letters were sent to
 abbrev pub sent_count : List Act → ℕ
 sent_count acts = length (filter is_sent_outcome (flat_map outcomes_in acts))
 
+-- How many recipients of the letters aren't settled.
 abbrev pub left_count : List Letter → List Act → ℕ
 left_count letters acts = sum_by (λ (letter : Letter). length letter.recipients) letters - length (flat_map outcomes_in acts)

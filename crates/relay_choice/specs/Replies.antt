@@ -59,7 +59,7 @@ AreReply octets = (reply : Reply) × IsReply octets reply
 abbrev pub IsBegun : List ℕ → Type 0
 IsBegun octets = (x : ℕ) × (more : List ℕ) × AreReply (octets ++ x ∷ more)
 
--- they are a reply, or more octets make one of them
+-- The octets are a reply, or the front of one.
 abbrev pub IsFront : List ℕ → Type 0
 IsFront octets = AreReply octets ⊎ IsBegun octets
 

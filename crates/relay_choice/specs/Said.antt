@@ -31,9 +31,11 @@ said_path offer (Some address) = 60 ∷ (said_address offer address ++ 62 ∷ []
 
 -- ---- commands
 
+-- The EHLO line with the name of this server (RFC 5321, 4.1.1.1).
 abbrev pub ehlo_line : (name : List ℕ) → List ℕ
 ehlo_line name = codes "EHLO " ++ (name ++ crlf)
 
+-- The address is ASCII.
 abbrev pub is_ascii_form : Form → Bool
 is_ascii_form form.Ascii = true
 is_ascii_form form.Normal = false
@@ -44,10 +46,12 @@ abbrev pub needs_smtputf8 : Demands → List Recipient → Bool
 needs_smtputf8 demands recipients =
     demands.header || not (is_ascii_form demands.path) || list_any (λ (recipient : Recipient). not (is_ascii_form recipient.form)) recipients
 
+-- The parameter of MAIL for a message with octets above 127, where it is asked for (RFC 6152, 2).
 abbrev pub eight_word : Bool → List ℕ
 eight_word true = codes " BODY=8BITMIME"
 eight_word false = []
 
+-- The parameter of MAIL for a message that is internationalized, where it is asked for (RFC 6531, 3.4).
 abbrev pub smtputf8_word : Bool → List ℕ
 smtputf8_word true = codes " SMTPUTF8"
 smtputf8_word false = []
@@ -58,15 +62,19 @@ mail_line offer letter sent =
     codes "MAIL FROM:" ++ (said_path offer letter.path ++ (eight_word (letter.demands.eight && offer.eight)
     ++ (smtputf8_word (offer.smtputf8 && needs_smtputf8 letter.demands sent) ++ crlf)))
 
+-- The RCPT line of a recipient (RFC 5321, 4.1.1.3).
 abbrev pub rcpt_line : Offer → Recipient → List ℕ
 rcpt_line offer recipient = codes "RCPT TO:" ++ (said_path offer (Some recipient.address) ++ crlf)
 
+-- The DATA line (RFC 5321, 4.1.1.4).
 abbrev pub data_line : List ℕ
 data_line = codes "DATA\r\n"
 
+-- The RSET line (RFC 5321, 4.1.1.5).
 abbrev pub reset_line : List ℕ
 reset_line = codes "RSET\r\n"
 
+-- The QUIT line (RFC 5321, 4.1.1.10).
 abbrev pub quit_line : List ℕ
 quit_line = codes "QUIT\r\n"
 

@@ -37,6 +37,7 @@ offer_in replies = option_map_or offer_of (slice_get replies 1) (record { smtput
 abbrev pub IsCode : ℕ → Type 0
 IsCode code = (200 ≤ code) × (code ≤ 599)
 
+-- The reply has a code that replies may have (RFC 5321, 4.2).
 abbrev pub HasCode : Reply → Type 0
 HasCode reply = IsCode reply.code
 

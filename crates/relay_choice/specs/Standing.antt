@@ -24,6 +24,7 @@ pub record ClientState : Type 0 where
   pub awaited : Awaited
   pub answers : List ℕ
 
+-- The state of a client, by its values.
 abbrev pub standing_of : Client → ClientState
 standing_of client = record { name = client.name; letters = client.letters; at = client.at; offer = client.offer; awaited = client.awaited; answers = client.answers }
 
@@ -51,6 +52,7 @@ letter_run client course = first_run client course (drop client.at client.letter
 abbrev pub run_from : ClientState → (at : ℕ) → List Reply → Run
 run_from client at replies = letters_run client.offer at (drop at client.letters) replies
 
+-- What comes of the rest of a run over these replies, by what the client awaits.
 abbrev pub rest_by : Awaited → ClientState → List Reply → Run
 rest_by awaited.Greeting client replies = relay_of client.name client.letters replies
 rest_by awaited.Ehlo client replies = ehlo_run client.letters replies
@@ -102,15 +104,16 @@ LeavesBy turn.Stops = Unit {0}
 abbrev pub replies_to : List Letter → ℕ
 replies_to letters = sum_by (λ (letter : Letter). length letter.recipients + 3) letters
 
--- so many come to the first of these letters
+-- How many replies come at most to letters of which the first awaits so many.
 abbrev pub first_left : (Letter → ℕ) → List Letter → ℕ
 first_left count [] = 0
 first_left count (letter ∷ letters) = count letter + replies_to letters
 
--- so many come to the letter that a client is at
+-- How many replies come at most to the letters from the client's on, where that one awaits so many.
 abbrev pub letter_left : ClientState → (Letter → ℕ) → ℕ
 letter_left client count = first_left count (drop client.at client.letters)
 
+-- How many replies a client still reads at most, by what it awaits.
 abbrev pub replies_by : Awaited → ClientState → ℕ
 replies_by awaited.Greeting client = replies_to client.letters + 2
 replies_by awaited.Ehlo client = replies_to client.letters + 1

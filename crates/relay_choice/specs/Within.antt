@@ -4,6 +4,7 @@ use Rattle.relay_choice.specs.declared.letters.Letter.{Letter}
 use Rattle.relay_choice.specs.declared.states.Awaited.{Awaited}
 use Rattle.relay_choice.specs.declared.states.Awaited.TheVariants as awaited
 
+-- The reply that the client awaits is one of a mail transaction (RFC 5321, 3.3).
 abbrev pub is_of_letter : Awaited → Bool
 is_of_letter awaited.Greeting = false
 is_of_letter awaited.Ehlo = false

@@ -26,6 +26,7 @@ ghost use Rattle.relay_choice.specs.Said.{said_path};
 ghost use Rattle.relay_choice.specs.Settling.{AreItsOutcomes, HasCode, IsFitOutcome, IsSentToSome, numbers_in, offer_in};
 ghost use Rattle.relay_choice.specs.Standing.{rest_of};
 ghost use Rattle.relay_choice.specs.declared.states.Client.{Client};
+ghost use Rattle.relay_choice.specs.declared.replies.TheConstants.{REPLY_LINES, REPLY_LINE_MAX};
 
 /// A header in UTF-8 goes to no server that doesn't offer SMTPUTF8, and such an offer has 8BITMIME.
 pub fn utf8_headers_go_where_they_are_read()
@@ -109,4 +110,10 @@ pub fn messages_go_by_plan()
         → IsSentToSome (offer_in replies) letters number }
     ensures header { (name : List ℕ) (letters : List Letter) (replies : List Reply) (number : ℕ) (letter : Letter) → Contains (relay_of name letters replies).acts (act.SayData number)
         → slice_get letters number ≡ Some letter → letter.demands.header ≡ true → (offer_in replies).smtputf8 ≡ true }
+{}
+
+/// A reply has at most 100 lines, and a line 2,048 octets.
+pub fn limits_are_these()
+    ensures lines { REPLY_LINES ≡ 100 }
+    ensures line { REPLY_LINE_MAX ≡ 2048 }
 {}

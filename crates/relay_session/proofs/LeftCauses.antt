@@ -6,6 +6,7 @@ use Rattle.kept_mail.specs.Kept.{name_of}
 use Rattle.kept_mail.specs.declared.kept.Entry.{Entry as KeptEntry}
 use Rattle.mail_store.specs.Queue.{IsQueue, IsQueuedAt, open_numbers}
 use Rattle.mail_store.specs.declared.queue.Queued.{Queued}
+use Rattle.mail_wire.specs.Transcript.{taken_of}
 use Rattle.mail_wire.specs.declared.outside.Entry.{Entry}
 use Rattle.mail_wire.specs.declared.outside.Fault.{Fault}
 use Rattle.relay_choice.specs.Relay.{Run, finished, left_count, stopped, waits}
@@ -84,10 +85,10 @@ stopped_unfinished : (reply : Reply) → stopped reply ≡ finished → ⊥
 stopped_unfinished reply is = cc
 
 -- octets stop a run that isn't finished
-stops_unfinished : (now : Around) (run : Run) (replies : List Reply) (behind octets : List ℕ) → StopsRun now run replies behind octets → run.end ≡ finished → ⊥
-stops_unfinished now run replies behind octets (by_reply reply front are is stops) done = stopped_unfinished reply (sym stops ∙ done)
-stops_unfinished now run replies behind octets (by_no_reply more on are none) done = waits_unfinished (sym on ∙ done)
-stops_unfinished now run replies behind octets (by_end on are undecided at_end) done = waits_unfinished (sym on ∙ done)
+stops_unfinished : (now : Around) (run : Run) (taken : List ℕ) (replies : List Reply) (behind octets : List ℕ) → StopsRun now run taken replies behind octets → run.end ≡ finished → ⊥
+stops_unfinished now run taken replies behind octets (by_reply reply front are is stands stops) done = stopped_unfinished reply (sym stops ∙ done)
+stops_unfinished now run taken replies behind octets (by_no_reply more on are none) done = waits_unfinished (sym on ∙ done)
+stops_unfinished now run taken replies behind octets (by_end on are undecided at_end) done = waits_unfinished (sym on ∙ done)
 
 -- ---- why somebody is left
 
@@ -110,7 +111,7 @@ ends_left path_of before now bag entries replies behind end (Some cause.Wire) so
     let left = front_left bag.letters (run_of before bag.letters replies).acts ends.breaks.first carried.others carried.run_acts whole in
     told_cause end cause.Wire is (rw ends.counts.left left)
 ends_left path_of before now bag entries replies behind end (Some (cause.Reply octets)) some is ends =
-    let left = unfinished_left before bag replies some (stops_unfinished now (run_of before bag.letters replies) replies behind octets ends.stops) in
+    let left = unfinished_left before bag replies some (stops_unfinished now (run_of before bag.letters replies) (taken_of entries) replies behind octets ends.stops) in
     told_cause end (cause.Reply octets) is (rw ends.counts.left left)
 
 left_by : (path_of : List ℕ → Option (Option Address)) (before now : Around) (result : Result RelayEnd Fault) → RelaysBy path_of before now result → IfOk result HasLeftCause

@@ -24,7 +24,7 @@ pub record AroundDial : Type 0 where
   pub clock : Option ℕ
   pub desk : Desk
 
--- the same over a wire, in the place of the dial
+-- The outside of a relay with a wire to a server in the place of the dial.
 abbrev pub over_wire : AroundDial → Telling → Loans → Around
 over_wire around wire loans = record { wire = wire; keeper = around.keeper; clock = around.clock; desk = around.desk; loans = loans }
 
@@ -57,7 +57,7 @@ pub data RelaysQueueBy (path_of : List ℕ → Option (Option Address)) (host : 
       → RelaysQueueBy path_of host before now result
   connected : open_numbers before.desk.store.kept.entries ≢ [] → RelaysOverDialled path_of host before now result → RelaysQueueBy path_of host before now result
 
--- the same, whatever function reads paths
+-- What a relay of the queue does, whatever function reads paths.
 abbrev pub RelaysQueue : List ℕ → AroundDial → AroundDial → Result RelayEnd Fault → Type 0
 RelaysQueue host before now result = WithPaths (λ path_of. RelaysQueueBy path_of host before now result)
 

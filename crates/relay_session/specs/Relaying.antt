@@ -63,7 +63,7 @@ pub record Carried (path_of : List ℕ → Option (Option Address)) (before : Ar
 abbrev pub Done : (before now : Around) → Option Fault → List (Act (List ℕ)) → (given : List ℕ) → Type 0
 Done before now met acts given = IsDone (λ octets. octets) before.desk.store now.desk.store before.keeper.octets now.keeper.octets met acts given
 
--- it was broken off in the last of these acts, or behind them
+-- A run was broken off in the last of these acts, or behind them.
 pub record BreaksRunOff (path_of : List ℕ → Option (Option Address)) (before now : Around) (bag : Mailbag before.desk.store.kept) (replies : List Reply) (given : List ℕ) (met : Fault) : Type 0 where
   pub first : List ClientAct
   pub acts : List (Act (List ℕ))
@@ -109,15 +109,16 @@ pub record Finishes (path_of : List ℕ → Option (Option Address)) (before now
   pub leaves : LeavesServer path_of before now bag replies given
   pub counts : HasNumbers bag.letters (run_of before bag.letters replies).acts leaves.count end
 
--- Why octets in a reply's place stop the run: they are a reply that does, or the least that begin none, or nothing more comes.
-pub data StopsRun (now : Around) (run : Run) (replies : List Reply) (behind octets : List ℕ) : Type 0 where
-  by_reply : (reply : Reply) (front : List Reply) → replies ≡ front ++ reply ∷ [] → IsReply octets reply → run.end ≡ stopped reply → StopsRun now run replies behind octets
-  by_no_reply : (more : List ℕ) → run.end ≡ waits → behind ≡ octets ++ more → IsNoFront octets → StopsRun now run replies behind octets
-  by_end : run.end ≡ waits → behind ≡ octets → IsUndecided octets → IsAtEnd now.wire.left → StopsRun now run replies behind octets
+-- Why octets in a reply's place stop the run: they are a reply that does, which stands behind the others in what was taken, or the
+-- least that begin none, or nothing more comes.
+pub data StopsRun (now : Around) (run : Run) (taken : List ℕ) (replies : List Reply) (behind octets : List ℕ) : Type 0 where
+  by_reply : (reply : Reply) (front : List Reply) → replies ≡ front ++ reply ∷ [] → IsReply octets reply → AreReplies taken front (octets ++ behind) → run.end ≡ stopped reply → StopsRun now run taken replies behind octets
+  by_no_reply : (more : List ℕ) → run.end ≡ waits → behind ≡ octets ++ more → IsNoFront octets → StopsRun now run taken replies behind octets
+  by_end : run.end ≡ waits → behind ≡ octets → IsUndecided octets → IsAtEnd now.wire.left → StopsRun now run taken replies behind octets
 
 -- the octets stop the run, and all was done before
-pub record StopsByOctets (path_of : List ℕ → Option (Option Address)) (before now : Around) (bag : Mailbag before.desk.store.kept) (replies : List Reply) (behind given octets : List ℕ) (end : RelayEnd) : Type 0 where
-  pub stops : StopsRun now (run_of before bag.letters replies) replies behind octets
+pub record StopsByOctets (path_of : List ℕ → Option (Option Address)) (before now : Around) (bag : Mailbag before.desk.store.kept) (taken : List ℕ) (replies : List Reply) (behind given octets : List ℕ) (end : RelayEnd) : Type 0 where
+  pub stops : StopsRun now (run_of before bag.letters replies) taken replies behind octets
   pub does : DoesRun path_of before now bag replies given
   pub counts : HasNumbers bag.letters (run_of before bag.letters replies).acts does.count end
 
@@ -127,12 +128,14 @@ pub record FailsOnWire (path_of : List ℕ → Option (Option Address)) (before 
   pub breaks : BreaksRunOff path_of before now bag replies given fault.Wire
   pub counts : HasNumbers bag.letters breaks.first breaks.count end
 
+-- What a run has done by its end: it finished, the wire failed, or a reply stopped it.
 abbrev pub EndsRun : (path_of : List ℕ → Option (Option Address)) (before now : Around) (bag : Mailbag before.desk.store.kept) (entries : List Entry) (replies : List Reply) (behind : List ℕ) (end : RelayEnd) → Option LeftCause → Type 0
 EndsRun path_of before now bag entries replies behind end None = Finishes path_of before now bag replies (given_of entries) end
 EndsRun path_of before now bag entries replies behind end (Some cause.Dial) = ⊥
 EndsRun path_of before now bag entries replies behind end (Some cause.Wire) = FailsOnWire path_of before now bag replies (given_of entries) end
-EndsRun path_of before now bag entries replies behind end (Some (cause.Reply octets)) = StopsByOctets path_of before now bag replies behind (given_of entries) octets end
+EndsRun path_of before now bag entries replies behind end (Some (cause.Reply octets)) = StopsByOctets path_of before now bag (taken_of entries) replies behind (given_of entries) octets end
 
+-- What a run has done by its answer: it came to this end, or was broken off by a fault of the keeper or for want of memory.
 abbrev pub AnswersRelay : (path_of : List ℕ → Option (Option Address)) (before now : Around) (bag : Mailbag before.desk.store.kept) (entries : List Entry) (replies : List Reply) (behind : List ℕ) → Result RelayEnd Fault → Type 0
 AnswersRelay path_of before now bag entries replies behind (Ok end) = EndsRun path_of before now bag entries replies behind end end.cause
 AnswersRelay path_of before now bag entries replies behind (Err fault.Wire) = ⊥
@@ -157,7 +160,7 @@ pub data RelaysBy (path_of : List ℕ → Option (Option Address)) (before now :
   idle : open_numbers before.desk.store.kept.entries ≡ [] → now ≡ before → result ≡ Ok (record { sent = 0; reported = 0; left = 0; cause = None }) → RelaysBy path_of before now result
   begun : (bag : Mailbag before.desk.store.kept) → bag.queue ≢ [] → RelaysTo path_of before now bag result → RelaysBy path_of before now result
 
--- the same, whatever function reads paths
+-- What the relay does over a wire, whatever function reads paths.
 abbrev pub Relays : Around → Around → Result RelayEnd Fault → Type 0
 Relays before now result = WithPaths (λ path_of. RelaysBy path_of before now result)
 

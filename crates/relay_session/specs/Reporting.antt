@@ -59,6 +59,7 @@ abbrev pub report_changes : StoreState → Option Delivery → List (List Record
 report_changes store None = []
 report_changes store (Some delivery) = changes_of store delivery
 
+-- There is a report, and the store has room for it.
 abbrev pub is_report_kept : StoreState → Option Delivery → Bool
 is_report_kept store None = false
 is_report_kept store (Some delivery) = not (is_some (delivery_refusal store delivery))

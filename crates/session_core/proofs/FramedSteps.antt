@@ -13,7 +13,7 @@ use Rattle.mail_wire.specs.declared.framing.TheConstants.{LINE_MAX}
 use Rattle.mail_wire.specs.declared.outside.Fault.{Fault}
 use Rattle.mail_wire.proofs.FramingLemmas.{at_most_of, line_has_end, never_waiting, whole_line}
 use Rattle.session_core.specs.Around.{Around}
-use Rattle.session_core.specs.FramedLaws.{count_cut-some, count_cut-none, count_cut-zero, framed_by}
+use Rattle.session_core.specs.laws.FramedLaws.{count_cut-some, count_cut-none, count_cut-zero, framed_by}
 use Rattle.session_core.specs.FramedRows.{framed_next}
 use Rattle.session_core.specs.Grammar.{Grammar, Answers, IsUnit, Refuses, StandingRows, StandsNext, count_cut, cut_by, protocol_of, turn_by}
 use Rattle.session_core.specs.Meanings.{Meanings}

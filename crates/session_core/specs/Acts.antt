@@ -3,6 +3,7 @@ use Rattle.std.specs.Prelude.{ℕ, List, [], ◌∷◌, ◌++◌, map}
 use Rattle.journal_records.specs.declared.records.Record.{Record}
 use Rattle.surrogate_cache.specs.Caching.{Asked}
 
+-- What a session does, one step at a time.
 pub data Act (P : Type 0) : Type 0 where
   -- it gives this part of a reply
   gives : (part : P) → Act P
@@ -11,7 +12,7 @@ pub data Act (P : Type 0) : Type 0 where
   -- it fetches this message from its cache
   asks : (asked : Asked) → Act P
 
--- these changes, and then this reply
+-- A step makes these changes, and then gives this reply.
 abbrev pub acts_of : {P : Type 0} → List (List Record) → List P → List (Act P)
 acts_of made reply = map changes made ++ map gives reply
 
@@ -29,7 +30,7 @@ asked_in (gives part ∷ acts) = asked_in acts
 asked_in (changes records ∷ acts) = asked_in acts
 asked_in (asks asked ∷ acts) = asked ∷ asked_in acts
 
--- these messages are asked for, and then this is done
+-- A step asks its cache for these messages, and then does these acts.
 abbrev pub asking : {P : Type 0} → List Asked → List (Act P) → List (Act P)
 asking asked acts = map asks asked ++ acts
 

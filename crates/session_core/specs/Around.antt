@@ -11,6 +11,7 @@ pub record Loans : Type 0 where
   pub keeper : GName
   pub clock : GName
 
+-- The outside of a session: its wire, its keeper and its clock, and the desk.
 pub record Around : Type 0 where
   pub wire : Telling
   pub keeper : KeeperTelling

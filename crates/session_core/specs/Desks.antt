@@ -5,7 +5,8 @@ use Rattle.kept_mail.specs.declared.limits.TheConstants.{MESSAGE_MAX}
 use Rattle.journal_records.specs.Addresses.{IsDomainText}
 use Rattle.journal_records.specs.declared.records.Record.{Record}
 use Rattle.kept_mail.specs.Kept.{Kept, name_of}
-use Rattle.mail_store.specs.Catching.{HasReadFirst, IsBadFrom}
+use Rattle.mail_store.specs.Answers.{OpensTo}
+use Rattle.mail_store.specs.Catching.{CatchesUp, HasReadFirst, IsBadFrom}
 use Rattle.mail_store.specs.StoreState.{StoreState, AreStored}
 use Rattle.kept_mail.specs.declared.kept.Message.{Message}
 use Rattle.surrogate_cache.specs.Caching.{CacheState, HoldsEach, IsStoredOf}
@@ -78,6 +79,11 @@ stored_octets store id = kept_octets store.kept id
 -- the date of a message of the store
 abbrev pub stored_date : StoreState → ℕ → List ℕ
 stored_date store id = option_map_or (λ (message : Message). message.date) (slice_get store.kept.messages id) []
+
+-- The store of the desk for the next session: a journal is opened, or the store of the desk that was kept catches up with it.
+abbrev pub OpensOrCatchesUp : Option Desk → List ℕ → Option (List ℕ) → Kept → Type 0
+OpensOrCatchesUp None old new kept = OpensTo old new kept
+OpensOrCatchesUp (Some desk) old new kept = OpensTo old new kept ⊎ CatchesUp desk.store old new kept
 
 -- The cache of the desk for the next session is that of the desk that was kept. It is new where none was, or where the store that was
 -- kept can't go on with the octets.

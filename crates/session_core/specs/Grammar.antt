@@ -9,7 +9,7 @@ use Rattle.mail_store.specs.StoreState.{StoreState}
 use Rattle.session_core.specs.Around.{Around}
 use Rattle.session_core.specs.Doing.{Does}
 use Rattle.session_core.specs.Keeps.{fault_of}
-use Rattle.session_core.specs.Meanings.{Meanings, WithMeanings}
+use Rattle.session_core.specs.Meanings.{AreMeanings, Meanings, WithMeanings}
 use Rattle.session_core.specs.Moments.{Moment, IsTold}
 use Rattle.session_core.specs.Protocol.{Protocol}
 use Rattle.session_core.specs.declared.desk.Desk.{Desk}
@@ -21,9 +21,12 @@ pub record Row (S P : Type 0) : Type 0 where
   pub acts : List (Act P)
   pub after : S
 
+-- A protocol by its rows: its states, what it opens with, what each state reads, and what is done for it.
 pub record Grammar : Type 1 where
+  -- states, each with its store, and parts of replies
   pub S : Type 0
   pub P : Type 0
+  -- what a session does first, and its state then, with the moments that are still to come
   pub opening : StoreState → List (Act P)
   pub start : List Moment → StoreState → S
   -- what a state reads next; one that has ended reads nothing
@@ -31,11 +34,13 @@ pub record Grammar : Type 1 where
   -- the row of what was read, and that of a line that is too long
   pub row : Meanings → S → List ℕ → Row S P
   pub long_row : Meanings → S → Row S P
+  -- the octets of a part, and what may be sent
   pub spelled : Meanings → P → List ℕ
   pub Fits : Meanings → P → Type 0
+  -- whatever such a state is asked for, its replies may be sent
   pub IsSound : S → Type 0
 
--- so many octets, one at least
+-- The first octets of a stream, so many and one at least, and what follows them.
 unfoldable pub count_cut : ℕ → List ℕ → Framed
 count_cut zero octets = waiting
 count_cut (suc n) octets = if nat_le (suc n) (length octets) then whole (take (suc n) octets) (drop (suc n) octets) else waiting
@@ -58,6 +63,7 @@ abbrev pub turn_in : (grammar : Grammar) → Meanings → grammar.S → Option W
 turn_in grammar meanings state None octets = None
 turn_in grammar meanings state (Some want) octets = turn_by grammar meanings state (cut_by want octets)
 
+-- The protocol that these rows are.
 abbrev pub protocol_of : Grammar → Protocol
 protocol_of grammar = record {
   S = grammar.S;
@@ -90,7 +96,7 @@ pub record BeginsRows (grammar : Grammar) {R : Type 0} (stands : StandingRows gr
   pub does : WithMeanings (λ meanings. Does (grammar.spelled meanings) before now (fault_of result) (grammar.opening before.desk.store))
   pub stands_for : IfOk result (λ rows. (moments : List Moment) → stands moments rows now.desk (grammar.start moments before.desk.store))
 
--- this row was done
+-- The row was done, or the first of it, and the rows stand for the state after it.
 pub record AnswersBy (grammar : Grammar) {R : Type 0} (stands : StandingRows grammar R) (meanings : Meanings) (before now : Around) (result : Result (Option R) Fault) (more : List Moment) (row : Row grammar.S grammar.P) : Type 0 where
   pub does : Does (grammar.spelled meanings) before now (fault_of result) row.acts
   pub next : IfOk result (λ next. StandsNext grammar stands more next now.desk row.after)
@@ -112,6 +118,14 @@ Refuses grammar stands before now rows result =
 pub record IsFitRow (grammar : Grammar) (meanings : Meanings) (row : Row grammar.S grammar.P) : Type 0 where
   pub fit : AllByRecursion (IsFitAct (grammar.Fits meanings)) row.acts
   pub sound : grammar.IsSound row.after
+
+-- The row of each unit that a sound state reads gives only what may be sent, and leaves a sound state.
+abbrev pub RowsFit : Grammar → Type 0
+RowsFit grammar = (meanings : Meanings) → AreMeanings meanings → (state : grammar.S) (unit : List ℕ) → grammar.IsSound state → IsFitRow grammar meanings (grammar.row meanings state unit)
+
+-- So does the row of a line that is too long, in each sound state.
+abbrev pub LongRowsFit : Grammar → Type 0
+LongRowsFit grammar = (meanings : Meanings) → AreMeanings meanings → (state : grammar.S) → grammar.IsSound state → IsFitRow grammar meanings (grammar.long_row meanings state)
 
 -- what a session does first, as a row
 abbrev pub opening_row : (grammar : Grammar) → List Moment → StoreState → Row grammar.S grammar.P

@@ -13,6 +13,6 @@ pub mod Steps
 pub mod Sessions
 pub mod Grammar
 pub mod FramedRows
-pub mod FramedLaws
+pub mod laws
 pub mod Served
 pub mod Serving

@@ -11,22 +11,27 @@ use Rattle.imap_grammar.specs.FirstDue.{Due, ReadsCommands}
 use Rattle.imap_mailboxes.specs.Names.{ReadsMailboxes}
 use Rattle.imap_views.specs.Views.{View, GivesViews, GivesOutlines}
 
+-- What sessions take from other definitions: surrogates, paths, trees, commands, names and views.
 pub record Meanings : Type 0 where
+  -- the surrogate of a message
   pub surrogate : List ℕ → List ℕ
+  -- what a text says that may be a path; the null path has no address
   pub path_of : List ℕ → Option (Option Address)
+  -- whether octets have a tree of entities, and these entities
   pub has_tree : List ℕ → Bool
   pub outlines : List ℕ → List Outline
-  -- by whether the session has enabled UTF-8, what was seen of a command, and what follows
+  -- what is due first, by whether the session has enabled UTF-8, what was seen of a command, and what follows
   pub event_of : Bool → List ℕ → List ℕ → Option Due
-  -- by whether the session has enabled UTF-8
+  -- the mailbox that a text names, by whether the session has enabled UTF-8
   pub name_of : Bool → List ℕ → Option (List ℕ)
+  -- a view of octets
   pub view_of : View → List ℕ → List ℕ
 
 -- the function tells which octets have a tree of entities
 abbrev pub TellsTrees : (List ℕ → Bool) → Type 0
 TellsTrees has_tree = (octets : List ℕ) → IsTrue (has_tree octets) ↔ IsStored octets
 
--- they give surrogates, read paths, tell trees and their entities, read commands and names, and give views
+-- The functions are right: they give surrogates, read paths, tell trees and their entities, read commands and names, and give views.
 pub record AreMeanings (meanings : Meanings) : Type 0 where
   pub surrogates : GivesSurrogates meanings.surrogate
   pub paths : ReadsPaths meanings.path_of

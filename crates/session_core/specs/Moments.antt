@@ -9,7 +9,7 @@ pub record Moment : Type 0 where
   pub date : List ℕ
   pub internal : List ℕ
 
--- they are the texts of these seconds
+-- The texts of a moment are those of these seconds.
 pub record IsMoment (seconds : ℕ) (moment : Moment) : Type 0 where
   pub bound : seconds < CLOCK_END
   pub date : IsDateText seconds moment.date

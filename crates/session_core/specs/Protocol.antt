@@ -7,6 +7,7 @@ use Rattle.mail_store.specs.StoreState.{StoreState}
 use Rattle.session_core.specs.Meanings.{Meanings}
 use Rattle.session_core.specs.Moments.{Moment}
 
+-- A protocol: its states, its turns, and what may be sent.
 pub record Protocol : Type 1 where
   -- states, each with its store, and parts of replies
   pub S : Type 0

@@ -95,10 +95,11 @@ pub record IsSent (course : Course) (store after : StoreState) (had has : Option
 
 -- ---- what the call does
 
+-- The octets begin with these.
 abbrev pub IsPrefixOf : List ℕ → List ℕ → Type 0
 IsPrefixOf front whole = (rest : List ℕ) × (whole ≡ front ++ rest)
 
--- this holds of each take: of what was taken before it, these octets first, and of what it takes
+-- The relation holds of each take of a transcript: of what was taken before it, these octets first, and of what it takes.
 abbrev pub EachTake : (List ℕ → List ℕ → Type 0) → List ℕ → List Entry → Type 0
 EachTake May taken [] = Unit {0}
 EachTake May taken (Taken octets ∷ entries) = May taken octets × EachTake May (taken ++ octets) entries
@@ -155,6 +156,6 @@ pub record ServesFrom (course : Course) (before now : Around) (served : Served) 
   pub taken : met_of served ≡ None → Fetched before.desk.cache (asked_for course before.desk.store (taken_of serves.lawful.entries)) now.desk.cache
   pub whole : served ≡ Ended → IfSome before.wire.left (λ octets. Fetched before.desk.cache (asked_for course before.desk.store octets) now.desk.cache)
 
--- the same of a protocol
+-- What a call that serves a protocol does, whatever functions give its meanings.
 abbrev pub ServesBy : Protocol → Around → Around → Served → Type 0
 ServesBy protocol before now served = OfCourse protocol before.clock (λ course. ServesFrom course before now served)

@@ -20,11 +20,12 @@ abbrev pub StandsFor : (protocol : Protocol) {M : Type 0} → Standing protocol 
 StandsFor protocol stands more (variant.Open reading) desk state rest = stands more reading.machine reading.kept desk state rest
 StandsFor protocol stands more variant.Ended desk state rest = protocol.HasEnded state
 
--- it has kept no whole turn, and has what it needs
+-- The session has kept no whole turn, and has what it needs.
 abbrev pub IsReady : {M : Type 0} → (M → List ℕ → Desk → Type 0) → Session M → Desk → Type 0
 IsReady is_ready (variant.Open reading) desk = is_ready reading.machine reading.kept desk
 IsReady is_ready variant.Ended desk = Unit {0}
 
+-- The session has ended.
 abbrev pub HasEnded : {M : Type 0} → Session M → Type 0
 HasEnded (variant.Open reading) = ⊥
 HasEnded variant.Ended = Unit {0}

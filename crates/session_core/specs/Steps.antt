@@ -27,10 +27,12 @@ abbrev pub StandsAfter : (protocol : Protocol) {M : Type 0} → Standing protoco
 StandsAfter protocol stands more None kept desk state rest = protocol.HasEnded state
 StandsAfter protocol stands more (Some machine) kept desk state rest = stands more machine kept desk state rest
 
+-- The machine that a step leaves, if any, has what it needs.
 abbrev pub IsReadyNext : {M : Type 0} → (M → List ℕ → Desk → Type 0) → Option M → List ℕ → Desk → Type 0
 IsReadyNext is_ready None kept desk = Unit {0}
 IsReadyNext is_ready (Some machine) kept desk = is_ready machine kept desk
 
+-- The machine that comes of a piece, if any, has what it needs.
 abbrev pub IsReadyAfter : {M : Type 0} → (M → List ℕ → Desk → Type 0) → Came M → List ℕ → Desk → Type 0
 IsReadyAfter is_ready came kept desk = IsReadyNext is_ready came.next kept desk
 

@@ -12,7 +12,7 @@ pub record Turn (S P : Type 0) : Type 0 where
 abbrev pub stay : {S P : Type 0} → S → List ℕ → Turn S P
 stay s octets = record { parts = []; after = s; rest = octets }
 
--- these parts were given before
+-- The turn with these parts before its parts.
 abbrev pub behind : {S P : Type 0} → List P → Turn S P → Turn S P
 behind parts turn = record { parts = parts ++ turn.parts; after = turn.after; rest = turn.rest }
 

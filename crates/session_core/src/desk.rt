@@ -3,7 +3,7 @@ ghost use Rattle.std.specs.Prelude.{◌≡◌, length, IfOk, IfErr, IfSome, OnEr
 ghost use Rattle.mail_wire.specs.Keeping.{HasKeeperCause};
 ghost use Rattle.mail_store.specs.Answers.{IsFold, OpensTo, IsJournalFault, LeavesRecords};
 ghost use Rattle.mail_store.specs.Catching.{ReadsOn, CatchesUp, IsCatchFault};
-ghost use Rattle.session_core.specs.Desks.{AreLimits, HasFirst, IsNextCache, IsOpen, WorksWithin, new_cache};
+ghost use Rattle.session_core.specs.Desks.{AreLimits, HasFirst, IsNextCache, IsOpen, OpensOrCatchesUp, WorksWithin, new_cache};
 
 use kept_mail::MESSAGE_MAX;
 use mail_store::{OpenFault, Store};
@@ -98,6 +98,8 @@ pub fn next_desk<J: Keeper>(
     requires kept { IfSome kept (WorksWithin limits) }
     // Its store is the fold of the whole records that are there, whoever wrote them, and the keeper holds them and nothing more.
     ensures opens { IfOk result (λ desk. IfSome (J.tells keeper.old).octets (λ old. HasFirst kept old → OpensTo old (J.tells keeper.new).octets desk.store.kept)) }
+    // Whatever the desk had that was kept, no record goes: at most a prefix of one is cut off.
+    ensures anew { IfOk result (λ desk. IfSome (J.tells keeper.old).octets (λ old. OpensOrCatchesUp kept old (J.tells keeper.new).octets desk.store.kept)) }
     ensures end { IfOk result (λ desk. IfSome (J.tells keeper.new).octets (λ octets. desk.store.end ≡ length octets)) }
     ensures open { IfOk result IsOpen }
     ensures limits { IfOk result (λ desk. desk.limits ≡ limits) }

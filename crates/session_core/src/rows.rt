@@ -4,12 +4,12 @@ ghost use Rattle.mail_wire.specs.Framing.{waiting, framed_as, ends_in};
 ghost use Rattle.session_core.specs.declared.desk.Desk.{Desk as DeskValue};
 ghost use Rattle.session_core.specs.declared.rows.Wants.{Wants as Wanted};
 ghost use Rattle.session_core.specs.Desks.{IsOpen};
-ghost use Rattle.session_core.specs.FramedLaws.{RowsFit, LongRowsFit, framed_by, waits_by, goes_on_by, quiet_by, fits_by};
 ghost use Rattle.session_core.specs.FramedRows.{framed_next};
-ghost use Rattle.session_core.specs.Grammar.{Grammar, Answers, IsFitRow, IsUnit, BeginsRows, Refuses, cut_by, opening_row, protocol_of};
+ghost use Rattle.session_core.specs.Grammar.{Grammar, Answers, BeginsRows, IsFitRow, IsUnit, LongRowsFit, Refuses, RowsFit, cut_by, opening_row, protocol_of};
 ghost use Rattle.session_core.specs.Keeps.{Keeps, fault_of};
 ghost use Rattle.session_core.specs.Meanings.{Meanings, AreMeanings};
 ghost use Rattle.session_core.specs.Moments.{Moment};
+ghost use Rattle.session_core.specs.laws.FramedLaws.{framed_by, waits_by, goes_on_by, quiet_by, fits_by};
 
 use crate::machine::{Came, Machine};
 use crate::outside::Outside;

@@ -1,2 +1,2 @@
 pub mod Echo
-pub mod EchoLaws
+pub mod laws

@@ -4,7 +4,7 @@ ghost use Rattle.std.specs.Str.{bytes_eq};
 ghost use Rattle.session_core.specs.Grammar.{Answers};
 ghost use Rattle.session_core.specs.Keeps.{Keeps, fault_of};
 ghost use Rattle.session_tests.specs.Echo.{EchoStands, echo_grammar, literal_of, quit, wanted_by};
-ghost use Rattle.session_tests.specs.EchoLaws.{agrees_by, lines_fit, rows_fit_by};
+ghost use Rattle.session_tests.specs.laws.EchoLaws.{agrees_by, lines_fit, rows_fit_by};
 
 use mail_wire::{Clock, Fault, Keeper, Octets, Wire};
 use session_core::{Outside, Rows, Wants};

@@ -2,12 +2,12 @@
 use Rattle.std.specs.Prelude.{◌≡◌, ℕ, ◌==◌, Bool, true, false, not, List, [], ◌∷◌}
 use Rattle.std.specs.List.{list_all}
 
--- it isn't empty and doesn't begin with `-`
+-- The word isn't empty and doesn't begin with `-`.
 abbrev pub is_plain_word : List ℕ → Bool
 is_plain_word [] = false
 is_plain_word (x ∷ word) = not (x == 45)
 
--- this name, and behind it only such words
+-- The words are this name, and behind it only words that aren't empty and don't begin with `-`.
 pub record IsCalled (name : List ℕ) (words : List (List ℕ)) : Type 0 where
   pub rest : List (List ℕ)
   pub words_are : words ≡ name ∷ rest

@@ -28,5 +28,6 @@ pub record IsDomainCommand (words : List (List ℕ)) (name : List ℕ) : Type 0 
   pub plain : is_plain_word name ≡ true
   pub form : normal_form name ≢ None
 
+-- The one word is `help`.
 abbrev pub IsHelpCommand : List (List ℕ) → Type 0
 IsHelpCommand words = words ≡ codes "help" ∷ []

@@ -15,6 +15,6 @@ pub use helping::{VERSION, run_help};
 pub use refusals::{tell, tell_unopened};
 pub use statuses::{
     ADDING_REFUSED, BAD_JOURNAL, DONE, KEEPER_FAULT, LEFT_QUEUED, LIMIT_REACHED, MESSAGE_REFUSED,
-    WANT_OF_MEMORY, WIRE_FAULT, WORDS_REFUSED,
+    WANT_OF_MEMORY, WIRE_FAULT, WORDS_REFUSED, statuses_are_these,
 };
 pub use word_forms::{AccountWords, is_plain, read_account, read_domain};

@@ -1,4 +1,6 @@
 //! The statuses that commands end with.
+ghost use Rattle.std.specs.Prelude.{◌≡◌};
+ghost use Rattle.setup_command.specs.declared.statuses.TheConstants.{DONE, WIRE_FAULT, KEEPER_FAULT, WANT_OF_MEMORY, WORDS_REFUSED, BAD_JOURNAL, LIMIT_REACHED, MESSAGE_REFUSED, LEFT_QUEUED, ADDING_REFUSED};
 
 /// All was done.
 pub const DONE: u8 = 0;
@@ -29,3 +31,17 @@ pub const LEFT_QUEUED: u8 = 8;
 
 /// The store refuses what is to be added.
 pub const ADDING_REFUSED: u8 = 9;
+
+/// The statuses have these values, on which scripts rely.
+pub fn statuses_are_these()
+    ensures done { DONE ≡ 0 }
+    ensures wire { WIRE_FAULT ≡ 1 }
+    ensures keeper { KEEPER_FAULT ≡ 2 }
+    ensures memory { WANT_OF_MEMORY ≡ 3 }
+    ensures words { WORDS_REFUSED ≡ 4 }
+    ensures journal { BAD_JOURNAL ≡ 5 }
+    ensures limit { LIMIT_REACHED ≡ 6 }
+    ensures message { MESSAGE_REFUSED ≡ 7 }
+    ensures queued { LEFT_QUEUED ≡ 8 }
+    ensures adding { ADDING_REFUSED ≡ 9 }
+{}

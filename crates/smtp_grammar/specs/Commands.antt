@@ -1,10 +1,11 @@
 -- The words of a command line (RFC 5321, 4.1; RFC 6531, 3.4).
-use Rattle.std.specs.Prelude.{ℕ, ◌+◌, ◌-◌, ◌^◌, ◌==◌, ◌&&◌, ◌||◌, not, List, [], ◌∷◌, Bool, true, false, Option, None, Some, length, take, drop, map, codes, if◌then◌else◌, nat_le, nat_lt, min, position, filter}
+use Rattle.std.specs.Prelude.{ℕ, ◌+◌, ◌-◌, ◌^◌, ◌==◌, ◌&&◌, ◌||◌, not, List, [], ◌∷◌, Bool, true, false, Option, None, Some, length, take, drop, map, codes, if◌then◌else◌, unwrap_or, nat_le, nat_lt, min, position, filter}
 use Rattle.std.specs.Option.{option_map, option_and_then}
 use Rattle.std.specs.List.{before_first, list_all, list_any, slice_split, position_or_len, suffix_len}
 use Rattle.std.specs.Str.{bytes_eq}
 use Rattle.std.specs.Char.{to_ascii_lowercase, is_ascii_alphanumeric}
 use Rattle.mail_wire.specs.Numbers.{number_of}
+use Rattle.mail_wire.specs.Tables.{Named, said_by}
 use Rattle.mail_wire.specs.Octets.{is_white, is_black, same_name}
 use Rattle.smtp_grammar.specs.declared.command.Verb.{Verb}
 use Rattle.smtp_grammar.specs.declared.command.Verb.TheVariants as verb
@@ -25,22 +26,22 @@ before_white text = take (length text - suffix_len is_white text) text
 
 -- ---- the verb
 
--- the verb of this name, which is in lower case
-abbrev pub verb_named : List ℕ → Verb
-verb_named name =
-    if bytes_eq name (codes "ehlo") then verb.Ehlo
-    else (if bytes_eq name (codes "helo") then verb.Helo
-    else (if bytes_eq name (codes "mail") then verb.Mail
-    else (if bytes_eq name (codes "rcpt") then verb.Rcpt
-    else (if bytes_eq name (codes "data") then verb.Data
-    else (if bytes_eq name (codes "rset") then verb.Rset
-    else (if bytes_eq name (codes "noop") then verb.Noop
-    else (if bytes_eq name (codes "vrfy") then verb.Vrfy
-    else (if bytes_eq name (codes "quit") then verb.Quit else verb.Other))))))))
+-- the verbs that are read
+abbrev pub verbs : List (Named Verb)
+verbs =
+    record { word = codes "ehlo"; says = verb.Ehlo }
+    ∷ record { word = codes "helo"; says = verb.Helo }
+    ∷ record { word = codes "mail"; says = verb.Mail }
+    ∷ record { word = codes "rcpt"; says = verb.Rcpt }
+    ∷ record { word = codes "data"; says = verb.Data }
+    ∷ record { word = codes "rset"; says = verb.Rset }
+    ∷ record { word = codes "noop"; says = verb.Noop }
+    ∷ record { word = codes "vrfy"; says = verb.Vrfy }
+    ∷ record { word = codes "quit"; says = verb.Quit } ∷ []
 
 -- verbs are read in any case
 abbrev pub verb_of : List ℕ → Verb
-verb_of word = verb_named (map to_ascii_lowercase word)
+verb_of word = unwrap_or (said_by verbs word) verb.Other
 
 -- A command: its verb, which is the first word, and what stands behind it, without white at both ends.
 pub record Command : Type 0 where
@@ -51,9 +52,11 @@ pub record Command : Type 0 where
 abbrev pub text_of : List ℕ → List ℕ
 text_of line = after_white (before_white (take (length line - 2) line))
 
+-- The command of a text: its verb up to the first white, and what follows the white (RFC 5321, 2.4).
 abbrev pub command_of_text : List ℕ → Command
 command_of_text text = record { verb = verb_of (before_first is_white text); argument = after_white (drop (position_or_len is_white text) text) }
 
+-- The command of a line (RFC 5321, 2.4).
 abbrev pub command_of : List ℕ → Command
 command_of line = command_of_text (text_of line)
 
@@ -69,7 +72,8 @@ is_client name = nat_lt 0 (length name) && nat_le (length name) 255 && list_all 
 
 -- ---- the path of MAIL and RCPT
 
--- The place behind an octet: 34 is a quote, 91 and 93 are the brackets of a literal, and 92 is a backslash, which takes the next octet with it in quotes and in a literal.
+-- The place behind an octet: 34 is a quote, 91 and 93 are the brackets of a literal, and 92 is a backslash, which takes the next octet with it
+-- in quotes and in a literal.
 abbrev pub path_place_after : Place → ℕ → Place
 path_place_after place.Plain x = if x == 34 then place.Quoted else (if x == 91 then place.Literal else place.Plain)
 path_place_after place.Quoted x = if x == 34 then place.Plain else (if x == 92 then place.QuotedPair else place.Quoted)
@@ -77,7 +81,7 @@ path_place_after place.QuotedPair x = place.Quoted
 path_place_after place.Literal x = if x == 93 then place.Plain else (if x == 92 then place.LiteralPair else place.Literal)
 path_place_after place.LiteralPair x = place.Literal
 
--- this octet stands here, outside of quotes and of a literal
+-- The octet stands at this place, outside of quotes and of a literal.
 abbrev pub stands_plain : ℕ → Place → ℕ → Bool
 stands_plain octet place.Plain x = x == octet
 stands_plain octet place.Quoted x = false
@@ -116,10 +120,12 @@ abbrev pub stands_apart : List ℕ → Bool
 stands_apart [] = true
 stands_apart (x ∷ rest) = is_white x
 
+-- The text begins with `<`, as a path does (RFC 5321, 4.1.2).
 abbrev pub begins_path : List ℕ → Bool
 begins_path [] = false
 begins_path (x ∷ rest) = x == 60
 
+-- A path of so many octets and what follows it, where this is nothing or begins with white.
 abbrev pub path_and_rest : List ℕ → ℕ → Option PathAndRest
 path_and_rest text n = if stands_apart (drop n text) then Some (record { path = take n text; rest = drop n text }) else None
 
@@ -133,6 +139,7 @@ path_behind word argument = option_and_then path_in (behind_word word argument)
 
 -- ---- the parameters of MAIL (RFC 1870, 3; RFC 6152, 2; RFC 6531, 3.4)
 
+-- The `=` between the keyword of a parameter and its value (RFC 5321, 4.1.2).
 abbrev pub is_sign : ℕ → Bool
 is_sign x = x == 61
 
@@ -154,10 +161,12 @@ abbrev pub size_parameter : Option (List ℕ) → Parameter
 size_parameter None = parameter.Malformed
 size_parameter (Some value) = size_said (option_map (λ number. min number (2 ^ 64 - 1)) (number_of value))
 
+-- BODY with 7BIT or 8BITMIME, in any case of their letters (RFC 6152, 2).
 abbrev pub body_parameter : Option (List ℕ) → Parameter
 body_parameter None = parameter.Malformed
 body_parameter (Some value) = if same_name value (codes "7bit") || same_name value (codes "8bitmime") then parameter.Body else parameter.Malformed
 
+-- SMTPUTF8, which has no value (RFC 6531, 3.4).
 abbrev pub smtputf8_parameter : Option (List ℕ) → Parameter
 smtputf8_parameter None = parameter.Smtputf8
 smtputf8_parameter (Some value) = parameter.Malformed
@@ -169,6 +178,7 @@ parameter_named keyword value =
     else (if bytes_eq keyword (codes "body") then body_parameter value
     else (if bytes_eq keyword (codes "smtputf8") then smtputf8_parameter value else parameter.Unknown))
 
+-- What a word behind the path of MAIL asks for.
 abbrev pub parameter_of : List ℕ → Parameter
 parameter_of word = parameter_named (parameter_keyword word) (parameter_value word)
 
@@ -177,6 +187,7 @@ abbrev pub has_twice : List (List ℕ) → Bool
 has_twice [] = false
 has_twice (word ∷ words) = list_any (λ other. bytes_eq (parameter_keyword other) (parameter_keyword word)) words || has_twice words
 
+-- The parameter has a value that its keyword doesn't allow.
 abbrev pub is_malformed : Parameter → Bool
 is_malformed (parameter.Size octets) = false
 is_malformed parameter.Body = false
@@ -184,6 +195,7 @@ is_malformed parameter.Smtputf8 = false
 is_malformed parameter.Malformed = true
 is_malformed parameter.Unknown = false
 
+-- The keyword is none that this server offers.
 abbrev pub is_unknown : Parameter → Bool
 is_unknown (parameter.Size octets) = false
 is_unknown parameter.Body = false
@@ -191,6 +203,7 @@ is_unknown parameter.Smtputf8 = false
 is_unknown parameter.Malformed = false
 is_unknown parameter.Unknown = true
 
+-- The parameter is SMTPUTF8 (RFC 6531, 3.4).
 abbrev pub is_smtputf8 : Parameter → Bool
 is_smtputf8 (parameter.Size octets) = false
 is_smtputf8 parameter.Body = false

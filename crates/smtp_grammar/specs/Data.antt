@@ -17,6 +17,7 @@ end_cut (x ∷ rest) =
     if bytes_eq (take 5 (x ∷ rest)) data_end then Some (record { line = crlf; rest = drop 5 (x ∷ rest) })
     else option_map (begun_with x) (end_cut rest)
 
+-- Data without the CRLF before them, which is that of the command DATA (RFC 5321, 4.1.1.4).
 abbrev pub behind_command : Cut → Cut
 behind_command cut = record { line = drop 2 cut.line; rest = cut.rest }
 

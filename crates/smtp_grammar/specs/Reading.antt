@@ -35,6 +35,7 @@ pub record KeepsTail (reader : DataReader) (lines : List (List ℕ)) (front : Li
   pub line : reader.line ≡ last_four front
   pub long : SayTooMuch reader.limit (concat lines ++ front)
 
+-- What a reader keeps of data: all of them, or no more than what shows their end once they pass the limit.
 abbrev pub KeepsAs : (dropped : Bool) (reader : DataReader) (lines : List (List ℕ)) (front : List ℕ) → Type 0
 KeepsAs true reader lines front = KeepsTail reader lines front
 KeepsAs false reader lines front = KeepsAll reader lines front

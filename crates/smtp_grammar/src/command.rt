@@ -6,7 +6,7 @@ ghost use Rattle.mail_wire.specs.Octets.{is_white, is_black};
 ghost use Rattle.smtp_grammar.specs.declared.command.Place.TheVariants.{Plain};
 ghost use Rattle.smtp_grammar.specs.Commands.{command_of, verb_of, before_white, after_white, is_client as is_client_of, is_client_octet, path_place_after, stands_plain, path_len, behind_word, behind_space, begins_path, stands_apart, path_behind as path_behind_of, white_words, are_malformed, is_malformed, is_unknown, is_smtputf8, is_sign, parameter_value, size_said as size_said_of, size_parameter, body_parameter, parameter_of, announced};
 
-use mail_wire::{Memory, is_same_name, is_white, read_number};
+use mail_wire::{Memory, TableWord, find_word, is_same_name, is_white, read_number};
 use std::alloc::Global;
 use std::collections::BTreeSet;
 
@@ -69,31 +69,23 @@ fn before_white(text: &[u8]) -> &[u8]
     &text[..end]
 }
 
-#[tactic(auto, unfolding(mail_wire::specs::Octets::same_name))]
+// The verbs that are read.
+const VERBS: [TableWord<Verb>; 9] = [
+    TableWord(b"ehlo", Verb::Ehlo),
+    TableWord(b"helo", Verb::Helo),
+    TableWord(b"mail", Verb::Mail),
+    TableWord(b"rcpt", Verb::Rcpt),
+    TableWord(b"data", Verb::Data),
+    TableWord(b"rset", Verb::Rset),
+    TableWord(b"noop", Verb::Noop),
+    TableWord(b"vrfy", Verb::Vrfy),
+    TableWord(b"quit", Verb::Quit),
+];
+
 fn read_verb(word: &[u8]) -> Verb
     ensures { result ≡ verb_of word.now }
 {
-    if is_same_name(word, b"ehlo") {
-        Verb::Ehlo
-    } else if is_same_name(word, b"helo") {
-        Verb::Helo
-    } else if is_same_name(word, b"mail") {
-        Verb::Mail
-    } else if is_same_name(word, b"rcpt") {
-        Verb::Rcpt
-    } else if is_same_name(word, b"data") {
-        Verb::Data
-    } else if is_same_name(word, b"rset") {
-        Verb::Rset
-    } else if is_same_name(word, b"noop") {
-        Verb::Noop
-    } else if is_same_name(word, b"vrfy") {
-        Verb::Vrfy
-    } else if is_same_name(word, b"quit") {
-        Verb::Quit
-    } else {
-        Verb::Other
-    }
+    find_word(&VERBS, word).unwrap_or(Verb::Other)
 }
 
 /// The command of a line, which has its CRLF.

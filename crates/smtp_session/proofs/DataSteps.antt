@@ -28,7 +28,7 @@ use Rattle.smtp_session.specs.declared.states.Smtp.{Smtp}
 use Rattle.smtp_session.specs.declared.states.SmtpState.TheVariants as smtp
 use Rattle.smtp_session.specs.Machine.{Step, acts_in, delivery_of, end_data, greeted, says, too_large}
 use Rattle.smtp_session.specs.Session.{Machine, SmtpStands, after_step, data_turn, line_octets, machine_of, next_turn, smtp_protocol}
-use Rattle.smtp_session.specs.SmtpLaws.{framed_by}
+use Rattle.smtp_session.specs.laws.SmtpLaws.{framed_by}
 use Rattle.smtp_session.specs.private.Steps.{IsFirst}
 use Rattle.smtp_session.proofs.LineSteps.{store_behind}
 

@@ -27,7 +27,7 @@ use Rattle.smtp_session.specs.declared.states.SmtpState.{SmtpState}
 use Rattle.smtp_session.specs.declared.states.SmtpState.TheVariants as smtp
 use Rattle.smtp_session.specs.Machine.{Step, acts_in, ended}
 use Rattle.smtp_session.specs.Session.{HasRest, IsUnfinished, KnowsState, Machine, SmtpStands, after_step, greeting, line_octets, line_too_long, line_turn, machine_of, next_turn, reply_octets, smtp_protocol, state_of, state_or_ended}
-use Rattle.smtp_session.specs.SmtpLaws.{framed_by, step-changes}
+use Rattle.smtp_session.specs.laws.SmtpLaws.{framed_by, step-changes}
 use Rattle.smtp_session.specs.private.Steps.{IsFirst, IsFirstNext, ReadsLines, state_behind, stepped}
 
 -- ---- states that read lines

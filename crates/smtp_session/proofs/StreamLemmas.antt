@@ -33,8 +33,8 @@ use Rattle.session_core.specs.Desks.{IsStoreName}
 use Rattle.session_core.specs.Moments.{Moment}
 use Rattle.smtp_session.proofs.IntakeLemmas.{HaveInboxes, delivered_once, have_inboxes, inboxes_after_all}
 use Rattle.smtp_session.proofs.KnownRecipients.{step-recipients}
-use Rattle.smtp_session.specs.SaidLines.{SaidLines, step_said}
-use Rattle.smtp_session.specs.SmtpLaws.{framed_by, named_after, step-changes}
+use Rattle.smtp_session.specs.laws.SaidLines.{SaidLines, step_said}
+use Rattle.smtp_session.specs.laws.SmtpLaws.{framed_by, named_after, step-changes}
 
 -- ---- no other line tells that a message is stored
 

@@ -31,7 +31,7 @@ use Rattle.session_core.specs.Meanings.{Meanings, TellsTrees}
 use Rattle.smtp_session.specs.Room.{IsWithinLimits}
 use Rattle.smtp_session.specs.Session.{Machine, after_step, data_turn, later_moments, next_moment, next_turn, turns_of}
 use Rattle.session_core.specs.Moments.{Moment}
-use Rattle.smtp_session.specs.SmtpLaws.{framed_by}
+use Rattle.smtp_session.specs.laws.SmtpLaws.{framed_by}
 
 -- ---- the limits
 

@@ -1,9 +1,8 @@
 pub mod Intake
 pub mod Machine
 pub mod Room
-pub mod SaidLines
 pub mod Session
-pub mod SmtpLaws
 pub mod Trace
 pub mod Transaction
+pub mod laws
 pub mod private

@@ -25,14 +25,17 @@ use Rattle.smtp_session.specs.Trace.{protocol, return_path, received}
 
 -- ---- states and steps
 
+-- The states of a session (RFC 5321, 4.1.4).
 pub data State : Type 0 where
   -- nobody has greeted
   fresh : State
+  -- EHLO or HELO was accepted
   greeted : (client : Client) → State
   -- MAIL was accepted, and these recipients
   mail : (client : Client) (envelope : Envelope) → State
   -- DATA was accepted
   collecting : (client : Client) (envelope : Envelope) → State
+  -- the session has ended
   ended : State
 
 -- What a command or the end of data does: the changes that it makes of the store, the records of one call each; the lines of its
@@ -50,36 +53,46 @@ acts_in taken = acts_of taken.changes taken.reply
 abbrev pub answers : List (List ℕ) → State → Step
 answers reply state = record { changes = []; reply = reply; state = state }
 
+-- A reply of one line, and nothing is changed.
 abbrev pub says : List ℕ → State → Step
 says text state = answers (text ∷ []) state
 
+-- A command was done (RFC 5321, 4.2.3).
 abbrev pub ok : State → Step
 ok state = says (codes "250 2.0.0 ok") state
 
+-- A command whose argument is malformed is answered 501 (RFC 5321, 4.2.3).
 abbrev pub bad_argument : State → Step
 bad_argument state = says (codes "501 5.5.4 bad argument") state
 
+-- A command that the state doesn't allow is answered 503 (RFC 5321, 4.1.4).
 abbrev pub out_of_order : State → Step
 out_of_order state = says (codes "503 5.5.1 out of order") state
 
+-- An address that isn't ASCII, in a transaction without SMTPUTF8, is answered 553 (RFC 6531, 3.5).
 abbrev pub needs_smtputf8 : State → Step
 needs_smtputf8 state = says (codes "553 5.6.7 address needs SMTPUTF8") state
 
+-- A message that is larger than one may be is answered 552 (RFC 1870, 6).
 abbrev pub too_large : State → Step
 too_large state = says (codes "552 5.3.4 too large") state
 
 -- ---- EHLO and HELO
 
+-- The reply of EHLO: the name of the server, and the extensions that it offers (RFC 5321, 4.1.1.1).
 abbrev pub offers : StoreState → List (List ℕ)
 offers store = (codes "250-" ++ name_of store.kept) ∷ codes "250-8BITMIME" ∷ (codes "250-SIZE " ++ decimal store.message_max)
     ∷ codes "250-SMTPUTF8" ∷ codes "250 ENHANCEDSTATUSCODES" ∷ []
 
+-- A client by the name that it gave, and by whether it said EHLO.
 abbrev pub client_of : List ℕ → Bool → Client
 client_of name extended = record { name = name; extended = extended }
 
+-- EHLO, where its argument may be a client's name (RFC 5321, 4.1.1.1).
 abbrev pub ehlo_step : State → StoreState → List ℕ → Step
 ehlo_step state store name = if is_client name then answers (offers store) (greeted (client_of name true)) else bad_argument state
 
+-- HELO, where its argument may be a client's name (RFC 5321, 4.1.1.1).
 abbrev pub helo_step : State → StoreState → List ℕ → Step
 helo_step state store name =
     if is_client name then says (codes "250 " ++ name_of store.kept) (greeted (client_of name false)) else bad_argument state
@@ -90,6 +103,7 @@ helo_step state store name =
 abbrev pub within_limit : Option Address → Option (Option Address)
 within_limit path = if nat_le (length (path_text path)) TEXT_MAX then Some path else None
 
+-- What a path says, where its text is within the limit; the null path says no address.
 abbrev pub path_read : Meanings → Option PathAndRest → Option (Option Address)
 path_read meanings given = option_and_then (λ (g : PathAndRest). option_and_then within_limit (meanings.path_of g.path)) given
 
@@ -99,13 +113,16 @@ lacks_smtputf8 smtputf8 path = not smtputf8 && not (list_all is_ascii (path_text
 
 -- ---- MAIL
 
+-- The parameters behind a path.
 abbrev pub words_behind : Option PathAndRest → List (List ℕ)
 words_behind None = []
 words_behind (Some given) = white_words given.rest
 
+-- The envelope of a transaction that begins, without recipients (RFC 5321, 2.3.1).
 abbrev pub envelope_of : Option Address → Bool → Envelope
 envelope_of path smtputf8 = record { path = path; smtputf8 = smtputf8; local = []; remote = [] }
 
+-- MAIL with this path and these parameters: they are checked, then the transaction begins (RFC 5321, 4.1.1.2).
 abbrev pub mail_to : Client → StoreState → Bool → Option Address → List (List ℕ) → Step
 mail_to client store smtputf8 path words =
     if are_malformed words then bad_argument (greeted client)
@@ -114,10 +131,12 @@ mail_to client store smtputf8 path words =
     else if nat_lt store.message_max (sum_by (λ word. announced (parameter_of word)) words) then too_large (greeted client)
     else says (codes "250 2.1.0 ok") (mail client (envelope_of path smtputf8))
 
+-- MAIL with a path that could be read, or not (RFC 5321, 4.1.1.2).
 abbrev pub mail_by : Client → StoreState → Option (Option Address) → List (List ℕ) → Step
 mail_by client store None words = bad_argument (greeted client)
 mail_by client store (Some path) words = mail_to client store (list_any (λ word. is_smtputf8 (parameter_of word)) words) path words
 
+-- MAIL, once a client has greeted and where no transaction is open (RFC 5321, 4.1.1.2).
 abbrev pub mail_step : Meanings → State → StoreState → List ℕ → Step
 mail_step meanings (greeted client) store argument =
     let given = path_behind (codes "FROM:") argument in
@@ -130,9 +149,11 @@ mail_step meanings state store argument = out_of_order state
 abbrev pub is_same_remote : Address → Address → Bool
 is_same_remote a b = bytes_eq a.local b.local && is_same_domain a.domain b.domain
 
+-- How many recipients an envelope has, local ones and others.
 abbrev pub envelope_recipient_count : Envelope → ℕ
 envelope_recipient_count envelope = length envelope.local + length envelope.remote
 
+-- A recipient was accepted (RFC 5321, 4.1.1.3).
 abbrev pub accepted : State → Step
 accepted state = says (codes "250 2.1.5 ok") state
 
@@ -143,15 +164,18 @@ with_room there client envelope with_one =
     else if nat_lt (envelope_recipient_count envelope) RECIPIENTS_MAX then accepted (mail client with_one)
     else says (codes "452 4.5.3 too many recipients") (mail client envelope)
 
+-- A recipient of one of the store's domains, who must have an account (RFC 5321, 3.3).
 abbrev pub rcpt_local : Client → Envelope → Option ℕ → Step
 rcpt_local client envelope None = says (codes "550 5.1.1 no such mailbox") (mail client envelope)
 rcpt_local client envelope (Some account) =
     with_room (list_any (λ other. other == account) envelope.local) client envelope (record envelope { local = envelope.local ++ account ∷ [] })
 
+-- A recipient of another domain, to whom the message is to be relayed (RFC 5321, 3.6).
 abbrev pub rcpt_remote : Client → Envelope → Address → Step
 rcpt_remote client envelope address =
     with_room (list_any (λ other. is_same_remote other address) envelope.remote) client envelope (record envelope { remote = envelope.remote ++ address ∷ [] })
 
+-- RCPT with a path that could be read, or not; its address is of one of the store's domains, or of another (RFC 5321, 4.1.1.3).
 abbrev pub rcpt_to : Meanings → Client → Envelope → StoreState → Option (Option Address) → Step
 rcpt_to meanings client envelope store None = bad_argument (mail client envelope)
 rcpt_to meanings client envelope store (Some None) = bad_argument (mail client envelope)
@@ -165,6 +189,7 @@ abbrev pub alone : Option PathAndRest → Option PathAndRest
 alone None = None
 alone (Some given) = if length (white_words given.rest) == 0 then Some given else None
 
+-- RCPT, in a transaction (RFC 5321, 4.1.1.3).
 abbrev pub rcpt_step : Meanings → State → StoreState → List ℕ → Step
 rcpt_step meanings (mail client envelope) store argument =
     rcpt_to meanings client envelope store (path_read meanings (alone (path_behind (codes "TO:") argument)))
@@ -172,6 +197,7 @@ rcpt_step meanings state store argument = out_of_order state
 
 -- ---- the other commands
 
+-- DATA, in a transaction with a recipient at least (RFC 5321, 4.1.1.4).
 abbrev pub data_step : State → Step
 data_step (mail client envelope) =
     if envelope_recipient_count envelope == 0 then out_of_order (mail client envelope) else says (codes "354 go ahead") (collecting client envelope)
@@ -221,5 +247,6 @@ end_by is_message store client delivery =
     else if is_some (delivery_refusal store delivery) then too_large (greeted client)
     else record { changes = delivered store.kept delivery ∷ []; reply = codes "250 2.0.0 stored" ∷ []; state = greeted client }
 
+-- The end of the data: the message is stored and queued, or it is refused (RFC 5321, 4.1.1.4).
 abbrev pub end_data : Meanings → StoreState → Client → Envelope → Moment → List ℕ → Step
 end_data meanings store client envelope moment octets = end_by (meanings.has_tree octets) store client (delivery_of store client envelope moment octets)

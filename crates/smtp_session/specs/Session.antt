@@ -39,6 +39,7 @@ abbrev pub next_moment : List Moment → Moment
 next_moment [] = record { date = []; internal = [] }
 next_moment (moment ∷ moments) = moment
 
+-- The moments behind the next one.
 abbrev pub later_moments : List Moment → List Moment
 later_moments [] = []
 later_moments (moment ∷ moments) = moments
@@ -47,6 +48,7 @@ later_moments (moment ∷ moments) = moments
 abbrev pub line_octets : List ℕ → List ℕ
 line_octets text = text ++ crlf
 
+-- The octets of a reply: its lines, each with CRLF.
 abbrev pub reply_octets : List (List ℕ) → List ℕ
 reply_octets lines = flat_map line_octets lines
 
@@ -54,9 +56,11 @@ reply_octets lines = flat_map line_octets lines
 abbrev pub IsFit : List ℕ → Type 0
 IsFit text = list_all is_ascii text ≡ true
 
+-- Each line of a reply is ASCII.
 abbrev pub AreFit : List (List ℕ) → Type 0
 AreFit lines = AllByRecursion IsFit lines
 
+-- What a line is answered that is longer than one may be; the session ends (RFC 5321, 4.5.3.1.9).
 abbrev pub line_too_long : List (List ℕ)
 line_too_long = codes "500 5.5.2 line too long" ∷ []
 
@@ -86,6 +90,7 @@ turn_from meanings (mail client envelope) machine octets = line_turn meanings ma
 turn_from meanings (collecting client envelope) machine octets = option_map (data_turn meanings machine client envelope) (data_cut octets)
 turn_from meanings ended machine octets = None
 
+-- The turn at the head of the octets, if there is one and the session hasn't ended.
 unfoldable pub next_turn : Meanings → Machine → List ℕ → Option (Turn Machine (Act (List ℕ)))
 next_turn meanings machine octets = turn_from meanings machine.state machine octets
 
@@ -93,9 +98,11 @@ next_turn meanings machine octets = turn_from meanings machine.state machine oct
 abbrev pub turns_of : Meanings → Machine → List ℕ → Turn Machine (Act (List ℕ))
 turns_of meanings machine octets = all_turns (next_turn meanings) machine octets
 
+-- The first line of a session, with the server's name (RFC 5321, 3.1).
 abbrev pub greeting : List ℕ → List (List ℕ)
 greeting name = (codes "220 " ++ (name ++ codes " ESMTP")) ∷ []
 
+-- A session begins before a client has greeted (RFC 5321, 3.1).
 abbrev pub start_of : StoreState → List Moment → Machine
 start_of store moments = record { state = fresh; store = store; moments = moments }
 
@@ -127,6 +134,7 @@ abbrev pub state_or_ended : Option SmtpState → State
 state_or_ended None = ended
 state_or_ended (Some session) = state_of session
 
+-- The machine that a session stands for, with the store of its desk and the moments to come.
 abbrev pub machine_of : SmtpMachine → Desk → List Moment → Machine
 machine_of session desk moments = record { state = state_of session.state; store = desk.store; moments = moments }
 

@@ -8,6 +8,7 @@ use Rattle.journal_records.specs.Addresses.{path_text}
 abbrev pub protocol : Bool → Bool → List ℕ
 protocol smtputf8 extended = if smtputf8 then codes "UTF8SMTP" else if extended then codes "ESMTP" else codes "SMTP"
 
+-- The field Return-Path (RFC 5321, 4.4).
 abbrev pub return_path : Option Address → List ℕ
 return_path path = codes "Return-Path: <" ++ path_text path ++ codes ">" ++ crlf
 

@@ -15,12 +15,15 @@ use Rattle.session_core.specs.Moments.{Moment}
 
 -- ---- the replies of its commands
 
+-- The reply of MAIL where it was accepted (RFC 5321, 4.1.1.2).
 abbrev pub sender_ok : List (List ℕ)
 sender_ok = codes "250 2.1.0 ok" ∷ []
 
+-- The reply of RCPT where it was accepted (RFC 5321, 4.1.1.3).
 abbrev pub recipient_ok : List (List ℕ)
 recipient_ok = codes "250 2.1.5 ok" ∷ []
 
+-- The reply of DATA where it was accepted (RFC 5321, 4.1.1.4).
 abbrev pub go_ahead : List (List ℕ)
 go_ahead = codes "354 go ahead" ∷ []
 

@@ -18,8 +18,8 @@ ghost use Rattle.session_core.specs.declared.desk.Desk.{Desk};
 ghost use Rattle.smtp_grammar.specs.Reading.{DataHaveEnded};
 ghost use Rattle.smtp_session.specs.Machine.{acts_in, delivery_of, end_by, end_data as end_of};
 ghost use Rattle.smtp_session.specs.Session.{SmtpReady, KnowsState, SmtpStands, greeting, line_octets, reply_octets, smtp_protocol, state_of, state_or_ended};
-ghost use Rattle.smtp_session.specs.SmtpLaws.{begins_fit_by, fits_by, framed_by, goes_on_by, quiet_by, waits_by};
 ghost use Rattle.smtp_session.specs.Trace.{protocol as protocol_of, received, return_path};
+ghost use Rattle.smtp_session.specs.laws.SmtpLaws.{begins_fit_by, fits_by, framed_by, goes_on_by, quiet_by, waits_by};
 ghost use Rattle.smtp_session.specs.private.Steps.{DoesBy, IsFirst, IsFirstNext, ReadsLines, accepted_content, state_behind, stepped};
 
 use crate::rows::{Reply, TOO_LARGE, answer};

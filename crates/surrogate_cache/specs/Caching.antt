@@ -4,6 +4,8 @@ use Rattle.std.specs.List.{AllByRecursion, Contains, IsDistinct}
 use Rattle.block_pool.specs.Pool.{needed_blocks}
 use Rattle.surrogate_rope.specs.Ropes.{RopeValue, IsRopeOf}
 use Rattle.surrogate_rope.specs.Stored.{IsStoredRope}
+use Rattle.surrogate_rope.specs.declared.shown.Shown.{Shown}
+use Rattle.surrogate_rope.specs.declared.shown.Shown.TheVariants.{Whole, Rope}
 use Rattle.surrogate_cache.specs.Served.{Mode, legacy, enabled}
 use Rattle.surrogate_cache.specs.declared.caching.Counts.{Counts}
 
@@ -148,6 +150,12 @@ Fetched old (one ∷ asked) new = (mid : CacheState) × (rope : RopeValue) × Fe
 abbrev pub asked_by : Mode → (id : ℕ) → (octets : List ℕ) → List Asked
 asked_by legacy id octets = (record { id = id; octets = octets }) ∷ []
 asked_by enabled id octets = []
+
+-- A legacy session is shown the very rope that a fetch of the message gave. An enabled one leaves the cache alone.
+abbrev pub IsFetchedShown : Mode → List ℕ → CacheState → CacheState → ℕ → Shown → Type 0
+IsFetchedShown legacy msg old new id (Rope rope) = Fetches msg old new id rope
+IsFetchedShown legacy msg old new id (Whole tree) = ⊥
+IsFetchedShown enabled msg old new id shown = new ≡ old
 
 -- what the cache loses where a session wasn't shown a message for want of memory
 abbrev pub LosesShown : Mode → List ℕ → CacheState → CacheState → ℕ → Type 0

@@ -9,6 +9,7 @@ pub data Mode : Type 0 where
   legacy : Mode
   enabled : Mode
 
+-- The session has enabled UTF-8 (RFC 6855, 3; RFC 6856, 2).
 abbrev pub is_enabled : Mode → Bool
 is_enabled legacy = false
 is_enabled enabled = true

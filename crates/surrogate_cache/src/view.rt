@@ -4,7 +4,7 @@ ghost use Rattle.mime_tree.specs.declared.entity.Entity.{Entity};
 ghost use Rattle.mime_tree.specs.Tree.{HasTree};
 ghost use Rattle.surrogate_rope.specs.Ropes.{IsRopeOf};
 ghost use Rattle.surrogate_rope.specs.Served.{IsShownOf, shown_octets};
-ghost use Rattle.surrogate_cache.specs.Caching.{Fetched, Fetches, IsHeldOf, LosesFetch, LosesShown, asked_by};
+ghost use Rattle.surrogate_cache.specs.Caching.{Fetched, Fetches, IsFetchedShown, IsHeldOf, LosesFetch, LosesShown, asked_by};
 ghost use Rattle.surrogate_cache.specs.Served.{Mode, legacy, enabled, is_enabled, IsServed, IsShownBy, HasServedHeaders};
 
 use crate::caching::Cache;
@@ -29,6 +29,7 @@ pub trait View {
         ensures served { IfOk result (λ shown. IsServed mode msg.now (shown_octets msg.now shown)) }
         ensures headers { IfOk result (λ shown. HasServedHeaders mode (shown_octets msg.now shown)) }
         ensures kind { IfOk result (IsShownBy mode) }
+        ensures from { IfOk result (IsFetchedShown mode msg.now cache.old cache.new id) }
         ensures fetched { OnOk result (Fetched cache.old (asked_by mode id msg.now) cache.new) }
         ensures loses { OnErr result (LosesShown mode msg.now cache.old cache.new id) };
 }

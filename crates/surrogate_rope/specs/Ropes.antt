@@ -15,23 +15,28 @@ pub data RopePiece : Type 0 where
   Range : Span → RopePiece
   New : List ℕ → RopePiece
 
+-- The octets of a piece: a range of the message, or new ones.
 abbrev pub piece_octets : List ℕ → RopePiece → List ℕ
 piece_octets msg (Range span) = slice_range msg span.at (span.at + span.len)
 piece_octets msg (New octets) = octets
 
+-- How many octets a piece has.
 abbrev pub piece_size : RopePiece → ℕ
 piece_size (Range span) = span.len
 piece_size (New octets) = length octets
 
+-- The piece is new, or stands within the message.
 abbrev pub IsWithin : List ℕ → RopePiece → Type 0
 IsWithin msg (Range span) = span.at + span.len ≤ length msg
 IsWithin msg (New octets) = Unit {0}
 
+-- A rope: its pieces, the entities of the surrogate, and how many fields were rewritten.
 pub record RopeValue : Type 0 where
   pub pieces : List RopePiece
   pub entities : List Outline
   pub rewritten : ℕ
 
+-- The octets of the pieces, one behind another.
 abbrev pub joined_pieces : List ℕ → List RopePiece → List ℕ
 joined_pieces msg [] = []
 joined_pieces msg (piece ∷ pieces) = piece_octets msg piece ++ joined_pieces msg pieces
@@ -45,6 +50,7 @@ abbrev pub size_of : List RopePiece → ℕ
 size_of [] = 0
 size_of (piece ∷ pieces) = piece_size piece + size_of pieces
 
+-- Each piece is new, or stands within the message.
 abbrev pub AreWithin : List ℕ → List RopePiece → Type 0
 AreWithin msg [] = Unit {0}
 AreWithin msg (piece ∷ pieces) = IsWithin msg piece × AreWithin msg pieces
@@ -55,7 +61,7 @@ changed [] others = 0
 changed (raw ∷ raws) [] = 0
 changed (raw ∷ raws) (other ∷ others) = (if bytes_eq raw other then 0 else 1) + changed raws others
 
--- so many of the fields of the entities' blocks are others than those that they gave
+-- So many of the fields that are made for the entities' blocks differ from the message's own.
 abbrev pub CountsChanged : FieldRelation → List ℕ → List Entity → ℕ → Type 0
 CountsChanged IsMade msg [] count = count ≡ 0
 CountsChanged IsMade msg (entity ∷ entities) count =
@@ -91,7 +97,8 @@ new_size (New octets ∷ pieces) = length octets + new_size pieces
 abbrev pub HasNewFields : List ℕ → List Entity → RopeValue → Type 0
 HasNewFields msg entities rope = WeighsChanged length (InEntity HasFieldLayout msg) msg entities (new_size rope.pieces)
 
--- The pieces give the layout of the message, which is a surrogate; the entities are those of the surrogate's tree; so many fields of the layout are others than the message's.
+-- The pieces give the layout of the message, which is a surrogate; the entities are those of the surrogate's tree; so many fields of the
+-- layout are others than the message's.
 pub record IsRopeOf (msg : List ℕ) (rope : RopeValue) : Type 0 where
   pub entities : List Entity
   pub tree : HasTree msg entities

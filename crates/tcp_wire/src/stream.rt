@@ -1,5 +1,5 @@
 //! A connected stream as a wire. It tells nothing of what it carries, and counts its failures.
-ghost use Rattle.std.specs.Prelude.{◌<◌};
+ghost use Rattle.std.specs.Prelude.{◌≡◌, ◌<◌};
 ghost use Rattle.std.specs.Duration.{as_nanos};
 ghost use Rattle.mail_wire.specs.Causes.{HasCause};
 
@@ -41,7 +41,9 @@ impl TcpWire {
     }
 
     /// Why the last call that failed did.
-    pub fn failure(&self) -> Option<WireFailure> {
+    pub fn failure(&self) -> Option<WireFailure>
+        ensures { result ≡ self.now.sides.faults.last }
+    {
         self.sides.failure()
     }
 }

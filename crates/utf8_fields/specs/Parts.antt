@@ -13,6 +13,7 @@ pub record FieldParts : Type 0 where
   pub body : List ℕ
   pub ending : List ℕ
 
+-- The octets of a field: its name, white, a colon, its body and the end of its last line (RFC 5322, 2.2).
 abbrev pub field_octets : FieldParts → List ℕ
 field_octets f = f.name ++ (f.white ++ 58 ∷ (f.body ++ f.ending))
 

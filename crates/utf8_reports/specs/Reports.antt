@@ -50,6 +50,7 @@ status_heading global name = delimiter ++ (text_line (status_type global) ++ (cr
 abbrev pub header_type : Bool → List ℕ
 header_type global = if global then codes "Content-Type: message/global-headers" else codes "Content-Type: text/rfc822-headers"
 
+-- What a report puts before the returned header: a delimiter, its type and an empty line.
 abbrev pub header_heading : Bool → List ℕ
 header_heading global = delimiter ++ (text_line (header_type global) ++ crlf)
 
@@ -85,6 +86,7 @@ pub record IsReportOn (failure : Failure) (msg octets : List ℕ) : Type 0 where
 
 -- ---- what a report says
 
+-- The report is what is said of this failure.
 pub record IsSaidOf (failure : Failure) (report : Report) : Type 0 where
   pub global : report.global ≡ is_global failure.path
   pub failed : report.failed ≡ failure.failed

@@ -1,13 +1,16 @@
 //! Words of a table.
-use imap_words::{Stop, better, no_word, take_word};
+use imap_words::{Stop, read_word};
+use mail_wire::TableWord;
 use std::test::Fail;
 
+const DIRECTIONS: [TableWord<u8>; 3] = [
+    TableWord(b"IN", 1),
+    TableWord(b"INBOX", 2),
+    TableWord(b"OUT", 3),
+];
+
 fn direction(text: &[u8]) -> Result<(u8, &[u8]), Stop> {
-    let best = no_word();
-    let best = better(best, text, b"IN", 1);
-    let best = better(best, text, b"INBOX", 2);
-    let best = better(best, text, b"OUT", 3);
-    take_word(best, text)
+    read_word(&DIRECTIONS, text)
 }
 
 fn says(text: &[u8], value: u8, rest: &[u8]) -> bool {

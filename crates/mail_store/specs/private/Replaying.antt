@@ -8,14 +8,15 @@ use Rattle.journal_records.specs.declared.records.Record.{Record}
 use Rattle.kept_mail.specs.Kept.{Kept, nothing, store_of}
 use Rattle.kept_mail.specs.Records.{AreRecords}
 use Rattle.mail_store.specs.Opening.{HasRecords, HasNoRecord, IsBadAt}
-use Rattle.journal_records.specs.Frames.{IsCutShort}
+use Rattle.journal_records.specs.Frames.{IsBeginning, IsCutShort}
 use Rattle.journal_records.specs.Spelling.{record_text, journal, first_octets}
 use Rattle.mail_store.specs.StoreState.{StoreState, with_records}
 use Rattle.mail_store.specs.private.Adding.{NotAdded}
 
--- the octets are as before, the count of faults isn't less, and a keeper that never fails goes on
+-- the octets are as before, nothing was appended, the count of faults isn't less, and a keeper that never fails goes on
 pub record KeeperStays (before now : KeeperTelling) : Type 0 where
   pub same : now.octets ≡ before.octets
+  pub unappended : now.appends ≡ before.appends
   pub later : before.faults ≤ now.faults
   pub sure : IsTrue before.never_fails → IsTrue now.never_fails
 
@@ -73,6 +74,7 @@ pub record EndsJournalAt (octets : List ℕ) (end : ℕ) (kept : Kept) : Type 0 
   pub text : repaired end octets ≡ journal all
   pub left : HasRecords (take end octets) all
   pub begun : end ≡ 0 → all ≡ []
+  pub beginning : end ≡ 0 → IsBeginning octets
 
 -- a bad journal is bad at that place
 abbrev pub IsReadingFault : List ℕ → OpenFault → Type 0

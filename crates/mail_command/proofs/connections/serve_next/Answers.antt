@@ -13,6 +13,7 @@ returns-in-KeeperFault-clause-serves g c =
     (record { clock = c.new-outside.ensures.clock; keeper = c.new-outside.ensures.keeper; wire = c.new-outside.ensures.wire })
     (record {
       opens = rw (c.new-outside.ensures.desk, c.new-outside.ensures.keeper) c.in_ok-desk.ensures.opens;
+      anew = rw (c.new-outside.ensures.desk, c.new-outside.ensures.keeper) c.in_ok-desk.ensures.anew;
       cache = rw c.new-outside.ensures.desk c.in_ok-desk.ensures.cache;
       place = rw (c.new-outside.ensures.desk, c.new-outside.ensures.keeper) c.in_ok-desk.ensures.end;
       works = rw c.new-outside.ensures.desk c.in_ok-desk.ensures.«open»;
@@ -27,6 +28,7 @@ returns-in_default-clause-serves g c =
     (record { clock = c.new-outside.ensures.clock; keeper = c.new-outside.ensures.keeper; wire = c.new-outside.ensures.wire })
     (record {
       opens = rw (c.new-outside.ensures.desk, c.new-outside.ensures.keeper) c.in_ok-desk.ensures.opens;
+      anew = rw (c.new-outside.ensures.desk, c.new-outside.ensures.keeper) c.in_ok-desk.ensures.anew;
       cache = rw c.new-outside.ensures.desk c.in_ok-desk.ensures.cache;
       place = rw (c.new-outside.ensures.desk, c.new-outside.ensures.keeper) c.in_ok-desk.ensures.end;
       works = rw c.new-outside.ensures.desk c.in_ok-desk.ensures.«open»;
@@ -39,6 +41,7 @@ returns-in_default-clause-goes_on g c =
     goes_on (protocol_for c.args.role) c.new-outside.result c.serve_one-served.new.outside _ c.args.kept LIMITS (g.J.Keeper.tells c.args.keeper.now).octets c.serve_one-served.result c.into_parts-desk.result.0
     (record {
       opens = rw (c.new-outside.ensures.desk, c.new-outside.ensures.keeper) c.in_ok-desk.ensures.opens;
+      anew = rw (c.new-outside.ensures.desk, c.new-outside.ensures.keeper) c.in_ok-desk.ensures.anew;
       cache = rw c.new-outside.ensures.desk c.in_ok-desk.ensures.cache;
       place = rw (c.new-outside.ensures.desk, c.new-outside.ensures.keeper) c.in_ok-desk.ensures.end;
       works = rw c.new-outside.ensures.desk c.in_ok-desk.ensures.«open»;

@@ -6,7 +6,7 @@ use Rattle.mail_store.proofs.opening.read_on.Goals as goal
 pub loop-len-init : goal.loop-len-init
 loop-len-init g c = record {
   so_far = IsReadTo-none (g.J.Keeper.tells c.args.keeper.now).octets c.args.store.now;
-  stays = record { same = refl; later = omega arith; sure = λ h. h };
+  stays = record { same = refl; unappended = refl; later = omega arith; sure = λ h. h };
   within = c.requires.within;
 }
 
@@ -48,6 +48,7 @@ loop-len-preserved g c =
       so_far = next;
       stays = Stays-then (g.J.Keeper.tells c.args.keeper.now) (g.J.Keeper.tells c.loop-len.keeper) (g.J.Keeper.tells c.add_at.new.keeper) i.stays (record {
         same = c.add_at.ensures.same ∙ c.frame_at.ensures.same;
+        unappended = c.add_at.ensures.unappended ∙ c.frame_at.ensures.unappended;
         later = omega (arith, c.frame_at.ensures.cause.later, c.add_at.ensures.cause.later);
         sure = λ h. (c.add_at.ensures.cause.sure (c.frame_at.ensures.cause.sure h).0).0;
       });

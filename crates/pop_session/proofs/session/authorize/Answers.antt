@@ -4,7 +4,7 @@ use Rattle.std.proofs.lemmas.Result.{err_from_is_err_and}
 use Rattle.mail_wire.specs.declared.outside.Fault.TheVariants as fault
 use Rattle.session_core.specs.Doing.{Replies}
 use Rattle.pop_session.specs.Machine.{authorization_step}
-use Rattle.pop_session.specs.PopLaws.{authorization_changes}
+use Rattle.pop_session.specs.laws.PopLaws.{authorization_changes}
 use Rattle.pop_session.proofs.RowLemmas.{takes_failed, takes_reply, takes_stop}
 use Rattle.pop_session.proofs.session.authorize.Goals as goal
 

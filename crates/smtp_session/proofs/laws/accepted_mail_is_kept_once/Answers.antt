@@ -1,6 +1,6 @@
 use Rattle.smtp_session.proofs.IntakeLemmas.{accepted_kept_once, data_forget, refused_kept_none}
 use Rattle.smtp_session.proofs.KnownRecipients.{step-recipients}
-use Rattle.smtp_session.specs.SmtpLaws.{step-changes}
+use Rattle.smtp_session.specs.laws.SmtpLaws.{step-changes}
 use Rattle.smtp_session.proofs.StreamLemmas.{stream_kept}
 use Rattle.smtp_session.proofs.TransactionLemmas.{transaction_kept}
 use Rattle.smtp_session.proofs.laws.accepted_mail_is_kept_once.Goals as goal

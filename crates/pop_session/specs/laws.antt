@@ -1,0 +1,2 @@
+-- Proofs: what the driver takes of POP3.
+pub mod PopLaws

@@ -1,0 +1,2 @@
+-- Proofs: what holds of every protocol of rows.
+pub mod FramedLaws

@@ -1,0 +1,2 @@
+-- Proofs: what holds of the rows of the toy.
+pub mod EchoLaws

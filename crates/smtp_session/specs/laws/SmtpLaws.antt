@@ -1,0 +1,360 @@
+-- What the driver takes of SMTP: a turn doesn't depend on what comes later, and whatever is asked for, the replies are ASCII.
+use Rattle.std.proofs.Common.{◌≡◌, List, [], ℕ, refl, sym, ap, subst, ◌∙◌, Some, None, Option, suc, ◌+◌, ◌<◌, ◌∷◌, ◌++◌, Bool, true, false, arith, ◌==◌, codes, cond, not, inl, inr, append-nil, length, if◌then◌else◌}
+use Rattle.std.specs.Option.{option_map}
+use Rattle.std.specs.Prelude.{is_some, nat_lt, slice_index_or, sum_by}
+use Rattle.std.specs.Str.{IsAscii}
+use Rattle.std.specs.List.{list_all, list_any}
+use Rattle.std.specs.Fmt.{decimal}
+use Rattle.std.proofs.lemmas.Bool.{cond_both}
+use Rattle.std.proofs.lemmas.Bool.Decides.{nat_tests}
+use Rattle.std.proofs.lemmas.Option.{same_Some, none-some}
+use Rattle.mail_wire.specs.Dots.{unstuffed}
+use Rattle.mail_wire.specs.Framing.{Framed, waiting, whole, too_long, next_line}
+use Rattle.mail_wire.specs.Lines.{Cut}
+use Rattle.mail_wire.specs.Octets.{is_ascii}
+use Rattle.mail_wire.proofs.AllLemmas.{pass-append}
+use Rattle.mail_wire.proofs.NumberLemmas.{ascii-decimal}
+use Rattle.mail_wire.proofs.FramingLemmas.{IsSteady, steady}
+use Rattle.ace_domains.proofs.FormLemmas.{form_ascii}
+use Rattle.address_grammar.specs.declared.Address.{Address}
+use Rattle.journal_records.specs.declared.records.Record.{Record}
+use Rattle.kept_mail.specs.Kept.{name_of, Kept, after_all, find_account, is_local}
+use Rattle.mail_store.specs.Changing.{delivery_refusal}
+use Rattle.kept_mail.specs.Deliveries.{delivered, has_large_octets}
+use Rattle.mail_store.specs.Following.{records_of}
+use Rattle.mail_store.specs.StoreState.{StoreState, with_records}
+use Rattle.kept_mail.specs.declared.delivery.Delivery.{Delivery}
+use Rattle.kept_mail.specs.declared.limits.TheConstants.{RECIPIENTS_MAX}
+use Rattle.smtp_grammar.specs.Commands.{command_of, announced, are_malformed, is_client, is_smtputf8, is_unknown, parameter_of, path_behind}
+use Rattle.smtp_grammar.specs.Data.{data_cut}
+use Rattle.smtp_grammar.specs.declared.command.Verb.{Verb}
+use Rattle.smtp_grammar.proofs.DataLemmas.{data_cut-shorter, data_cut-stays}
+use Rattle.smtp_grammar.proofs.ReadingLemmas.{read_unended}
+use Rattle.smtp_grammar.specs.declared.command.Verb.TheVariants as verb
+use Rattle.session_core.specs.Acts.{Act}
+use Rattle.session_core.specs.Desks.{IsOpen, IsStoreName}
+use Rattle.session_core.specs.Meanings.{Meanings, AreMeanings}
+use Rattle.session_core.specs.Moments.{Moment}
+use Rattle.session_core.specs.Protocol.{IsFitTurn}
+use Rattle.session_core.specs.Turns.{Turn, IsFramed, followed_by}
+use Rattle.session_core.specs.declared.desk.Desk.{Desk}
+use Rattle.session_core.proofs.FitLemmas.{fit_acts}
+use Rattle.session_core.proofs.DeskLemmas.{delivered_domains}
+use Rattle.smtp_session.specs.declared.session.SmtpMachine.{SmtpMachine}
+use Rattle.smtp_session.specs.declared.states.Client.{Client}
+use Rattle.smtp_session.specs.declared.states.Envelope.{Envelope}
+use Rattle.smtp_session.specs.declared.states.SmtpState.{SmtpState}
+use Rattle.smtp_session.specs.declared.states.SmtpState.TheVariants as smtp
+use Rattle.smtp_session.specs.Machine.{State, collecting, delivery_of, end_data, ended, fresh, greeted, mail, step, Step, end_by, alone, data_step, is_same_remote, lacks_smtputf8, mail_by, mail_step, mail_to, path_read, rcpt_local, rcpt_remote, rcpt_step, rcpt_to, envelope_recipient_count, with_room, words_behind}
+use Rattle.smtp_session.specs.Session.{IsFit, SmtpReady, Machine, SmtpStands, data_turn, greeting, line_too_long, line_turn, machine_of, next_moment, next_turn, smtp_protocol, turn_from, AreFit, HasRest, IsUnfinished, state_of}
+use Rattle.smtp_session.specs.laws.SaidLines.{SaidLines, step_said}
+
+-- ---- turns don't depend on what comes later
+
+-- a line takes an octet at least
+line_shorter : (meanings : Meanings) (machine : Machine) (octets : List ℕ) (framed : Framed) (turn : Turn Machine (Act (List ℕ))) → IsSteady octets framed
+    → line_turn meanings machine framed ≡ Some turn → length turn.rest < length octets
+line_shorter meanings machine octets waiting turn steady is = cc
+line_shorter meanings machine octets (whole line rest) turn steady is = let same : rest ≡ turn.rest = cc in rw (← same) steady.0
+line_shorter meanings machine octets (too_long rest) turn steady is = let same : rest ≡ turn.rest = cc in rw (← same) steady.0
+
+-- more octets stay behind a line
+line_stays : (meanings : Meanings) (machine : Machine) (octets more : List ℕ) (framed : Framed) (turn : Turn Machine (Act (List ℕ))) → IsSteady octets framed
+    → line_turn meanings machine framed ≡ Some turn → line_turn meanings machine (next_line (octets ++ more)) ≡ Some (followed_by more turn)
+line_stays meanings machine octets more waiting turn steady is = cc
+line_stays meanings machine octets more (whole line rest) turn steady is = ap (line_turn meanings machine) (steady.1 more) ∙ ap (λ t. Some (followed_by more t)) (same_Some _ _ is)
+line_stays meanings machine octets more (too_long rest) turn steady is = ap (line_turn meanings machine) (steady.1 more) ∙ ap (λ t. Some (followed_by more t)) (same_Some _ _ is)
+
+-- data take an octet at least
+data_shorter : (meanings : Meanings) (machine : Machine) (client : Client) (envelope : Envelope) (octets : List ℕ) (turn : Turn Machine (Act (List ℕ))) (found : Option Cut) → data_cut octets ≡ found
+    → option_map (data_turn meanings machine client envelope) found ≡ Some turn → length turn.rest < length octets
+data_shorter meanings machine client envelope octets turn None at is = cc
+data_shorter meanings machine client envelope octets turn (Some cut) at is =
+    let same : cut.rest ≡ turn.rest = ap (λ (t : Turn Machine (Act (List ℕ))). t.rest) (same_Some _ _ is) in
+    rw (← same) (data_cut-shorter octets cut at)
+
+-- more octets stay behind data
+data_stays : (meanings : Meanings) (machine : Machine) (client : Client) (envelope : Envelope) (octets more : List ℕ) (turn : Turn Machine (Act (List ℕ))) (found : Option Cut) → data_cut octets ≡ found
+    → option_map (data_turn meanings machine client envelope) found ≡ Some turn
+    → option_map (data_turn meanings machine client envelope) (data_cut (octets ++ more)) ≡ Some (followed_by more turn)
+data_stays meanings machine client envelope octets more turn None at is = cc
+data_stays meanings machine client envelope octets more turn (Some cut) at is =
+    ap (option_map (data_turn meanings machine client envelope)) (data_cut-stays octets more cut at) ∙ ap (λ t. Some (followed_by more t)) (same_Some _ _ is)
+
+shorter_in : (meanings : Meanings) (state : State) (machine : Machine) (octets : List ℕ) (turn : Turn Machine (Act (List ℕ))) → turn_from meanings state machine octets ≡ Some turn
+    → length turn.rest < length octets
+shorter_in meanings fresh machine octets turn is = line_shorter meanings machine octets (next_line octets) turn (steady octets) is
+shorter_in meanings (greeted client) machine octets turn is = line_shorter meanings machine octets (next_line octets) turn (steady octets) is
+shorter_in meanings (mail client envelope) machine octets turn is = line_shorter meanings machine octets (next_line octets) turn (steady octets) is
+shorter_in meanings (collecting client envelope) machine octets turn is = data_shorter meanings machine client envelope octets turn (data_cut octets) refl is
+shorter_in meanings ended machine octets turn is = cc
+
+stays_in : (meanings : Meanings) (state : State) (machine : Machine) (octets more : List ℕ) (turn : Turn Machine (Act (List ℕ))) → turn_from meanings state machine octets ≡ Some turn
+    → turn_from meanings state machine (octets ++ more) ≡ Some (followed_by more turn)
+stays_in meanings fresh machine octets more turn is = line_stays meanings machine octets more (next_line octets) turn (steady octets) is
+stays_in meanings (greeted client) machine octets more turn is = line_stays meanings machine octets more (next_line octets) turn (steady octets) is
+stays_in meanings (mail client envelope) machine octets more turn is = line_stays meanings machine octets more (next_line octets) turn (steady octets) is
+stays_in meanings (collecting client envelope) machine octets more turn is = data_stays meanings machine client envelope octets more turn (data_cut octets) refl is
+stays_in meanings ended machine octets more turn is = cc
+
+-- a turn takes an octet at least, and doesn't depend on what comes later
+pub framed_by : (meanings : Meanings) → IsFramed (next_turn meanings)
+unfolding next_turn
+framed_by meanings = record {
+  shorter = λ machine octets turn is. shorter_in meanings machine.state machine octets turn is;
+  stays = λ machine octets more turn is. stays_in meanings machine.state machine octets more turn is;
+}
+
+-- ---- no turn
+
+-- what was kept of a line brings none, nor what was read of data
+no_turn_yet : (meanings : Meanings) (session : SmtpMachine) (state : SmtpState) (machine : Machine) (kept rest : List ℕ) (desk : Desk) → IsUnfinished session state kept desk
+    → HasRest session state kept rest → turn_from meanings (state_of state) machine rest ≡ None
+no_turn_yet meanings session (smtp.Fresh s) machine kept rest desk waits has = rw has (ap (line_turn meanings machine) waits)
+no_turn_yet meanings session (smtp.Greeted s) machine kept rest desk waits has = rw has (ap (line_turn meanings machine) waits)
+no_turn_yet meanings session (smtp.Mail s) machine kept rest desk waits has = rw has (ap (line_turn meanings machine) waits)
+no_turn_yet meanings session (smtp.Data s) machine kept rest desk waits has =
+    ap (option_map (data_turn meanings machine s.state.client s.state.envelope)) (read_unended session.reader rest has)
+
+-- a session is in no state that has ended
+not_ended : (state : SmtpState) → state_of state ≡ ended → ⊥
+not_ended (smtp.Fresh s) is = cc
+not_ended (smtp.Greeted s) is = cc
+not_ended (smtp.Mail s) is = cc
+not_ended (smtp.Data s) is = cc
+
+pub waits_by : (meanings : Meanings) → AreMeanings meanings → (more : List Moment) (session : SmtpMachine) (kept : List ℕ) (desk : Desk) (machine : Machine) (rest : List ℕ)
+    → SmtpReady session kept desk → SmtpStands more session kept desk machine rest → next_turn meanings machine rest ≡ None
+unfolding next_turn
+waits_by meanings are more session kept desk machine rest ready stands =
+    rw stands.machine_is (no_turn_yet meanings session session.state (machine_of session desk more) kept rest desk ready.unfinished stands.has)
+
+pub goes_on_by : (more : List Moment) (session : SmtpMachine) (kept : List ℕ) (desk : Desk) (machine : Machine) (rest : List ℕ) → SmtpStands more session kept desk machine rest
+    → ¬ (machine.state ≡ ended)
+goes_on_by more session kept desk machine rest stands over = not_ended session.state (sym (ap (λ (m : Machine). m.state) stands.machine_is) ∙ over)
+
+pub quiet_by : (meanings : Meanings) (machine : Machine) (rest : List ℕ) → machine.state ≡ ended → next_turn meanings machine rest ≡ None
+unfolding next_turn
+quiet_by meanings machine rest over = ap (λ (s : State). turn_from meanings s machine rest) over
+
+-- ---- no row changes the store
+
+same_changes : (b : Bool) (yes_step no_step : Step) → yes_step.changes ≡ [] → no_step.changes ≡ [] → (if b then yes_step else no_step).changes ≡ []
+same_changes true yes_step no_step first second = first
+same_changes false yes_step no_step first second = second
+
+mail_to-changes : (client : Client) (store : StoreState) (smtputf8 : Bool) (path : Option Address) (words : List (List ℕ)) → (mail_to client store smtputf8 path words).changes ≡ []
+mail_to-changes client store smtputf8 path words =
+    same_changes (are_malformed words) _ _ refl (same_changes (list_any (λ word. is_unknown (parameter_of word)) words) _ _ refl (same_changes (lacks_smtputf8 smtputf8 path) _ _ refl
+    (same_changes (nat_lt store.message_max (sum_by (λ word. announced (parameter_of word)) words)) _ _ refl refl)))
+
+mail_by-changes : (client : Client) (store : StoreState) (path : Option (Option Address)) (words : List (List ℕ)) → (mail_by client store path words).changes ≡ []
+mail_by-changes client store None words = refl
+mail_by-changes client store (Some path) words = mail_to-changes client store (list_any (λ word. is_smtputf8 (parameter_of word)) words) path words
+
+mail_step-changes : (meanings : Meanings) (state : State) (store : StoreState) (argument : List ℕ) → (mail_step meanings state store argument).changes ≡ []
+mail_step-changes meanings (greeted client) store argument =
+    let given = path_behind (codes "FROM:") argument in
+    mail_by-changes client store (path_read meanings given) (words_behind given)
+mail_step-changes meanings fresh store argument = refl
+mail_step-changes meanings (mail client envelope) store argument = refl
+mail_step-changes meanings (collecting client envelope) store argument = refl
+mail_step-changes meanings ended store argument = refl
+
+with_room-changes : (there : Bool) (client : Client) (envelope with_one : Envelope) → (with_room there client envelope with_one).changes ≡ []
+with_room-changes there client envelope with_one = same_changes there _ _ refl (same_changes (nat_lt (envelope_recipient_count envelope) RECIPIENTS_MAX) _ _ refl refl)
+
+rcpt_local-changes : (client : Client) (envelope : Envelope) (account : Option ℕ) → (rcpt_local client envelope account).changes ≡ []
+rcpt_local-changes client envelope None = refl
+rcpt_local-changes client envelope (Some account) =
+    with_room-changes (list_any (λ other. other == account) envelope.local) client envelope (record envelope { local = envelope.local ++ account ∷ [] })
+
+rcpt_remote-changes : (client : Client) (envelope : Envelope) (address : Address) → (rcpt_remote client envelope address).changes ≡ []
+rcpt_remote-changes client envelope address =
+    with_room-changes (list_any (λ other. is_same_remote other address) envelope.remote) client envelope (record envelope { remote = envelope.remote ++ address ∷ [] })
+
+rcpt_to-changes : (meanings : Meanings) (client : Client) (envelope : Envelope) (store : StoreState) (path : Option (Option Address)) → (rcpt_to meanings client envelope store path).changes ≡ []
+rcpt_to-changes meanings client envelope store None = refl
+rcpt_to-changes meanings client envelope store (Some None) = refl
+rcpt_to-changes meanings client envelope store (Some (Some address)) =
+    same_changes (lacks_smtputf8 envelope.smtputf8 (Some address)) _ _ refl (same_changes (is_local store.kept address.domain) _ _
+    (rcpt_local-changes client envelope (find_account meanings.path_of store.kept address)) (rcpt_remote-changes client envelope address))
+
+rcpt_step-changes : (meanings : Meanings) (state : State) (store : StoreState) (argument : List ℕ) → (rcpt_step meanings state store argument).changes ≡ []
+rcpt_step-changes meanings (mail client envelope) store argument = rcpt_to-changes meanings client envelope store (path_read meanings (alone (path_behind (codes "TO:") argument)))
+rcpt_step-changes meanings fresh store argument = refl
+rcpt_step-changes meanings (greeted client) store argument = refl
+rcpt_step-changes meanings (collecting client envelope) store argument = refl
+rcpt_step-changes meanings ended store argument = refl
+
+data_step-changes : (state : State) → (data_step state).changes ≡ []
+data_step-changes (mail client envelope) = same_changes (envelope_recipient_count envelope == 0) _ _ refl refl
+data_step-changes fresh = refl
+data_step-changes (greeted client) = refl
+data_step-changes (collecting client envelope) = refl
+data_step-changes ended = refl
+
+-- a command changes nothing in the store
+pub step-changes : (meanings : Meanings) (state : State) (store : StoreState) (word : Verb) (argument : List ℕ) → (step meanings state store word argument).changes ≡ []
+unfolding step
+step-changes meanings state store verb.Ehlo argument = same_changes (is_client argument) _ _ refl refl
+step-changes meanings state store verb.Helo argument = same_changes (is_client argument) _ _ refl refl
+step-changes meanings state store verb.Mail argument = mail_step-changes meanings state store argument
+step-changes meanings state store verb.Rcpt argument = rcpt_step-changes meanings state store argument
+step-changes meanings state store verb.Data argument = data_step-changes state
+step-changes meanings state store verb.Rset argument = refl
+step-changes meanings state store verb.Noop argument = refl
+step-changes meanings state store verb.Vrfy argument = refl
+step-changes meanings state store verb.Quit argument = refl
+step-changes meanings state store verb.Other argument = refl
+
+-- ---- each line is ASCII
+
+-- ---- names
+
+-- by recursion, as a test
+ascii-all : (octets : List ℕ) → IsAscii octets → list_all is_ascii octets ≡ true
+ascii-all [] ascii = refl
+ascii-all (x ∷ octets) ascii =
+    let low : x < 128 = ascii 0 in
+    let test : nat_lt x 128 ≡ true = grind (arith, nat_tests) in
+    rw test (ascii-all octets (λ i. ascii (suc i)))
+
+-- the name of a store is ASCII
+ascii-name : (name : List ℕ) → IsStoreName name → list_all is_ascii name ≡ true
+ascii-name name (inl form) = ascii-all name (form_ascii name name form)
+ascii-name name (inr local) = subst (λ n. list_all is_ascii n ≡ true) (sym local) refl
+
+-- ---- replies
+
+-- each line of a command's reply
+ascii-lines : (store : StoreState) → IsStoreName (name_of store.kept) → SaidLines IsFit store
+ascii-lines store named = record {
+  greeting = pass-append is_ascii (codes "250 ") (name_of store.kept) refl (ascii-name (name_of store.kept) named);
+  first_offer = pass-append is_ascii (codes "250-") (name_of store.kept) refl (ascii-name (name_of store.kept) named);
+  eight_bits = refl;
+  size = pass-append is_ascii (codes "250-SIZE ") (decimal store.message_max) refl (ascii-decimal store.message_max);
+  smtputf8 = refl;
+  codes_offered = refl;
+  fine = refl;
+  path_taken = refl;
+  recipient_taken = refl;
+  data_wanted = refl;
+  unverified = refl;
+  goodbye = refl;
+  full = refl;
+  unknown = refl;
+  bad = refl;
+  disordered = refl;
+  nobody = refl;
+  large = refl;
+  plain_only = refl;
+  parameter = refl;
+}
+
+-- of each command, in each state
+step_fit : (meanings : Meanings) (state : State) (store : StoreState) (verb : Verb) (argument : List ℕ) → IsStoreName (name_of store.kept)
+    → AreFit (step meanings state store verb argument).reply
+step_fit meanings state store verb argument named = step_said IsFit meanings state store verb argument (ascii-lines store named)
+
+-- one of four steps by three tests
+end_fit : (large is_message refused : Bool) (a b c d : Step) → AreFit a.reply → AreFit b.reply → AreFit c.reply → AreFit d.reply
+    → AreFit (cond large a (cond (not is_message) b (cond refused c d))).reply
+end_fit true is_message refused a b c d p q r s = p
+end_fit false false refused a b c d p q r s = q
+end_fit false true true a b c d p q r s = r
+end_fit false true false a b c d p q r s = s
+
+-- of the end of data
+end_by_fit : (is_message : Bool) (store : StoreState) (client : Client) (delivery : Delivery) → AreFit (end_by is_message store client delivery).reply
+end_by_fit is_message store client delivery =
+    end_fit (has_large_octets store.message_max delivery) is_message (is_some (delivery_refusal store delivery)) _ _ _ _ (refl, tt) (refl, tt) (refl, tt) (refl, tt)
+
+-- of the beginning
+greeting_fit : (name : List ℕ) → IsStoreName name → AreFit (greeting name)
+greeting_fit name named = (pass-append is_ascii (codes "220 ") (name ++ codes " ESMTP") refl (pass-append is_ascii name (codes " ESMTP") (ascii-name name named) refl), tt)
+
+-- ---- the name of the store behind a step
+
+-- where the domains stay, the name does
+pub named_after : (old new : Kept) → new.domains ≡ old.domains → IsStoreName (name_of old) → IsStoreName (name_of new)
+named_after old new same named = subst (λ (domains : List (List ℕ)). IsStoreName (slice_index_or domains 0 (codes "localhost"))) (sym same) named
+
+-- the store has a name behind these changes
+abbrev IsNamedBehind : StoreState → List (List Record) → Type 0
+IsNamedBehind store made = IsStoreName (name_of (with_records store (records_of made)).kept)
+
+named_as : (store : StoreState) (made : List (List Record)) → made ≡ [] → IsStoreName (name_of store.kept) → IsNamedBehind store made
+named_as store made none named = rw none named
+
+-- behind a command
+step_named : (meanings : Meanings) (state : State) (store : StoreState) (verb : Verb) (argument : List ℕ) → IsStoreName (name_of store.kept)
+    → IsNamedBehind store (step meanings state store verb argument).changes
+step_named meanings state store verb argument = named_as store _ (step-changes meanings state store verb argument)
+
+delivered_named : (store : StoreState) (delivery : Delivery) → IsStoreName (name_of store.kept) → IsNamedBehind store (delivered store.kept delivery ∷ [])
+delivered_named store delivery named =
+    let records = delivered store.kept delivery in
+    rw (append-nil records) (named_after store.kept (after_all store.kept records) (delivered_domains store.kept delivery) named)
+
+-- behind the end of data
+end_by_named : (is_message : Bool) (store : StoreState) (client : Client) (delivery : Delivery) → IsStoreName (name_of store.kept)
+    → IsNamedBehind store (end_by is_message store client delivery).changes
+end_by_named is_message store client delivery named =
+    let P : Step → Type 0 = λ taken. IsNamedBehind store taken.changes in
+    cond_both (has_large_octets store.message_max delivery) _ _ P (λ large. named)
+    (λ small. cond_both (not is_message) _ _ P (λ none. named)
+    (λ message. cond_both (is_some (delivery_refusal store delivery)) _ _ P (λ refused. named) (λ room. delivered_named store delivery named)))
+
+-- ---- the laws of replies
+
+pub begins_fit_by : (meanings : Meanings) → AreMeanings meanings → (moments : List Moment) (desk : Desk) → IsOpen desk
+    → IsFitTurn smtp_protocol meanings (record { parts = smtp_protocol.opening desk.store; after = smtp_protocol.start moments desk.store; rest = [] })
+begins_fit_by meanings are moments desk opens = record {
+  fit = fit_acts IsFit [] (greeting (name_of desk.store.kept)) (greeting_fit (name_of desk.store.kept) opens.named);
+  sound = opens.named;
+}
+
+abbrev IsFitFor : Meanings → Turn Machine (Act (List ℕ)) → Type 0
+IsFitFor meanings turn = IsFitTurn smtp_protocol meanings turn
+
+line_fits : (meanings : Meanings) (machine : Machine) (framed : Framed) (turn : Turn Machine (Act (List ℕ))) → IsStoreName (name_of machine.store.kept) → line_turn meanings machine framed ≡ Some turn
+    → IsFitFor meanings turn
+line_fits meanings machine waiting turn named is = absurd (none-some _ is)
+line_fits meanings machine (whole text rest) turn named is =
+    let command = command_of text in
+    let taken = step meanings machine.state machine.store command.verb command.argument in
+    subst (IsFitFor meanings) (same_Some _ _ is)
+    (record {
+      fit = fit_acts IsFit taken.changes taken.reply (step_fit meanings machine.state machine.store command.verb command.argument named);
+      sound = step_named meanings machine.state machine.store command.verb command.argument named;
+    })
+line_fits meanings machine (too_long rest) turn named is =
+    subst (IsFitFor meanings) (same_Some _ _ is) (record { fit = fit_acts IsFit [] line_too_long (refl, tt); sound = named })
+
+data_fit : (meanings : Meanings) (machine : Machine) (client : Client) (envelope : Envelope) (found : Option Cut) (turn : Turn Machine (Act (List ℕ))) → IsStoreName (name_of machine.store.kept)
+    → option_map (data_turn meanings machine client envelope) found ≡ Some turn → IsFitFor meanings turn
+data_fit meanings machine client envelope None turn named is = absurd (none-some _ is)
+data_fit meanings machine client envelope (Some cut) turn named is =
+    let octets = unstuffed cut.line in
+    let moment = next_moment machine.moments in
+    let delivery = delivery_of machine.store client envelope moment octets in
+    let taken = end_data meanings machine.store client envelope moment octets in
+    subst (IsFitFor meanings) (same_Some _ _ is)
+    (record {
+      fit = fit_acts IsFit taken.changes taken.reply (end_by_fit (meanings.has_tree octets) machine.store client delivery);
+      sound = end_by_named (meanings.has_tree octets) machine.store client delivery named;
+    })
+
+fits_in : (meanings : Meanings) (state : State) (machine : Machine) (octets : List ℕ) (turn : Turn Machine (Act (List ℕ))) → IsStoreName (name_of machine.store.kept)
+    → turn_from meanings state machine octets ≡ Some turn → IsFitFor meanings turn
+fits_in meanings fresh machine octets turn named is = line_fits meanings machine (next_line octets) turn named is
+fits_in meanings (greeted client) machine octets turn named is = line_fits meanings machine (next_line octets) turn named is
+fits_in meanings (mail client envelope) machine octets turn named is = line_fits meanings machine (next_line octets) turn named is
+fits_in meanings (collecting client envelope) machine octets turn named is = data_fit meanings machine client envelope (data_cut octets) turn named is
+fits_in meanings ended machine octets turn named is = absurd (none-some _ is)
+
+pub fits_by : (meanings : Meanings) → AreMeanings meanings → (machine : Machine) (octets : List ℕ) (turn : Turn Machine (Act (List ℕ))) → IsStoreName (name_of machine.store.kept)
+    → next_turn meanings machine octets ≡ Some turn → IsFitTurn smtp_protocol meanings turn
+unfolding next_turn
+fits_by meanings are machine octets turn named is = fits_in meanings machine.state machine octets turn named is
