@@ -1,4 +1,5 @@
 //! What sessions leave in the cache of surrogates, which has the ropes of the messages that were asked for last.
+ghost use Rattle.std.specs.Prelude.{◌<◌, ◌≤◌};
 ghost use Rattle.session_core.specs.Desks.{AreLimits};
 
 use crate::connections::{connect, has_counted, served_within};
@@ -17,19 +18,27 @@ enum Room {
     All,
 }
 
-fn limits_of(room: Room) -> Limits
+// The limits of the program, with a cache of so many blocks for so many entries.
+fn limits_with(pool_blocks: u32, cache_entries: u32) -> Limits
+    requires blocks { (0 < pool_blocks) × (pool_blocks ≤ 65536) }
+    requires entries { 0 < cache_entries }
     ensures { AreLimits result }
 {
-    let (pool_blocks, cache_entries) = match room {
-        Room::OneRope => (1, 1),
-        Room::OneBlock => (1, 256),
-        Room::All => (LIMITS.pool_blocks, LIMITS.cache_entries),
-    };
     Limits {
         message_max: LIMITS.message_max,
         session_max: LIMITS.session_max,
         pool_blocks,
         cache_entries,
+    }
+}
+
+fn limits_of(room: Room) -> Limits
+    ensures { AreLimits result }
+{
+    match room {
+        Room::OneRope => limits_with(1, 1),
+        Room::OneBlock => limits_with(1, 256),
+        Room::All => LIMITS,
     }
 }
 

@@ -27,9 +27,12 @@ pub const JOURNAL: &[u8] = b"MAILJNL1\
 
 const DATE: &[u8] = b"01-Jan-1970 00:00:00 +0000";
 
-// Puts a number of four octets last.
+// Puts a number of four octets last. No journal of a test is so large that there is none.
 fn push_number(octets: &mut Octets, number: usize) -> Result<(), Memory> {
-    octets.push_slice(&(number as u32).to_be_bytes())
+    let Ok(number) = u32::try_from(number) else {
+        return Err(Memory);
+    };
+    octets.push_slice(&number.to_be_bytes())
 }
 
 // Puts a text last, behind its length.

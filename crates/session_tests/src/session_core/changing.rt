@@ -77,9 +77,7 @@ fn is_dated(outside: &Outside<MemWire, MemKeeper, FixedClock>) -> bool {
 
 // Whether the keeper has what it had first, and then this.
 fn has_more(keeper: &MemKeeper, more: &[u8]) -> bool {
-    keeper.octets().starts_with(JOURNAL)
-        && keeper.octets().ends_with(more)
-        && keeper.octets().len() == JOURNAL.len() + more.len()
+    keeper.octets().strip_prefix(JOURNAL) == Some(more)
 }
 
 #[test]
