@@ -91,12 +91,14 @@ const LOGIN: Exchange = ("a LOGIN ann@example.org pw\r\n", "a OK done\r\n");
 
 const SELECT_ONE: Exchange = (
     "s SELECT INBOX\r\n",
-    "* 1 EXISTS\r\n* 0 RECENT\r\n* FLAGS (\\Answered \\Flagged \\Deleted \\Seen \\Draft)\r\n* OK [UIDVALIDITY 1] ok\r\n* OK [UIDNEXT 2] ok\r\n* OK [PERMANENTFLAGS (\\Answered \\Flagged \\Deleted \\Seen \\Draft)] ok\r\ns OK [READ-WRITE] done\r\n",
+    "* 1 EXISTS\r\n* 0 RECENT\r\n* FLAGS (\\Answered \\Flagged \\Deleted \\Seen \\Draft)\r\n* OK [UIDVALIDITY 1] ok\r\n\
+* OK [UIDNEXT 2] ok\r\n* OK [PERMANENTFLAGS (\\Answered \\Flagged \\Deleted \\Seen \\Draft)] ok\r\ns OK [READ-WRITE] done\r\n",
 );
 
 const SELECT_TWO: Exchange = (
     "s SELECT INBOX\r\n",
-    "* 2 EXISTS\r\n* 0 RECENT\r\n* FLAGS (\\Answered \\Flagged \\Deleted \\Seen \\Draft)\r\n* OK [UIDVALIDITY 1] ok\r\n* OK [UIDNEXT 3] ok\r\n* OK [PERMANENTFLAGS (\\Answered \\Flagged \\Deleted \\Seen \\Draft)] ok\r\ns OK [READ-WRITE] done\r\n",
+    "* 2 EXISTS\r\n* 0 RECENT\r\n* FLAGS (\\Answered \\Flagged \\Deleted \\Seen \\Draft)\r\n* OK [UIDVALIDITY 1] ok\r\n\
+* OK [UIDNEXT 3] ok\r\n* OK [PERMANENTFLAGS (\\Answered \\Flagged \\Deleted \\Seen \\Draft)] ok\r\ns OK [READ-WRITE] done\r\n",
 );
 
 // A session that enables UTF-8 in its midst.
@@ -128,7 +130,8 @@ const CHANGING: [Exchange; 7] = [
     SELECT_ONE,
     (
         "b FETCH 1 (BODY BODY.PEEK[HEADER.FIELDS (subject)])\r\n",
-        "* 1 FETCH (BODY (\"text\" \"plain\" (\"charset\" \"us-ascii\") NIL NIL \"7bit\" 3 1) BODY[HEADER.FIELDS (SUBJECT)] {41}\r\nSubject:\r\n =?UTF-8?B?Y2Fmw6k=?=\r\n bar\r\n\r\n)\r\nb OK done\r\n",
+        "* 1 FETCH (BODY (\"text\" \"plain\" (\"charset\" \"us-ascii\") NIL NIL \"7bit\" 3 1) BODY[HEADER.FIELDS (SUBJECT)] {41}\r\n\
+Subject:\r\n =?UTF-8?B?Y2Fmw6k=?=\r\n bar\r\n\r\n)\r\nb OK done\r\n",
     ),
     (
         "c FETCH 1 BODY[TEXT]\r\n",
@@ -182,12 +185,14 @@ const TELLS_SIZES: Exchange = (
 
 const TELLS_BODIES: Exchange = (
     "d UID FETCH 1:* (RFC822.SIZE BODY.PEEK[TEXT] ENVELOPE)\r\n",
-    "* 1 FETCH (UID 1 RFC822.SIZE 44 BODY[TEXT] {3}\r\nx\r\n ENVELOPE (NIL \"=?UTF-8?B?Y2Fmw6k=?= bar\" NIL NIL NIL NIL NIL NIL NIL NIL))\r\n* 2 FETCH (UID 2 RFC822.SIZE 6 BODY[TEXT] {0}\r\n ENVELOPE (NIL NIL NIL NIL NIL NIL NIL NIL NIL NIL))\r\nd OK done\r\n",
+    "* 1 FETCH (UID 1 RFC822.SIZE 44 BODY[TEXT] {3}\r\nx\r\n ENVELOPE (NIL \"=?UTF-8?B?Y2Fmw6k=?= bar\" NIL NIL NIL NIL NIL NIL NIL NIL))\r\n\
+* 2 FETCH (UID 2 RFC822.SIZE 6 BODY[TEXT] {0}\r\n ENVELOPE (NIL NIL NIL NIL NIL NIL NIL NIL NIL NIL))\r\nd OK done\r\n",
 );
 
 const TELLS_FLAGS: Exchange = (
     "e FETCH 1:* (FLAGS UID INTERNALDATE)\r\n",
-    "* 1 FETCH (FLAGS () UID 1 INTERNALDATE \"01-Jan-1970 00:00:00 +0000\")\r\n* 2 FETCH (FLAGS () UID 2 INTERNALDATE \"01-Jan-1970 00:00:00 +0000\")\r\ne OK done\r\n",
+    "* 1 FETCH (FLAGS () UID 1 INTERNALDATE \"01-Jan-1970 00:00:00 +0000\")\r\n\
+* 2 FETCH (FLAGS () UID 2 INTERNALDATE \"01-Jan-1970 00:00:00 +0000\")\r\ne OK done\r\n",
 );
 
 #[test]

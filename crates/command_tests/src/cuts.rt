@@ -37,8 +37,9 @@ const CHECK: Row = Row {
 // A session of POP3 that hasn't enabled UTF-8.
 const POP: Row = Row {
     word: "pop",
-    input: b"USER ann@example.org\r\nPASS pw\r\nUTF8\r\nSTAT\r\nLIST 1\r\nQUIT\r\n",
-    gives: b"+OK ready\r\n+OK\r\n+OK\r\n-ERR out of order\r\n+OK 1 44\r\n+OK 1 44\r\n+OK bye\r\n",
+    input: b"USER ann@example.org\r\nPASS pw\r\nUTF8\r\nSTAT\r\nLIST 1\r\nRETR 1\r\nQUIT\r\n",
+    gives: b"+OK ready\r\n+OK\r\n+OK\r\n-ERR out of order\r\n+OK 1 44\r\n+OK 1 44\r\n\
++OK\r\nSubject:\r\n =?UTF-8?B?Y2Fmw6k=?=\r\n bar\r\n\r\nx\r\n.\r\n+OK bye\r\n",
     records: b"",
     last: b"",
     keeper_calls: OPENING_CALLS,
@@ -50,8 +51,11 @@ const OPENING_CALLS: u64 = 8;
 // A message for the account, of a sender beyond ASCII.
 const SMTP: Row = Row {
     word: "smtp",
-    input: b"EHLO client\r\nMAIL FROM:<jos\xc3\xa9@example.com>\r\nMAIL FROM:<jos\xc3\xa9@example.com> SMTPUTF8\r\nRCPT TO:<ANN@example.org>\r\nRCPT TO:<bob@example.org>\r\nDATA\r\nSubject: \xc3\xa9\r\n\r\n..x\r\n.\r\nQUIT\r\n",
-    gives: b"220 example.org ESMTP\r\n250-example.org\r\n250-8BITMIME\r\n250-SIZE 33554432\r\n250-SMTPUTF8\r\n250 ENHANCEDSTATUSCODES\r\n553 5.6.7 address needs SMTPUTF8\r\n250 2.1.0 ok\r\n250 2.1.5 ok\r\n550 5.1.1 no such mailbox\r\n354 go ahead\r\n250 2.0.0 stored\r\n221 2.0.0 bye\r\n",
+    input: b"EHLO client\r\nMAIL FROM:<jos\xc3\xa9@example.com>\r\nMAIL FROM:<jos\xc3\xa9@example.com> SMTPUTF8\r\n\
+RCPT TO:<ANN@example.org>\r\nRCPT TO:<bob@example.org>\r\nDATA\r\nSubject: \xc3\xa9\r\n\r\n..x\r\n.\r\nQUIT\r\n",
+    gives: b"220 example.org ESMTP\r\n250-example.org\r\n250-8BITMIME\r\n250-SIZE 33554432\r\n250-SMTPUTF8\r\n\
+250 ENHANCEDSTATUSCODES\r\n553 5.6.7 address needs SMTPUTF8\r\n250 2.1.0 ok\r\n250 2.1.5 ok\r\n550 5.1.1 no such mailbox\r\n\
+354 go ahead\r\n250 2.0.0 stored\r\n221 2.0.0 bye\r\n",
     records: DELIVERED,
     last: DELIVERED,
     keeper_calls: OPENING_CALLS + 1,

@@ -272,10 +272,16 @@ fn sessions_open_a_cut_journal_and_no_bad_one(rt: HostRuntime) -> Result<(), Fai
     for word in ["imap", "pop", "smtp"] {
         let cut = first(JOURNAL, JOURNAL.len().saturating_sub(1));
         let opened = outcome_of_words(alloc, &[word], cut, Failing::Nothing)?;
-        assert!(rt; opened.status == 0 && opened.journal.as_slice() == BEGUN, "{word}");
+        assert!(rt;
+            opened.status == 0 && opened.journal.as_slice() == BEGUN,
+            "{word}"
+        );
         let bad = outcome_of_words(alloc, &[word], BAD, Failing::Nothing)?;
         assert!(rt; bad.status == 5 && bad.journal.as_slice() == BAD, "{word}");
-        assert!(rt; bad.given.as_slice() == b"bad journal at 8\r\n".as_slice(), "{word}");
+        assert!(rt;
+            bad.given.as_slice() == b"bad journal at 8\r\n".as_slice(),
+            "{word}"
+        );
     }
     Ok(())
 }

@@ -219,7 +219,9 @@ fn a_refused_recipient_is_reported_with_the_code(rt: HostRuntime) -> Result<(), 
         let came = relayed(rt.alloc(), FROM_ACCOUNT, server.as_slice(), size, NEVER)?;
         assert!(rt;
             came.given.as_slice()
-                == b"EHLO example.org\r\nMAIL FROM:<ann@example.org> BODY=8BITMIME SMTPUTF8\r\nRCPT TO:<jos\xC3\xA9@example.com>\r\nRSET\r\nQUIT\r\n".as_slice()
+                == b"EHLO example.org\r\nMAIL FROM:<ann@example.org> BODY=8BITMIME SMTPUTF8\r\n\
+RCPT TO:<jos\xC3\xA9@example.com>\r\nRSET\r\nQUIT\r\n"
+                    .as_slice()
         );
         assert!(rt; counts(&came.end, 0, 1, 0) && came.end.cause.is_none());
         assert!(rt; says(&came, b"Status: 5.0.0\r\nDiagnostic-Code: smtp; 550\r\n"));
@@ -266,7 +268,9 @@ fn a_message_is_sent_with_its_dots(rt: HostRuntime) -> Result<(), Fail> {
     let came = relayed(alloc, WITH_DOTS, server, 5, NEVER)?;
     assert!(rt;
         came.given.as_slice()
-            == b"EHLO example.org\r\nMAIL FROM:<ann@example.org>\r\nRCPT TO:<x@example.com>\r\nRCPT TO:<y@example.com>\r\nDATA\r\nA: b\r\n\r\n..\r\n...x\r\n.\r\nQUIT\r\n".as_slice()
+            == b"EHLO example.org\r\nMAIL FROM:<ann@example.org>\r\nRCPT TO:<x@example.com>\r\nRCPT TO:<y@example.com>\r\nDATA\r\n\
+A: b\r\n\r\n..\r\n...x\r\n.\r\nQUIT\r\n"
+                .as_slice()
     );
     assert!(rt; counts(&came.end, 1, 1, 0) && came.end.cause.is_none());
     assert!(rt; says(&came, b"Final-Recipient: rfc822; y@example.com\r\n"));
@@ -302,7 +306,8 @@ fn where_a_later_take_fails_no_more_is_said(rt: HostRuntime) -> Result<(), Fail>
 }
 
 const SENT: &[u8] =
-    b"EHLO example.org\r\nMAIL FROM:<ann@example.org> BODY=8BITMIME SMTPUTF8\r\nRCPT TO:<jos\xC3\xA9@example.com>\r\nDATA\r\nSubject: \xC3\xA9\r\n\r\n.\r\nQUIT\r\n";
+    b"EHLO example.org\r\nMAIL FROM:<ann@example.org> BODY=8BITMIME SMTPUTF8\r\nRCPT TO:<jos\xC3\xA9@example.com>\r\nDATA\r\n\
+Subject: \xC3\xA9\r\n\r\n.\r\nQUIT\r\n";
 
 #[test]
 fn where_the_keeper_fails_a_front_is_kept(rt: HostRuntime) -> Result<(), Fail> {
