@@ -2,6 +2,7 @@
 
 PROGRAM := bin/dervlask
 PAGE := man/dervlask.1
+LICENSES := LICENSE-APACHE LICENSE-MIT NOTICE
 PREFIX := /usr/local
 SOURCES := crates.txt HANDLES $(shell find crates -name out -prune -o -type f \( -name '*.rt' -o -name '*.antt' \) -print)
 
@@ -14,8 +15,8 @@ endef
 help:
 	@echo 'make run        builds the program before any proof, shows the surrogate of a message, and keeps nothing'
 	@echo 'make build      proves and builds the program, and leaves it at $(PROGRAM); the first time takes 35 minutes'
-	@echo 'make install    does the same, and copies the program and its man page below PREFIX, which is $(PREFIX)'
-	@echo 'make uninstall  takes these two files away'
+	@echo 'make install    does the same, and copies the program, its man page and its licenses below PREFIX, which is $(PREFIX)'
+	@echo 'make uninstall  takes these files away'
 	@echo 'make test       proves everything, tries wrong bodies, and runs all tests; the first time takes longer still'
 	@echo 'make bench      measures the program (needs python3, valgrind and GNU time)'
 	@echo 'make figures    does the same, and writes the figures into docs/PERFORMANCE.md'
@@ -41,12 +42,15 @@ test:
 	bash .ci/run
 
 install: $(PROGRAM)
-	install -d $(DESTDIR)$(PREFIX)/bin $(DESTDIR)$(PREFIX)/share/man/man1
+	install -d $(DESTDIR)$(PREFIX)/bin $(DESTDIR)$(PREFIX)/share/man/man1 $(DESTDIR)$(PREFIX)/share/doc/dervlask
 	install -m 755 $(PROGRAM) $(DESTDIR)$(PREFIX)/bin/dervlask
 	install -m 644 $(PAGE) $(DESTDIR)$(PREFIX)/share/man/man1/dervlask.1
+	install -m 644 $(LICENSES) $(DESTDIR)$(PREFIX)/share/doc/dervlask
 
 uninstall:
 	rm -f $(DESTDIR)$(PREFIX)/bin/dervlask $(DESTDIR)$(PREFIX)/share/man/man1/dervlask.1
+	rm -f $(LICENSES:%=$(DESTDIR)$(PREFIX)/share/doc/dervlask/%)
+	-rmdir $(DESTDIR)$(PREFIX)/share/doc/dervlask
 
 bench: $(PROGRAM)
 	python3 bench/run $(PROGRAM)

@@ -5,7 +5,7 @@ mod serve;
 mod telling;
 
 use crate::serve::serve;
-use crate::telling::{JOURNAL, tell_failure, tell_left, tell_memory};
+use crate::telling::{JOURNAL, tell_failure, tell_help, tell_left, tell_memory};
 use mail_command::{KEEPER_FAULT, WANT_OF_MEMORY, WIRE_FAULT, run, serve_words};
 use mail_wire::{FileKeeper, Memory, StdWire, SystemClock, Words};
 use std::alloc::{Alloc, Global};
@@ -74,6 +74,7 @@ where
     );
     let status = finished(status, &mut wire);
     let _told = tell_failure(rt, status, &wire, &keeper);
+    let _help = tell_help(rt, status);
     let _left = tell_left(rt, status, &dial);
     status
 }

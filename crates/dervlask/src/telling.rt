@@ -1,5 +1,5 @@
 //! Tells on standard error what failed, as the system puts it.
-use mail_command::{KEEPER_FAULT, LEFT_QUEUED, Served, WANT_OF_MEMORY, WIRE_FAULT};
+use mail_command::{KEEPER_FAULT, LEFT_QUEUED, Served, WANT_OF_MEMORY, WIRE_FAULT, WORDS_REFUSED};
 use mail_wire::{FileKeeper, StdWire, WireFailure};
 use std::alloc::{Alloc, Global};
 use std::fs::{File, Files};
@@ -110,6 +110,14 @@ where
         Served::Memory => eprintln!(rt; "dervlask: connection {number}: out of memory"),
         Served::Limit => eprintln!(rt; "dervlask: connection {number}: it took 1 GiB"),
     }
+}
+
+/// Says how to list the commands, where the words are those of none.
+pub fn tell_help<T: Eprint>(rt: &T, status: u8) -> io::Result<()> {
+    if status != WORDS_REFUSED {
+        return Ok(());
+    }
+    eprintln!(rt; "dervlask: try 'dervlask help'")
 }
 
 /// Says why the next server couldn't be reached, or why the connection to it failed, where recipients are left for that.

@@ -8,6 +8,7 @@ use Rattle.std.specs.List.{AllByRecursion, concat, join_with_byte, list_all, ont
 use Rattle.std.proofs.lemmas.Slice.Eq.{bytes_eq-Decides}
 use Rattle.std.specs.Str.{IsUtf8, str_to_ascii_lowercase}
 use Rattle.mail_wire.specs.Octets.{is_white, is_ascii, is_line_end, same_name}
+use Rattle.mail_wire.specs.Tables.{said_by}
 use Rattle.mail_wire.specs.Folds.{IsFolded}
 use Rattle.mail_wire.specs.Spans.{Stops, StopsBehind}
 use Rattle.mail_wire.proofs.Unfolded.{unfolded-nil}
@@ -22,7 +23,7 @@ use Rattle.field_tokens.specs.Comments.{CommentValue, IsLinePiece}
 use Rattle.utf8_fields.specs.Parts.{FieldParts, HasParts, HasValue}
 use Rattle.encoded_words.proofs.WritableUnits.{all_ascii, behind_ascii, before_ascii, BeginsAscii}
 use Rattle.field_downgrade.specs.Layout.{made_of, spaced}
-use Rattle.field_downgrade.specs.Kinds.{kind_named, is_address_name, is_originator_name, is_destination_name, is_resent_originator_name, is_resent_destination_name, is_id_name, is_plain_name}
+use Rattle.field_downgrade.specs.Kinds.{kind_named}
 use Rattle.field_downgrade.specs.declared.kind.Kind.TheVariants.{Unstructured, Params, Plain}
 use Rattle.param_grammar.specs.declared.ParamKind.TheVariants.{Content}
 use Rattle.param_grammar.specs.Joining.{ParamValue, SaysParams}
@@ -181,11 +182,11 @@ value_utf8 octets f value high has = body_utf8 f.body value high.is_field.body h
 
 -- a name is one of a type or of an encoding whatever its case, and so its kind is known
 pub type_is_params : (name : List ℕ) → same_name name (codes "Content-Type") ≡ true → kind_named name ≡ Params Content
-unfolding kind_named is_address_name is_originator_name is_destination_name is_resent_originator_name is_resent_destination_name is_id_name is_plain_name same_name
+unfolding kind_named said_by same_name
 type_is_params name is = let e : str_to_ascii_lowercase name ≡ codes "content-type" = (bytes_eq-Decides (str_to_ascii_lowercase name) (codes "content-type")).0 is in rw e refl
 
 pub encoding_is_plain : (name : List ℕ) → is_encoding_name name ≡ true → kind_named name ≡ Plain
-unfolding is_encoding_name kind_named is_address_name is_originator_name is_destination_name is_resent_originator_name is_resent_destination_name is_id_name is_plain_name same_name
+unfolding is_encoding_name kind_named said_by same_name
 encoding_is_plain name is = let e : str_to_ascii_lowercase name ≡ codes "content-transfer-encoding" = (bytes_eq-Decides (str_to_ascii_lowercase name) (codes "content-transfer-encoding")).0 is in rw e refl
 
 -- the kind of a name that is kept
@@ -199,7 +200,7 @@ kept_kind name is = elim (or_cases (same_name name (codes "Content-Type")) (is_e
 
 -- such a name doesn't begin with `-`, and neither does one of a structured field
 pub structured_no_hyphen : (name : List ℕ) → kind_named name ≢ Unstructured → ¬ (BeginsHyphen name)
-unfolding kind_named is_address_name is_originator_name is_destination_name is_resent_originator_name is_resent_destination_name is_id_name is_plain_name same_name
+unfolding kind_named said_by same_name
 structured_no_hyphen [] other begins = begins
 structured_no_hyphen (x ∷ name) other begins = other (rw begins refl)
 

@@ -1,10 +1,10 @@
 //! The kinds of fields.
 ghost use Rattle.std.specs.Prelude.{◌≡◌, ◌↔◌, IsTrue};
-ghost use Rattle.field_downgrade.specs.Kinds.{is_originator_name, is_destination_name, is_resent_originator_name, is_resent_destination_name, is_address_name, is_id_name, is_plain_name, kind_named};
+ghost use Rattle.field_downgrade.specs.Kinds.{kind_named};
 ghost use Rattle.field_downgrade.specs.declared.kind.Kind.{Kind};
 ghost use Rattle.field_downgrade.specs.private.Steps.{KeepsWords};
 
-use mail_wire::is_same_name;
+use mail_wire::{TableWord, find_word};
 use param_grammar::ParamKind;
 
 /// What the value of a field is read as.
@@ -21,95 +21,43 @@ pub enum Kind {
     Plain,
 }
 
-#[tactic(auto, unfolding(crate::specs::Kinds::is_originator_name))]
-fn is_originator_name(name: &[u8]) -> bool
-    ensures { result ≡ is_originator_name name.now }
-{
-    is_same_name(name, b"From") || is_same_name(name, b"Sender") || is_same_name(name, b"Reply-To")
-}
-
-#[tactic(auto, unfolding(crate::specs::Kinds::is_destination_name))]
-fn is_destination_name(name: &[u8]) -> bool
-    ensures { result ≡ is_destination_name name.now }
-{
-    is_same_name(name, b"To") || is_same_name(name, b"Cc") || is_same_name(name, b"Bcc")
-}
-
-#[tactic(auto, unfolding(crate::specs::Kinds::is_resent_originator_name))]
-fn is_resent_originator_name(name: &[u8]) -> bool
-    ensures { result ≡ is_resent_originator_name name.now }
-{
-    is_same_name(name, b"Resent-From")
-        || is_same_name(name, b"Resent-Sender")
-        || is_same_name(name, b"Resent-Reply-To")
-}
-
-#[tactic(auto, unfolding(crate::specs::Kinds::is_resent_destination_name))]
-fn is_resent_destination_name(name: &[u8]) -> bool
-    ensures { result ≡ is_resent_destination_name name.now }
-{
-    is_same_name(name, b"Resent-To")
-        || is_same_name(name, b"Resent-Cc")
-        || is_same_name(name, b"Resent-Bcc")
-}
-
-#[tactic(auto, unfolding(crate::specs::Kinds::is_address_name))]
-fn is_address_name(name: &[u8]) -> bool
-    ensures { result ≡ is_address_name name.now }
-{
-    is_originator_name(name)
-        || is_destination_name(name)
-        || is_resent_originator_name(name)
-        || is_resent_destination_name(name)
-}
-
-#[tactic(auto, unfolding(crate::specs::Kinds::is_id_name))]
-fn is_id_name(name: &[u8]) -> bool
-    ensures { result ≡ is_id_name name.now }
-{
-    is_same_name(name, b"Message-ID")
-        || is_same_name(name, b"Resent-Message-ID")
-        || is_same_name(name, b"In-Reply-To")
-        || is_same_name(name, b"References")
-        || is_same_name(name, b"Content-ID")
-}
-
-#[tactic(auto, unfolding(crate::specs::Kinds::is_plain_name))]
-fn is_plain_name(name: &[u8]) -> bool
-    ensures { result ≡ is_plain_name name.now }
-{
-    is_same_name(name, b"Date")
-        || is_same_name(name, b"Resent-Date")
-        || is_same_name(name, b"MIME-Version")
-        || is_same_name(name, b"Content-Transfer-Encoding")
-}
+// The kinds of fields that are structured.
+const FIELD_KINDS: [TableWord<Kind>; 28] = [
+    TableWord(b"From", Kind::Addresses),
+    TableWord(b"Sender", Kind::Addresses),
+    TableWord(b"Reply-To", Kind::Addresses),
+    TableWord(b"To", Kind::Addresses),
+    TableWord(b"Cc", Kind::Addresses),
+    TableWord(b"Bcc", Kind::Addresses),
+    TableWord(b"Resent-From", Kind::Addresses),
+    TableWord(b"Resent-Sender", Kind::Addresses),
+    TableWord(b"Resent-Reply-To", Kind::Addresses),
+    TableWord(b"Resent-To", Kind::Addresses),
+    TableWord(b"Resent-Cc", Kind::Addresses),
+    TableWord(b"Resent-Bcc", Kind::Addresses),
+    TableWord(b"Keywords", Kind::Phrases),
+    TableWord(b"Content-Type", Kind::Params(ParamKind::Content)),
+    TableWord(b"Content-Disposition", Kind::Params(ParamKind::Disposition)),
+    TableWord(b"Message-ID", Kind::Ids),
+    TableWord(b"Resent-Message-ID", Kind::Ids),
+    TableWord(b"In-Reply-To", Kind::Ids),
+    TableWord(b"References", Kind::Ids),
+    TableWord(b"Content-ID", Kind::Ids),
+    TableWord(b"Return-Path", Kind::Path),
+    TableWord(b"Original-Recipient", Kind::Typed),
+    TableWord(b"Final-Recipient", Kind::Typed),
+    TableWord(b"Received", Kind::Trace),
+    TableWord(b"Date", Kind::Plain),
+    TableWord(b"Resent-Date", Kind::Plain),
+    TableWord(b"MIME-Version", Kind::Plain),
+    TableWord(b"Content-Transfer-Encoding", Kind::Plain),
+];
 
 /// The kind of the fields of a name.
-#[tactic(auto, unfolding(crate::specs::Kinds::kind_named))]
 pub fn kind_of(name: &[u8]) -> Kind
     ensures { result ≡ kind_named name.now }
 {
-    if is_address_name(name) {
-        Kind::Addresses
-    } else if is_same_name(name, b"Keywords") {
-        Kind::Phrases
-    } else if is_same_name(name, b"Content-Type") {
-        Kind::Params(ParamKind::Content)
-    } else if is_same_name(name, b"Content-Disposition") {
-        Kind::Params(ParamKind::Disposition)
-    } else if is_id_name(name) {
-        Kind::Ids
-    } else if is_same_name(name, b"Return-Path") {
-        Kind::Path
-    } else if is_same_name(name, b"Original-Recipient") || is_same_name(name, b"Final-Recipient") {
-        Kind::Typed
-    } else if is_same_name(name, b"Received") {
-        Kind::Trace
-    } else if is_plain_name(name) {
-        Kind::Plain
-    } else {
-        Kind::Unstructured
-    }
+    find_word(&FIELD_KINDS, name).unwrap_or(Kind::Unstructured)
 }
 
 fn is_unstructured(name: &[u8]) -> bool

@@ -23,6 +23,6 @@ pub use serving_words::serve_words;
 pub use session_core::{Desk, LIMITS, Limits, Outside, Served, next_desk, open_desk};
 pub use sessions::run_session;
 pub use setup_command::{
-    DONE, KEEPER_FAULT, LEFT_QUEUED, WANT_OF_MEMORY, WIRE_FAULT, tell_unopened,
+    DONE, KEEPER_FAULT, LEFT_QUEUED, WANT_OF_MEMORY, WIRE_FAULT, WORDS_REFUSED, tell_unopened,
 };
 pub use tasks::{Task, give_outcome};

@@ -49,6 +49,7 @@ fn all_commands<'a>(alloc: Global) -> Result<Command<'a>, Memory> {
         .version(VERSION)
         .about("A mail server over standard input and output, or over a port")
         .override_usage("dervlask COMMAND [WORDS]")
+        .after_help("License: Apache-2.0 OR MIT")
         .disable_version_flag(true)
         .disable_help_flag(true)
         .disable_help_subcommand(true);

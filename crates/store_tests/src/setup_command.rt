@@ -78,7 +78,9 @@ fn the_text_of_help(rt: HostRuntime) -> Result<(), Fail> {
         \x20 domain     Make the domain of the word DOMAIN local\n\
         \x20 relay      Send the queue to the next server HOST (host or host:port)\n\
         \x20 gen        Make N messages and serve them to two clients\n\
-        \x20 help       Give this text\n";
+        \x20 help       Give this text\n\
+        \n\
+        License: Apache-2.0 OR MIT\n";
     assert!(rt; given(alloc, wire.entries())?.as_slice() == text.as_bytes());
     Ok(())
 }

@@ -1,6 +1,7 @@
 """Failures of the outside: the status that the program ends with, and the one line that it says on standard error.
 
-With every other status it says nothing there, and what it says on standard output is the same whether standard error takes anything."""
+Where no command has the words it says there how to list the commands, and with every other status nothing. What it says on standard output is
+the same whether standard error takes anything."""
 
 import os
 import pwd
@@ -12,7 +13,7 @@ from journal import FIRST_OCTETS, account, domain, journal, mailbox
 from oracle.downgrade_oracle import MESSAGE_MAX
 from outside.smtp_outside import little_room
 from rows.downgrade_rows import CAFE, little_memory, of_size
-from support.harness import SECONDS, differs
+from support.harness import HINT, REFUSED, SECONDS, differs
 from support.talk import JOURNAL, place_journal, read_journal
 
 STORE = journal(domain(b"x.org"), account(b"a@x.org", b"p"))
@@ -29,6 +30,8 @@ WITH_INPUT = [[b"downgrade"], *(words for words, _ in OF_SESSIONS)]
 OUTPUT, INPUT, KEPT = b"standard output", b"standard input", JOURNAL.encode()
 NO_ROOM, IS_FOLDER, DENIED, BROKEN = b"No space left on device", b"Is a directory", b"Permission denied", b"Broken pipe"
 NOBODY = "nobody"
+# how a run ends whose words no command has
+WRONG = REFUSED, HINT, b"words refused\r\n"
 
 
 def line(place, reason):
@@ -198,7 +201,6 @@ def of_others(program, tally):
     cases = [
         ([b"downgrade"], CAFE, STORE, 0, None), ([b"help"], b"", STORE, 0, None), *((words, octets, STORE, 0, None) for words, octets in OF_SESSIONS), ([b"smtp"], SENDS, STORE, 0, None),
         (DOMAIN, b"", STORE, 0, b""), (ACCOUNT, b"", STORE, 0, b""), (RELAY, b"", STORE, 0, NOTHING),
-        ([b"post"], b"", STORE, 4, b"words refused\r\n"), ([], b"", STORE, 4, b"words refused\r\n"),
         *((words, octets, bad, 5, full) for words, octets in WITH_JOURNAL), ([b"downgrade"], b"x", STORE, 7, b"refused at 0: not a field\r\n"),
         (EXISTS, b"", STORE, 9, b"exists\r\n"), ([b"account", b"b@y.org", b"p"], b"", STORE, 9, b"no such domain\r\n"),
     ]
@@ -207,9 +209,21 @@ def of_others(program, tally):
             tally.note(f"status {status} of {words}: nothing on standard error", ended(place.run(words, octets), status, b"", given))
 
 
+def of_words(program, tally):
+    """Where no command has the words, the hint on standard error says how to list the commands."""
+    for words in ([], [b"post"], [b"--help"], [b"-h"], [b"--version"], [b"help", b"me"], [b"HELP"], [b"serve", b"pop", b"110"], [b"domain", b"\xff"]):
+        with Place(program, STORE) as place:
+            tally.note(f"{words} are the words of no command", ended(place.run(words, CAFE), *WRONG) + place.changes())
+    with Place(program, STORE) as place:
+        found = place.run([b"help"])
+        tally.note("the command of the hint lists the commands", ended(found, 0, b"") + differs("lists relay", b"\n  relay " in found[1], True))
+
+
 def of_mute(program, tally):
     """The status stays where standard error takes nothing, and so does the journal."""
     with Place(program, STORE) as place, open("/dev/full", "wb") as full:
+        found = place.run([b"--help"], stderr=full)
+        tally.note("standard error is full, wrong words", differs("answer", found[:2], (WRONG[0], WRONG[2])) + place.changes())
         found = place.run([b"pop"], QUIT, stdout=full, stderr=full)
         tally.note("standard error is full", differs("status", found[0], 1) + place.changes())
         found = place.run([b"pop"], QUIT, stdout=full, stderr=None, before=shut(2))
@@ -217,5 +231,5 @@ def of_mute(program, tally):
 
 
 def check(program, tally):
-    for checks in (of_output, of_input, of_the_journal, of_modes, of_memory, of_others, of_mute):
+    for checks in (of_output, of_input, of_the_journal, of_modes, of_memory, of_others, of_words, of_mute):
         checks(program, tally)

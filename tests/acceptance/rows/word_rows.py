@@ -14,6 +14,7 @@ BAD = bytes.fromhex("4D41494C4A4E4C310000000109")
 EXISTS, NO_DOMAIN = (9, b"exists\r\n"), (9, b"no such domain\r\n")
 DONE, NOTHING_SENT = (0, b""), (0, b"sent 0, reported 0, left 0\r\n")
 TEXT_MAX = 65_536
+LICENSE = b"License: Apache-2.0 OR MIT"
 COMMANDS = [b"downgrade", b"check", b"pop", b"smtp", b"imap", b"serve", b"account", b"domain", b"relay", b"gen", b"help"]
 
 
@@ -121,12 +122,12 @@ def check_refusals(program, tally):
 
 
 def check_help(program, tally):
-    """It names every command, and leaves the journal alone, a bad one too."""
+    """It names every command and the license, and leaves the journal alone, a bad one too."""
     for before in (None, BAD):
         (status, given), left = run_on(program, before, ["help"])
         faults = differs("status", status, 0) + differs("journal", left, before)
         faults += differs("is ASCII, with whole lines", given.isascii() and given.endswith(b"\n"), True)
-        tally.note("help", faults + [f"it doesn't name {word.decode()}: {given!r}" for word in COMMANDS if word not in given])
+        tally.note("help", faults + [f"it doesn't name {word.decode()}: {given!r}" for word in [*COMMANDS, LICENSE] if word not in given])
 
 
 def check_use(program, tally):

@@ -10,6 +10,8 @@ SECONDS = 120
 
 # the statuses of a program that something outside of it failed: it says what, in one line on standard error
 FAILURES = (1, 2, 3)
+# the status of words that no command has, and the hint that follows it on standard error
+REFUSED, HINT = 4, b"dervlask: try 'dervlask help'\n"
 # the status of `relay` where something is left: it says what failed if the connection did
 LEFT = 8
 TOLD = re.compile(rb"dervlask: [!-~][ -~]*\n")
@@ -74,9 +76,16 @@ class Program:
 
 
 def error_faults(status, said, words):
-    """What is wrong with what a run said on standard error: it is one line where something outside failed, and nothing else."""
+    """What is wrong with what a run said on standard error: one line where something outside failed, the hint where no command has the
+    words, and else nothing."""
     is_told = TOLD.fullmatch(said)
-    if is_told if status in FAILURES else not said or is_told and status == LEFT:
+    if status == REFUSED:
+        is_right = said == HINT
+    elif status in FAILURES:
+        is_right = is_told
+    else:
+        is_right = not said or is_told and status == LEFT
+    if is_right:
         return []
     return [f"{words} ended with status {status} and said {show(said)!r} on standard error"]
 
