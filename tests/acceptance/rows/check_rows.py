@@ -39,6 +39,7 @@ def of_messages():
         row("no octets", "", 0, 0, 1, 0, "no"),
         row("no last CRLF", "A: b", 6, 6, 1, 0, "no"),
         row("a body beyond ASCII", "A: b\r\n\r\né\r\n", 12, 12, 1, 0, "no"),
+        row("a body beyond ASCII without a last CRLF", "A: b\r\n\r\né", 12, 12, 1, 0, "no"),
         row("a message/global", GLOBAL.format(""), 107, 123, 3, 2, "yes"),
         row("a message/global that isn't opened", GLOBAL.format("Content-Transfer-Encoding: base64\r\n"), 142, 142, 2, 0, "no"),
         row("a letter with a part that has a file name", LETTER, 481, 551, 3, 4, "yes"),
@@ -47,7 +48,10 @@ def of_messages():
         row("a message of 33,554,432 octets", of_size(MESSAGE_MAX), MESSAGE_MAX, MESSAGE_MAX, 1, 0, "no"),
         ("no field", b"Subject", *refused(0, "not a field")),
         ("no UTF-8", b"A: \xff", *refused(3, "not utf-8")),
+        ("a line that is no field, behind one", b"A: b\r\nx\r\n", *refused(6, "not a field")),
         ("a bare LF", b"A: b\n", *refused(4, "bare lf")),
+        ("CR last", b"A: b\r", *refused(4, "bare cr")),
+        ("NUL", b"A: \0\r\n", *refused(3, "nul")),
         ("too large", of_size(MESSAGE_MAX + 1), *refused(MESSAGE_MAX, "too large")),
     ]
 

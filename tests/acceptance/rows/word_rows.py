@@ -65,7 +65,7 @@ def refused_words():
     addresses = ["", "a", "@x.org", "a@", "a@b_c", "a@[1.2.3.4]", "<a@x.org>", "a@x.org,b@x.org", "a@x.org,", "@y:a@x.org", "-a@x.org", "a(@x.org",
         "a" * (TEXT_MAX - 5) + "@x.org"]
     others = [["domain"], ["domain", "x.org", "y.org"], ["DOMAIN", "x.org"], ["account"], ["account", "a@x.org"], ["account", "a@x.org", ""],
-        ["account", "a@x.org", "-p"], ["account", "a@x.org", "p", "q"], ["account", "a@x.org", "x" * (TEXT_MAX + 1)], ["Account", "a@x.org", "p"],
+        ["account", "a@x.org", "-p"], ["account", "a@x.org", "p", "q"], ["account", "a@x.org", "p", "--help"], ["account", "a@x.org", "x" * (TEXT_MAX + 1)], ["Account", "a@x.org", "p"],
         ["relay"], ["relay", ""], ["relay", "-x"], ["relay", "a", "b"], ["relay", "a", "25"], ["RELAY", "a"], ["relay", "a", ""],
         [], ["post"], ["post", "0"], ["pop", "1"], ["smtp", "-1"], ["imap", "1"], ["IMAP"], ["help", "x"], ["help", ""], ["--help"], ["-h"], ["HELP"],
         ["downgrade", "pop", "1", "1"]]

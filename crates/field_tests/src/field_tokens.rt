@@ -1,0 +1,3 @@
+//! The worked rows of field_tokens, by its public calls.
+mod comments;
+mod tokens;

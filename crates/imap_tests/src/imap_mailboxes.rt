@@ -1,0 +1,5 @@
+//! Names, patterns, sets and flags of mailboxes, by the public calls of imap_mailboxes.
+mod flags;
+mod names;
+mod patterns;
+mod sets;

@@ -1,0 +1,3 @@
+//! The views of worked messages, by the public calls of imap_views.
+mod chosen;
+mod views;

@@ -1,0 +1,2 @@
+mod FetchedLemmas
+pub mod FailureLemmas

@@ -1,0 +1,4 @@
+//! Tests of relay_choice, by its public calls.
+mod client;
+mod plan;
+mod reply;

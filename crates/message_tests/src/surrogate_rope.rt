@@ -1,0 +1,3 @@
+//! The ropes of worked messages, by the public calls of surrogate_rope.
+mod hostile;
+mod ropes;

@@ -1,5 +1,0 @@
-//! Tests of relay_session.
-#![tactic(auto)]
-
-#[cfg(test)]
-mod tests;

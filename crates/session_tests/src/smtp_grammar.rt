@@ -1,0 +1,3 @@
+//! Tests of smtp_grammar, by its public calls.
+mod command;
+mod data;

@@ -1,0 +1,7 @@
+//! The rows of journal_records, by its public calls.
+mod frames;
+mod keys;
+mod messages;
+mod reading;
+mod texts;
+mod writing;

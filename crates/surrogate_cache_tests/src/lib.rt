@@ -1,7 +1,0 @@
-//! What is shown of worked messages, in both kinds of session, and the cache of their ropes, by the public calls of surrogate_cache.
-#![tactic(auto)]
-
-#[cfg(test)]
-mod fetches;
-#[cfg(test)]
-mod tests;

@@ -1,5 +1,0 @@
-use Rattle.utf8_reports_tests.proofs.FailureLemmas.{worked_failure}
-use Rattle.utf8_reports_tests.proofs.writing_tests.failure_of.Goals as goal
-
-pub returns-in-Ok-from_slice : goal.returns-in-Ok-from_slice
-returns-in-Ok-from_slice c = worked_failure c.in-Some.path c.in-Ok-from_slice.name c.in-Ok.failed c.in-Some.ensures c.in-Ok-from_slice.ensures c.in-Ok.ensures
