@@ -93,8 +93,8 @@ fn a_waiting_message_is_written_but_for_its_octets(rt: HostRuntime) -> Result<()
     Ok(())
 }
 
-// The address of a text, which a path may have.
-fn address_of(alloc: Global, text: &[u8]) -> Result<Address, Fail>
+/// The address of a text, which a path may have.
+pub fn address_of(alloc: Global, text: &[u8]) -> Result<Address, Fail>
     ensures { IfOk result IsSendable }
 {
     let Some(address) = read_text(alloc, text)? else {

@@ -6,9 +6,9 @@ ghost use Rattle.journal_records.specs.Grammar.{IsDate};
 ghost use Rattle.journal_records.specs.Stored.{IsStored};
 ghost use Rattle.kept_mail.specs.declared.limits.TheConstants.{RECIPIENTS_MAX};
 
+use crate::journal_records::writing::address_of;
 use ace_domains::normal;
-use address_grammar::{Address, write_address};
-use journal_records::{TEXT_MAX, is_date, is_stored, read_text};
+use journal_records::{is_date, is_stored};
 use kept_mail::{Addresses, Delivery, Numbers};
 use mail_store::{Store, StoreFault};
 use mail_wire::{MemKeeper, Octets};
@@ -36,19 +36,6 @@ fn adds_domain(
         return Err(Fail::from("no domain can be added"));
     }
     Ok(store.add_domain(keeper, domain) == answer)
-}
-
-// The address of a text, which a path may have.
-fn address_of(alloc: Global, text: &[u8]) -> Result<Address, Fail>
-    ensures { IfOk result IsSendable }
-{
-    let Some(address) = read_text(alloc, text)? else {
-        return Err(Fail::from("no address"));
-    };
-    if write_address(alloc, &address)?.len() > TEXT_MAX {
-        return Err(Fail::from("too long"));
-    }
-    Ok(address)
 }
 
 // Whether adding an account answers this.
