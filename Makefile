@@ -10,7 +10,7 @@ define needs_rt
 @command -v rt > /dev/null || { echo 'the command rt of rattle-kit-13b or 13f is not on the PATH'; exit 1; }
 endef
 
-.PHONY: help run build test install uninstall bench figures
+.PHONY: help run build test edits pages install uninstall bench figures
 
 help:
 	@echo 'make run        builds the program before any proof, shows the surrogate of a message, and keeps nothing'
@@ -18,6 +18,9 @@ help:
 	@echo 'make install    does the same, and copies the program, its man page and its licenses below PREFIX, which is $(PREFIX)'
 	@echo 'make uninstall  takes these files away'
 	@echo 'make test       proves everything, tries wrong bodies, and runs all tests; the first time takes longer still'
+	@echo 'make edits      tries the wrong bodies whose contracts changed, over what make test built, and writes docs/EDITS.md;'
+	@echo '                CRATES="mail_wire mail_store" for those of some crates alone'
+	@echo 'make pages      writes docs/SPECIFICATION.md from the comments of the definitions (needs python3)'
 	@echo 'make bench      measures the program (needs python3, valgrind and GNU time)'
 	@echo 'make figures    does the same, and writes the figures into docs/PERFORMANCE.md'
 	@echo 'The time was measured on a quiet machine of four processors.'
@@ -40,6 +43,13 @@ $(PROGRAM): $(SOURCES)
 test:
 	$(needs_rt)
 	bash .ci/run
+
+edits:
+	$(needs_rt)
+	tools/try_edits $(CRATES)
+
+pages:
+	tools/check_pages --write
 
 install: $(PROGRAM)
 	install -d $(DESTDIR)$(PREFIX)/bin $(DESTDIR)$(PREFIX)/share/man/man1 $(DESTDIR)$(PREFIX)/share/doc/dervlask

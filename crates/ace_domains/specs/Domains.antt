@@ -1,4 +1,4 @@
--- Domains, and their form in A-labels (RFC 5890, 2.3.2.1).
+-- Domains, their form in A-labels (RFC 5890, 2.3.2.1), and which of them are the same (RFC 5890, 2.3.2.4).
 use Rattle.std.specs.Prelude.{◌≡◌, ◌≢◌, ℕ, ◌-◌, ◌<◌, ◌≤◌, Bool, true, ◌||◌, ◌==◌, List, length, slice_index, codes, All, Option, unwrap_or}
 use Rattle.std.specs.Char.{is_ascii_alphanumeric, is_ascii_lowercase, is_ascii_digit}
 use Rattle.std.specs.List.{list_all, list_any, join_with_byte}

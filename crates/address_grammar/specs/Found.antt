@@ -1,4 +1,4 @@
--- Mailboxes whose phrases aren't read.
+-- Mailboxes whose phrases aren't read (RFC 5322, 3.4).
 use Rattle.std.specs.Prelude.{Bool, List}
 use Rattle.encoded_words.specs.Words.{UnitValue}
 use Rattle.field_tokens.specs.Tokens.{TokenValue}

@@ -1,3 +1,4 @@
+-- Phrases, addresses, paths and lists of addresses, as they are read.
 pub mod Addresses
 pub mod Paths
 pub mod Phrases

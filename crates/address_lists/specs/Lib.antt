@@ -1,3 +1,4 @@
+-- Phrases, addresses and lists of addresses, as they are written in ASCII.
 pub mod PhrasePieces
 pub mod PhraseLists
 pub mod ListPieces

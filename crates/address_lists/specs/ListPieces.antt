@@ -1,4 +1,4 @@
--- How lists of addresses are written in ASCII (RFC 6857, 3.2).
+-- How lists of addresses are written in ASCII (RFC 6857, 3.2; RFC 5891).
 use Rattle.std.specs.Prelude.{◌≡◌, ◌⊎◌, ℕ, Bool, true, false, not, ◌&&◌, if◌then◌else◌, List, [], ◌∷◌, ◌++◌, Option, Some, None, is_some, codes}
 use Rattle.std.specs.List.{list_all, list_any}
 use Rattle.mail_wire.specs.Octets.{is_ascii}

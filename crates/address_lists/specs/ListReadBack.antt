@@ -1,4 +1,4 @@
--- What the pieces of a list of addresses read as.
+-- What the pieces of a list of addresses read as (RFC 6857, 3.2).
 use Rattle.std.specs.Prelude.{◌≡◌, ℕ, ◌<◌, Bool, true, false, List, [], length, Some}
 use Rattle.std.specs.List.{AllByRecursion, AllZip, list_all, join_with_byte}
 use Rattle.mail_wire.specs.Octets.{is_white}

@@ -2,12 +2,12 @@
 #![tactic(auto)]
 
 #[cfg(test)]
-mod block_pool;
+mod test_block_pool;
 #[cfg(test)]
-mod encoded_words;
+mod test_encoded_words;
 #[cfg(test)]
-mod mail_wire;
+mod test_mail_wire;
 #[cfg(test)]
-mod tcp_wire;
+mod test_tcp_wire;
 #[cfg(test)]
-mod utf8_fields;
+mod test_utf8_fields;

@@ -1,2 +1,3 @@
+-- Memory that is reserved at once, in blocks.
 pub mod Pool
 pub mod private

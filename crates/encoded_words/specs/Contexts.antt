@@ -1,4 +1,4 @@
--- The units of a text, by where it stands.
+-- The units of a text, by where it stands (RFC 2047, 5).
 use Rattle.std.specs.Prelude.{ℕ, List}
 use Rattle.encoded_words.specs.declared.Context.{Context}
 use Rattle.encoded_words.specs.declared.Context.TheVariants.{Unstructured, Comment}

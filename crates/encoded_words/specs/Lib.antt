@@ -1,3 +1,4 @@
+-- Encoded words, and the units of a text: what it says, whichever way it is written.
 pub mod Words
 pub mod Units
 pub mod CommentUnits

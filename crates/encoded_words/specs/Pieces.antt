@@ -1,4 +1,4 @@
--- The B words of a text (RFC 2047, 4.1 and 5): each holds whole characters, as many as fit.
+-- The B words of a text (RFC 2047, 2, 4.1 and 5): each holds whole characters, as many as fit.
 use Rattle.std.specs.Prelude.{◌≡◌, ℕ, ◌<◌, ◌≤◌, List, [], ◌∷◌, ◌++◌, length, map, codes}
 use Rattle.std.specs.List.{concat, join_with_byte}
 use Rattle.std.specs.Str.{IsAscii, IsCharBoundary}

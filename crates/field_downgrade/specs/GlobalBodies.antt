@@ -1,4 +1,4 @@
--- A field's body whose value is message/global, with message/rfc822 in its place.
+-- A field's body whose value is message/global, with message/rfc822 in its place (RFC 6532, 3.7).
 use Rattle.std.specs.Prelude.{◌≡◌, ℕ, List, ◌++◌, take, drop, codes}
 use Rattle.mail_wire.specs.Folds.{unfolded}
 use Rattle.utf8_fields.specs.Parts.{HasValue}

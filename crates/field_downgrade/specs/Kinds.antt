@@ -1,4 +1,4 @@
--- The kinds of fields, by their names. Names are compared without regard to ASCII case.
+-- The kinds of fields, by their names (RFC 5322, 3.6; RFC 2045, 3). Names are compared without regard to ASCII case.
 use Rattle.std.specs.Prelude.{ℕ, List, [], ◌∷◌, codes, unwrap_or}
 use Rattle.mail_wire.specs.Tables.{Named, said_by}
 use Rattle.field_downgrade.specs.declared.kind.Kind.{Kind}

@@ -1,4 +1,4 @@
--- The layout of an unstructured field.
+-- The layout of an unstructured field (RFC 6857, 3).
 use Rattle.std.specs.Prelude.{◌≡◌, ℕ, Bool, true, false, not, if◌then◌else◌, List, [], ◌∷◌, ◌++◌, map}
 use Rattle.std.specs.List.{list_all, list_any, flat_map}
 use Rattle.encoded_words.specs.Pieces.{AreBWords}

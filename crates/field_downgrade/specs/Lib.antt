@@ -1,3 +1,4 @@
+-- One header field of a surrogate: which field the layout rule gives, and what it keeps of the original.
 pub mod Kinds
 pub mod Words
 pub mod Layout

@@ -1,4 +1,5 @@
--- The layout of a field, and when a made field stands for the original (RFC 6857).
+-- The layout of a field, and when a made field stands for the original (RFC 6857, 3). What it keeps of lines lets a multipart keep its parts (RFC 2046,
+-- 5.1.1).
 use Rattle.std.specs.Prelude.{◌≡◌, ℕ, Bool, true, false, ◌||◌, List, [], ◌∷◌, codes, Option, Some, None}
 use Rattle.std.specs.List.{AllZip, list_all}
 use Rattle.std.specs.Str.{bytes_eq}

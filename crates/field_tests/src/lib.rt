@@ -2,18 +2,18 @@
 #![tactic(auto)]
 
 #[cfg(test)]
-mod ace_domains;
+mod test_ace_domains;
 #[cfg(test)]
-mod address_grammar;
+mod test_address_grammar;
 #[cfg(test)]
-mod address_lists;
+mod test_address_lists;
 #[cfg(test)]
-mod encapsulated_fields;
+mod test_encapsulated_fields;
 #[cfg(test)]
-mod field_downgrade;
+mod test_field_downgrade;
 #[cfg(test)]
-mod field_tokens;
+mod test_field_tokens;
 #[cfg(test)]
-mod param_2231;
+mod test_param_2231;
 #[cfg(test)]
-mod param_grammar;
+mod test_param_grammar;

@@ -1,4 +1,4 @@
--- What a comment says, and how it is written in ASCII (RFC 5322, 3.2.2; RFC 2047, 5, rule 2).
+-- What a comment says, and how it is written in ASCII (RFC 5322, 3.2.2; RFC 2047, 5, rule 2; RFC 6857, 3.2).
 use Rattle.std.specs.Prelude.{◌≡◌, ◌↔◌, ◌<◌, ℕ, Bool, true, false, List, [], ◌∷◌, ◌++◌, length, Option, Some, None, ⊤, IsUtf8}
 use Rattle.std.specs.List.{AllByRecursion, list_all, join_with_byte}
 use Rattle.mail_wire.specs.Octets.{is_ascii}

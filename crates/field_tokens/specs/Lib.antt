@@ -1,3 +1,4 @@
+-- The tokens and comments of a structured field.
 pub mod TokenOctets
 pub mod Groups
 pub mod Tokens

@@ -1,4 +1,4 @@
--- Squeezed text: the tokens without comments, with a space where a gap or a comment stood between two of them.
+-- Squeezed text: the tokens without comments, with a space where a gap or a comment stood between two of them (RFC 5322, 3.2.2 and 3.2.3).
 use Rattle.std.specs.Prelude.{◌≡◌, ℕ, ◌⊎◌, Bool, true, false, not, List, [], ◌∷◌, ◌++◌, map, filter}
 use Rattle.std.specs.List.{flat_map, join_with_byte, slice_split}
 use Rattle.field_tokens.specs.declared.Style.{Style}

@@ -1,4 +1,4 @@
--- What is left of a command behind a literal.
+-- What is left of a command behind a literal (RFC 3501, 9).
 use Rattle.std.specs.Prelude.{◌≡◌, ℕ, ◌<◌, Bool, true, false, List, [], ◌∷◌, ◌++◌, Option, ⊤}
 use Rattle.imap_words.specs.Languages.{Then, After, Is, IsOctet, IsCounted, IsMoreThan, Maybe}
 use Rattle.imap_words.specs.Tokens.{IsSpace, IsCloseParenthesis, IsRunOf, is_name_char}

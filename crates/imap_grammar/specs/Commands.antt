@@ -1,4 +1,4 @@
--- Commands (RFC 3501, 6 and 9; RFC 5161, 3.1; RFC 6855, 3 and 4). The mode says whether UTF8=ACCEPT is enabled.
+-- Commands (RFC 3501, 6, 6.3.11, 6.4 and 9; RFC 5161, 3.1; RFC 6855, 3 and 4). The mode says whether UTF8=ACCEPT is enabled.
 use Rattle.std.specs.Prelude.{◌≡◌, ℕ, Bool, true, false, List, [], ◌∷◌, ◌==◌, codes, Option, None, Some}
 use Rattle.mail_wire.specs.Lines.{first_line}
 use Rattle.imap_words.specs.Languages.{Then, After, Or, Is, IsCounted, IsList, Maybe}

@@ -1,4 +1,4 @@
--- What is due at the octets of a command that came so far, and what a reader tells of a piece.
+-- What is due at the octets of a command that came so far, and what a reader tells of a piece (RFC 3501, 2.2, 4.3, 6.3.11 and 7.5).
 use Rattle.std.specs.Prelude.{◌≡◌, ℕ, ◌+◌, ◌<◌, ◌≤◌, Bool, List, [], ◌∷◌, ◌++◌, length, take, ◌⊎◌, Option, None, Some, codes}
 use Rattle.std.specs.List.{All, flat_map}
 use Rattle.mail_wire.specs.Lines.{first_line}

@@ -1,4 +1,4 @@
--- What is left of FETCH where one of its readers hands over to another.
+-- What is left of FETCH where one of its readers hands over to another (RFC 3501, 9).
 use Rattle.std.specs.Prelude.{◌≡◌, ℕ, Bool, true, false, ◌==◌, List, [], ◌∷◌, ◌++◌, Option, None, Some}
 use Rattle.mail_wire.specs.Lines.{first_line}
 use Rattle.imap_words.specs.Languages.{Then, After, Or, Is, IsOctet, IsMoreThan, Maybe}

@@ -1,3 +1,4 @@
+-- The commands of IMAP, and how they are found in a stream.
 pub mod Flags
 pub mod Fetching
 pub mod Commands

@@ -1,4 +1,4 @@
--- The names that texts are in modified UTF-7, told by a function.
+-- The names that texts are in modified UTF-7 (RFC 3501, 5.1.3), told by a function.
 use Rattle.std.specs.Prelude.{◌≡◌, ℕ, List, Option, None, Some, IsUtf8}
 use Rattle.imap_words.specs.Utf7.{modified_utf7}
 

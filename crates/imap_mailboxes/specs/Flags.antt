@@ -1,4 +1,4 @@
--- Flags of messages (RFC 3501, 2.3.2, 6.4.6 and 7.4.2).
+-- Flags of messages (RFC 3501, 2.3.2, 6.4.6, 7.4.2 and 9).
 use Rattle.std.specs.Prelude.{ℕ, ◌/◌, ◌%◌, ◌==◌, Bool, not, ◌&&◌, ◌||◌, List, [], ◌∷◌, ◌++◌, codes, sum_by, if◌then◌else◌}
 use Rattle.std.specs.List.{join_with_byte}
 use Rattle.imap_grammar.specs.declared.command.StoreOp.{StoreOp}

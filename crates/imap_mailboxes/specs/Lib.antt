@@ -1,3 +1,4 @@
+-- Names, patterns, sets and flags of IMAP, over the mailboxes of the store.
 pub mod Names
 pub mod Patterns
 pub mod Sets

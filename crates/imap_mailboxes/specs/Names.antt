@@ -1,4 +1,4 @@
--- Mailbox names in commands and replies (RFC 3501, 4.3, 5.1 and 9; RFC 6855, 3).
+-- Mailbox names in commands and replies (RFC 3501, 4.3, 5.1, 5.1.3 and 9; RFC 6855, 3).
 use Rattle.std.specs.Prelude.{◌≡◌, ◌≢◌, ℕ, Bool, true, false, List, [], ◌∷◌, ◌++◌, Option, None, Some, IsUtf8, if◌then◌else◌}
 use Rattle.std.specs.List.{flat_map}
 use Rattle.imap_words.specs.Tokens.{is_quoted_special}

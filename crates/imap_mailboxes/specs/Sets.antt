@@ -1,4 +1,4 @@
--- Which messages of a folder a set names (RFC 3501, 2.3.1.2, 6.4.8 and 9).
+-- Which messages of a folder a set names (RFC 3501, 2.3.1, 6.4.8 and 9).
 use Rattle.std.specs.Prelude.{ℕ, ◌+◌, Bool, true, false, ◌&&◌, ◌||◌, nat_le, nat_lt, List, [], ◌∷◌, Option, None, Some, length, if◌then◌else◌}
 use Rattle.std.specs.List.{list_any}
 use Rattle.kept_mail.specs.declared.kept.Listed.{Listed}

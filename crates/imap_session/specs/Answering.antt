@@ -1,4 +1,4 @@
--- Which commands may change the store, and how each is answered.
+-- Which commands may change the store, and how each is answered (RFC 3501, 2.2.2 and 6.4.5).
 use Rattle.std.specs.Prelude.{◌≡◌, ◌++◌, ℕ, Bool, true, false, List, [], ◌∷◌}
 use Rattle.mail_store.specs.StoreState.{StoreState}
 use Rattle.session_core.specs.Acts.{Act}

@@ -1,4 +1,4 @@
--- What FETCH tells of its items (RFC 3501, 6.4.5 and 7.4.2): sizes, sections and views are those of what the session is served of a message.
+-- What FETCH tells of its items (RFC 3501, 6.4.5 and 7.4.2; RFC 6857): sizes, sections and views are those of what the session is served of a message.
 use Rattle.std.specs.Prelude.{ℕ, Bool, true, false, not, ◌+◌, ◌-◌, ◌++◌, List, [], ◌∷◌, Option, None, Some, length, codes, map, min, take, drop, if◌then◌else◌}
 use Rattle.std.specs.Fmt.{decimal}
 use Rattle.std.specs.List.{join_with_byte, list_all, list_any}

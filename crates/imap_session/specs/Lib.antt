@@ -1,3 +1,4 @@
+-- IMAP: which replies and changes each command brings.
 pub mod Replies
 pub mod Items
 pub mod Machine

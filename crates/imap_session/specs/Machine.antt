@@ -1,4 +1,4 @@
--- The IMAP machine (RFC 3501, 3, 6 and 7; RFC 5161, 3.1; RFC 6855, 3).
+-- The IMAP machine (RFC 3501, 3, 6, 7 and 9; RFC 5161, 3.1; RFC 6855, 3 and 4).
 use Rattle.std.specs.Prelude.{ℕ, Bool, true, false, ◌+◌, ◌==◌, ◌++◌, ◌&&◌, ◌||◌, not, nat_le, nat_lt, List, [], ◌∷◌, Option, None, Some, length, codes, map, filter, slice_get, count_by, is_some, option_and_then, if◌then◌else◌}
 use Rattle.std.specs.Fmt.{decimal}
 use Rattle.std.specs.List.{flat_map, list_any, list_all}

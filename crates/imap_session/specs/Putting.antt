@@ -1,4 +1,4 @@
--- What comes of an APPEND: its message is put, or one of four causes is told.
+-- What comes of an APPEND (RFC 3501, 6.3.11; RFC 6855, 4): its message is put, or one of four causes is told.
 use Rattle.std.specs.Prelude.{◌≡◌, ◌⊎◌, ◌<◌, ◌≤◌, ◌+◌, ◌==◌, ◌++◌, ℕ, Bool, true, List, [], ◌∷◌, length, codes, Option, None, Some, if◌then◌else◌}
 use Rattle.std.specs.Fmt.{decimal}
 use Rattle.journal_records.specs.Stored.{IsStored}

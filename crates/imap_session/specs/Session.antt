@@ -1,4 +1,4 @@
--- A session (RFC 3501, 3): the machine over a stream, and what its values stand for.
+-- A session (RFC 3501, 2.2, 3 and 4.3): the machine over a stream, and what its values stand for.
 use Rattle.std.specs.Prelude.{◌≡◌, ℕ, ◌+◌, ◌^◌, ◌<◌, ◌++◌, Bool, true, false, ◌&&◌, List, [], ◌∷◌, codes, drop, length, Option, None, Some, Result, IfOk, if◌then◌else◌, slice_range}
 use Rattle.std.specs.List.{All, list_any}
 use Rattle.std.specs.Option.{option_map}

@@ -2,10 +2,10 @@
 #![tactic(auto)]
 
 #[cfg(test)]
-mod imap_grammar;
+mod test_imap_grammar;
 #[cfg(test)]
-mod imap_mailboxes;
+mod test_imap_mailboxes;
 #[cfg(test)]
-mod imap_views;
+mod test_imap_views;
 #[cfg(test)]
-mod imap_words;
+mod test_imap_words;

@@ -4,41 +4,58 @@ use Rattle.std.proofs.lemmas.List.{append-nil}
 use Rattle.imap_views.specs.Strings.{AddsText, spaced}
 use Rattle.imap_views.specs.Structures.{behind_spaces}
 use Rattle.imap_views.specs.Envelopes.{IsStringOf, AreAddressesOf, AreAddressesOr, IsEnvelope}
-use Rattle.imap_views.specs.private.Reading.{HasAllAddresses}
+use Rattle.imap_views.specs.private.Reading.{AddsBehindSpace, HasAllAddresses, HasSenders}
 use Rattle.imap_views.proofs.SpacedLemmas.{behind_put, spaced_one, spaced_more, spaced_put}
 
-pub all_addresses : (raws : List (List ℕ)) (from sender reply_to to cc bcc old a b c d e new : List ℕ) → AreAddressesOf (codes "From") raws from → AreAddressesOr from (codes "Sender") raws sender
-    → AreAddressesOr from (codes "Reply-To") raws reply_to → AreAddressesOf (codes "To") raws to → AreAddressesOf (codes "Cc") raws cc → AreAddressesOf (codes "Bcc") raws bcc
-    → a ≡ old ++ 32 ∷ from → b ≡ a ++ 32 ∷ sender → c ≡ b ++ 32 ∷ reply_to → d ≡ c ++ 32 ∷ to → e ≡ d ++ 32 ∷ cc → new ≡ e ++ 32 ∷ bcc → AddsText (HasAllAddresses raws) old new
-all_addresses raws from sender reply_to to cc bcc old a b c d e new is_from is_sender is_reply_to is_to is_cc is_bcc is_a is_b is_c is_d is_e is_new = (
-  behind_spaces (from ∷ sender ∷ reply_to ∷ to ∷ cc ∷ bcc ∷ []),
+pub senders_put : (raws : List (List ℕ)) (from old a b new : List ℕ) → AreAddressesOf (codes "From") raws from → a ≡ old ++ 32 ∷ from
+    → AddsBehindSpace (AreAddressesOr from (codes "Sender") raws) a b → AddsBehindSpace (AreAddressesOr from (codes "Reply-To") raws) b new → AddsText (HasSenders raws) old new
+senders_put raws from old a b new is_from is_a sender reply_to = (
+  behind_spaces (from ∷ sender.0 ∷ reply_to.0 ∷ []),
   record {
     from = from;
     is_from = is_from;
-    sender = sender;
-    is_sender = is_sender;
-    reply_to = reply_to;
-    is_reply_to = is_reply_to;
-    to = to;
-    is_to = is_to;
-    cc = cc;
-    is_cc = is_cc;
-    bcc = bcc;
-    is_bcc = is_bcc;
+    sender = sender.0;
+    is_sender = sender.1;
+    reply_to = reply_to.0;
+    is_reply_to = reply_to.1;
     text_is = refl;
   },
-  behind_put old (from ∷ sender ∷ reply_to ∷ to ∷ cc ∷ []) bcc e new (behind_put old (from ∷ sender ∷ reply_to ∷ to ∷ []) cc d e (behind_put old (from ∷ sender ∷ reply_to ∷ []) to c d
-      (behind_put old (from ∷ sender ∷ []) reply_to b c (behind_put old (from ∷ []) sender a b (behind_put old [] from old a (sym (append-nil old)) is_a) is_b) is_c) is_d) is_e) is_new,
+  behind_put old (from ∷ sender.0 ∷ []) reply_to.0 b new (behind_put old (from ∷ []) sender.0 a b (behind_put old [] from old a (sym (append-nil old)) is_a) sender.2) reply_to.2,
 )
 
-pub envelope_made : (raws : List (List ℕ)) (date subject addresses in_reply_to message_id a b c d e made : List ℕ) → IsStringOf (codes "Date") raws date → IsStringOf (codes "Subject") raws subject
-    → HasAllAddresses raws addresses → IsStringOf (codes "In-Reply-To") raws in_reply_to → IsStringOf (codes "Message-ID") raws message_id
-    → a ≡ (40 ∷ []) ++ date → b ≡ a ++ 32 ∷ subject → c ≡ b ++ addresses → d ≡ c ++ 32 ∷ in_reply_to → e ≡ d ++ 32 ∷ message_id → made ≡ e ++ 41 ∷ [] → IsEnvelope raws made
-envelope_made raws date subject addresses in_reply_to message_id a b c d e made is_date is_subject all is_in_reply_to is_message_id is_a is_b is_c is_d is_e is_made = record {
-  date = date;
-  is_date = is_date;
-  subject = subject;
-  is_subject = is_subject;
+pub all_addresses : (raws : List (List ℕ)) (old a b c new : List ℕ) → AddsText (HasSenders raws) old a → AddsBehindSpace (AreAddressesOf (codes "To") raws) a b
+    → AddsBehindSpace (AreAddressesOf (codes "Cc") raws) b c → AddsBehindSpace (AreAddressesOf (codes "Bcc") raws) c new → AddsText (HasAllAddresses raws) old new
+all_addresses raws old a b c new senders to cc bcc =
+    let said = senders.1 in
+    let is_a : a ≡ old ++ behind_spaces (said.from ∷ said.sender ∷ said.reply_to ∷ []) = senders.2 ∙ ap (λ m. old ++ m) said.text_is in (
+      behind_spaces (said.from ∷ said.sender ∷ said.reply_to ∷ to.0 ∷ cc.0 ∷ bcc.0 ∷ []),
+      record {
+        from = said.from;
+        is_from = said.is_from;
+        sender = said.sender;
+        is_sender = said.is_sender;
+        reply_to = said.reply_to;
+        is_reply_to = said.is_reply_to;
+        to = to.0;
+        is_to = to.1;
+        cc = cc.0;
+        is_cc = cc.1;
+        bcc = bcc.0;
+        is_bcc = bcc.1;
+        text_is = refl;
+      },
+      behind_put old (said.from ∷ said.sender ∷ said.reply_to ∷ to.0 ∷ cc.0 ∷ []) bcc.0 c new (behind_put old (said.from ∷ said.sender ∷ said.reply_to ∷ to.0 ∷ []) cc.0 b c
+          (behind_put old (said.from ∷ said.sender ∷ said.reply_to ∷ []) to.0 a b is_a to.2) cc.2) bcc.2,
+    )
+
+pub envelope_made : (raws : List (List ℕ)) (old start a b c d e made : List ℕ) → old ≡ [] → start ≡ old ++ 40 ∷ [] → AddsText (IsStringOf (codes "Date") raws) start a
+    → AddsBehindSpace (IsStringOf (codes "Subject") raws) a b → AddsText (HasAllAddresses raws) b c → AddsBehindSpace (IsStringOf (codes "In-Reply-To") raws) c d
+    → AddsBehindSpace (IsStringOf (codes "Message-ID") raws) d e → made ≡ e ++ 41 ∷ [] → IsEnvelope raws made
+envelope_made raws old start a b c d e made empty is_start date subject addresses in_reply_to message_id is_made = record {
+  date = date.0;
+  is_date = date.1;
+  subject = subject.0;
+  is_subject = subject.1;
   from = all.from;
   is_from = all.is_from;
   sender = all.sender;
@@ -51,18 +68,24 @@ envelope_made raws date subject addresses in_reply_to message_id a b c d e made 
   is_cc = all.is_cc;
   bcc = all.bcc;
   is_bcc = all.is_bcc;
-  in_reply_to = in_reply_to;
-  is_in_reply_to = is_in_reply_to;
-  message_id = message_id;
-  is_message_id = is_message_id;
+  in_reply_to = in_reply_to.0;
+  is_in_reply_to = in_reply_to.1;
+  message_id = message_id.0;
+  is_message_id = message_id.1;
   text_is = is_made ∙ ap (λ m. m ++ 41 ∷ []) words;
 }
   where
-    first : b ≡ (40 ∷ []) ++ spaced (date ∷ subject ∷ [])
-    first = spaced_put (40 ∷ []) date [] subject a b (spaced_one (40 ∷ []) date a is_a) is_b
+    all : HasAllAddresses raws addresses.0
+    all = addresses.1
 
-    middle : c ≡ (40 ∷ []) ++ spaced (date ∷ subject ∷ all.from ∷ all.sender ∷ all.reply_to ∷ all.to ∷ all.cc ∷ all.bcc ∷ [])
-    middle = spaced_more (40 ∷ []) date (subject ∷ []) (all.from ∷ all.sender ∷ all.reply_to ∷ all.to ∷ all.cc ∷ all.bcc ∷ []) b c first (is_c ∙ ap (λ m. b ++ m) all.text_is)
+    begun : a ≡ (40 ∷ []) ++ date.0
+    begun = date.2 ∙ ap (λ m. m ++ date.0) (is_start ∙ ap (λ m. m ++ 40 ∷ []) empty)
 
-    words : e ≡ (40 ∷ []) ++ spaced (date ∷ subject ∷ all.from ∷ all.sender ∷ all.reply_to ∷ all.to ∷ all.cc ∷ all.bcc ∷ in_reply_to ∷ message_id ∷ [])
-    words = spaced_put (40 ∷ []) date _ message_id d e (spaced_put (40 ∷ []) date _ in_reply_to c d middle is_d) is_e
+    first : b ≡ (40 ∷ []) ++ spaced (date.0 ∷ subject.0 ∷ [])
+    first = spaced_put (40 ∷ []) date.0 [] subject.0 a b (spaced_one (40 ∷ []) date.0 a begun) subject.2
+
+    middle : c ≡ (40 ∷ []) ++ spaced (date.0 ∷ subject.0 ∷ all.from ∷ all.sender ∷ all.reply_to ∷ all.to ∷ all.cc ∷ all.bcc ∷ [])
+    middle = spaced_more (40 ∷ []) date.0 (subject.0 ∷ []) (all.from ∷ all.sender ∷ all.reply_to ∷ all.to ∷ all.cc ∷ all.bcc ∷ []) b c first (addresses.2 ∙ ap (λ m. b ++ m) all.text_is)
+
+    words : e ≡ (40 ∷ []) ++ spaced (date.0 ∷ subject.0 ∷ all.from ∷ all.sender ∷ all.reply_to ∷ all.to ∷ all.cc ∷ all.bcc ∷ in_reply_to.0 ∷ message_id.0 ∷ [])
+    words = spaced_put (40 ∷ []) date.0 _ message_id.0 d e (spaced_put (40 ∷ []) date.0 _ in_reply_to.0 c d middle in_reply_to.2) message_id.2

@@ -1,4 +1,4 @@
--- The addresses of an envelope (RFC 3501, 7.4.2), over the lists of RFC 5322.
+-- The addresses of an envelope (RFC 3501, 7.4.2), over the lists of RFC 5322, 3.4.
 use Rattle.std.specs.Prelude.{◌≡◌, ℕ, ◌⊎◌, Bool, true, false, List, [], ◌∷◌, ◌++◌, map, Option, Some, None}
 use Rattle.std.specs.List.{flat_map}
 use Rattle.encoded_words.specs.PhraseUnits.{PhraseItem, Content, Separator, PhraseWord, phrase_words}

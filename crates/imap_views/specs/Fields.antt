@@ -1,4 +1,4 @@
--- The fields of a header block.
+-- The fields of a header block (RFC 5322, 2.2).
 use Rattle.std.specs.Prelude.{◌≡◌, ℕ, List, map}
 use Rattle.utf8_fields.specs.declared.block.Field.{Field}
 use Rattle.utf8_fields.specs.Block.{HasBlock, raw_of}

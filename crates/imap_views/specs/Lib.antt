@@ -1,3 +1,4 @@
+-- What IMAP's FETCH tells of a message beside its octets.
 pub mod Strings
 pub mod Envelopes
 pub mod Addresses

@@ -1,4 +1,4 @@
--- What a part says of itself in its header block (RFC 2045; RFC 2183).
+-- What a part says of itself in its header block (RFC 2045, 5 and 6.1; RFC 2046, 5.1.5; RFC 2183).
 use Rattle.std.specs.Prelude.{◌≡◌, ℕ, ◌⊎◌, ◌==◌, Bool, if◌then◌else◌, List, [], ◌∷◌, ◌++◌, map, codes, Option, Some, None}
 use Rattle.field_tokens.specs.declared.Style.TheVariants.{Mime}
 use Rattle.field_tokens.specs.declared.TokenKind.TheVariants.{Atom}

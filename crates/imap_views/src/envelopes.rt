@@ -1,9 +1,9 @@
 //! Envelopes.
-ghost use Rattle.std.specs.Prelude.{◌≡◌, ◌++◌, IfOk, OnOk, OnErr};
+ghost use Rattle.std.specs.Prelude.{◌≡◌, ◌++◌, [], IfOk, OnOk, OnErr};
 ghost use Rattle.imap_views.specs.Envelopes.{AreAddressesOf, AreAddressesOr, HasEnvelope, IsEnvelope, IsStringOf};
 ghost use Rattle.imap_views.specs.Fields.{HasSomeBlock};
 ghost use Rattle.imap_views.specs.Strings.{AddsText};
-ghost use Rattle.imap_views.specs.private.Reading.{HasAllAddresses, IsRead, raws_in};
+ghost use Rattle.imap_views.specs.private.Reading.{AddsBehindSpace, HasAllAddresses, HasSenders, IsRead, raws_in};
 
 use crate::addresses::addresses_form;
 use crate::headers::{Header, read_header};
@@ -11,15 +11,32 @@ use crate::strings::{push_behind_space, push_nstring, slice_of};
 use mail_wire::{Memory, Octets};
 use std::alloc::Global;
 
-// The value of the first field of this name as a string, or NIL.
-fn string_of(alloc: Global, header: &Header<'_>, name: &[u8]) -> Result<Octets, Memory>
+// Puts the value of the first field of this name last, as a string or NIL.
+fn push_string_of(
+    alloc: Global,
+    made: &mut Octets,
+    header: &Header<'_>,
+    name: &[u8],
+) -> Result<(), Memory>
     requires { IsRead header.now }
-    ensures { IfOk result (λ made. IsStringOf name.now (raws_in header.now) made) }
+    ensures { OnOk result (AddsText (IsStringOf name.now (raws_in header.now)) made.old made.new) }
 {
     let value = header.first(alloc, name)?;
-    let mut made = Octets::new(alloc);
-    push_nstring(&mut made, slice_of(&value))?;
-    Ok(made)
+    push_nstring(made, slice_of(&value))
+}
+
+// The same, behind a space.
+fn push_string_behind(
+    alloc: Global,
+    made: &mut Octets,
+    header: &Header<'_>,
+    name: &[u8],
+) -> Result<(), Memory>
+    requires { IsRead header.now }
+    ensures { OnOk result (AddsBehindSpace (IsStringOf name.now (raws_in header.now)) made.old made.new) }
+{
+    made.push(b' ')?;
+    push_string_of(alloc, made, header, name)
 }
 
 // The addresses of the first field of this name.
@@ -48,20 +65,70 @@ fn addresses_or(
     }
 }
 
-// Puts the sender, the address for replies and the addressees last, behind spaces.
+// Puts the addresses of the first field of this name last, behind a space.
+fn push_addresses_of(
+    alloc: Global,
+    made: &mut Octets,
+    header: &Header<'_>,
+    name: &[u8],
+) -> Result<(), Memory>
+    requires { IsRead header.now }
+    ensures { OnOk result (AddsBehindSpace (AreAddressesOf name.now (raws_in header.now)) made.old made.new) }
+{
+    let addresses = addresses_of(alloc, header, name)?;
+    push_behind_space(made, addresses.as_slice())
+}
+
+// The same, or these where there is no such field.
+fn push_addresses_or(
+    alloc: Global,
+    made: &mut Octets,
+    from: &[u8],
+    header: &Header<'_>,
+    name: &[u8],
+) -> Result<(), Memory>
+    requires { IsRead header.now }
+    ensures { OnOk result (AddsBehindSpace (AreAddressesOr from.now name.now (raws_in header.now)) made.old made.new) }
+{
+    let addresses = addresses_or(alloc, from, header, name)?;
+    push_behind_space(made, addresses.as_slice())
+}
+
+// Puts the author, the sender and the address for replies last, behind spaces.
+fn push_senders(alloc: Global, made: &mut Octets, header: &Header<'_>) -> Result<(), Memory>
+    requires { IsRead header.now }
+    ensures { OnOk result (AddsText (HasSenders (raws_in header.now)) made.old made.new) }
+{
+    let from = addresses_of(alloc, header, b"From")?;
+    push_behind_space(made, from.as_slice())?;
+    push_addresses_or(alloc, made, from.as_slice(), header, b"Sender")?;
+    push_addresses_or(alloc, made, from.as_slice(), header, b"Reply-To")
+}
+
+// Puts the senders and the addressees last, behind spaces.
 fn push_all_addresses(alloc: Global, made: &mut Octets, header: &Header<'_>) -> Result<(), Memory>
     requires { IsRead header.now }
     ensures { OnOk result (AddsText (HasAllAddresses (raws_in header.now)) made.old made.new) }
 {
-    let from = addresses_of(alloc, header, b"From")?;
-    let sender = addresses_or(alloc, from.as_slice(), header, b"Sender")?;
-    let reply_to = addresses_or(alloc, from.as_slice(), header, b"Reply-To")?;
-    push_behind_space(made, from.as_slice())?;
-    push_behind_space(made, sender.as_slice())?;
-    push_behind_space(made, reply_to.as_slice())?;
-    push_behind_space(made, addresses_of(alloc, header, b"To")?.as_slice())?;
-    push_behind_space(made, addresses_of(alloc, header, b"Cc")?.as_slice())?;
-    push_behind_space(made, addresses_of(alloc, header, b"Bcc")?.as_slice())
+    push_senders(alloc, made, header)?;
+    push_addresses_of(alloc, made, header, b"To")?;
+    push_addresses_of(alloc, made, header, b"Cc")?;
+    push_addresses_of(alloc, made, header, b"Bcc")
+}
+
+// Puts the envelope of a header that was read into a text that is empty yet.
+fn push_envelope(alloc: Global, made: &mut Octets, header: &Header<'_>) -> Result<(), Memory>
+    requires read { IsRead header.now }
+    requires empty { made.old ≡ [] }
+    ensures { OnOk result (IsEnvelope (raws_in header.now) made.new) }
+{
+    made.push(b'(')?;
+    push_string_of(alloc, made, header, b"Date")?;
+    push_string_behind(alloc, made, header, b"Subject")?;
+    push_all_addresses(alloc, made, header)?;
+    push_string_behind(alloc, made, header, b"In-Reply-To")?;
+    push_string_behind(alloc, made, header, b"Message-ID")?;
+    made.push(b')')
 }
 
 /// The envelope of a header that was read.
@@ -69,19 +136,8 @@ pub fn envelope_of(alloc: Global, header: &Header<'_>) -> Result<Octets, Memory>
     requires { IsRead header.now }
     ensures { IfOk result (λ made. IsEnvelope (raws_in header.now) made) }
 {
-    let mut made = Octets::from_slice(alloc, b"(")?;
-    made.push_slice(string_of(alloc, header, b"Date")?.as_slice())?;
-    push_behind_space(&mut made, string_of(alloc, header, b"Subject")?.as_slice())?;
-    push_all_addresses(alloc, &mut made, header)?;
-    push_behind_space(
-        &mut made,
-        string_of(alloc, header, b"In-Reply-To")?.as_slice(),
-    )?;
-    push_behind_space(
-        &mut made,
-        string_of(alloc, header, b"Message-ID")?.as_slice(),
-    )?;
-    made.push(b')')?;
+    let mut made = Octets::new(alloc);
+    push_envelope(alloc, &mut made, header)?;
     Ok(made)
 }
 

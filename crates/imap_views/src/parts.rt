@@ -1,6 +1,7 @@
 //! What a part says of itself in its header block.
-ghost use Rattle.std.specs.Prelude.{◌≡◌, ◌++◌, ◌∷◌, IfOk, OnOk};
-ghost use Rattle.imap_views.specs.Parts.{SaysPart, main_type, sub_type};
+ghost use Rattle.std.specs.Prelude.{◌≡◌, ◌++◌, ◌∷◌, codes, IfOk, OnOk};
+ghost use Rattle.mime_tree.specs.Openings.{IsFirstValue};
+ghost use Rattle.imap_views.specs.Parts.{IsByFirst, IsDispositionBy, IsEncodingBy, IsTypeBy, SaysPart, main_type, sub_type};
 ghost use Rattle.imap_views.specs.Structures.{basic_words};
 ghost use Rattle.imap_views.specs.private.Reading.{IsRead, part_value, raws_in};
 
@@ -22,22 +23,61 @@ pub struct PartWords {
     pub disposition: Octets,
 }
 
+// The type that a part says it has, in lower case, and its parameters as a list.
+fn type_said(alloc: Global, header: &Header<'_>, digest: bool) -> Result<(Octets, Octets), Memory>
+    requires { IsRead header.now }
+    ensures { IfOk result (λ said. IsByFirst (codes "Content-Type") (IsTypeBy digest) (raws_in header.now) (record { main = said.0; params = said.1 })) }
+{
+    let value = header.first(alloc, b"Content-Type")?;
+    type_of(alloc, &value, digest)
+}
+
+fn encoding_said(alloc: Global, header: &Header<'_>) -> Result<Octets, Memory>
+    requires { IsRead header.now }
+    ensures { IfOk result (λ name. IsByFirst (codes "Content-Transfer-Encoding") IsEncodingBy (raws_in header.now) name) }
+{
+    let value = header.first(alloc, b"Content-Transfer-Encoding")?;
+    encoding_of(alloc, &value)
+}
+
+fn disposition_said(alloc: Global, header: &Header<'_>) -> Result<Octets, Memory>
+    requires { IsRead header.now }
+    ensures { IfOk result (λ form. IsByFirst (codes "Content-Disposition") IsDispositionBy (raws_in header.now) form) }
+{
+    let value = header.first(alloc, b"Content-Disposition")?;
+    disposition_of(alloc, &value)
+}
+
+// What a part's id and its description say.
+fn texts_said(
+    alloc: Global,
+    header: &Header<'_>,
+) -> Result<(Option<Octets>, Option<Octets>), Memory>
+    requires { IsRead header.now }
+    ensures id { IfOk result (λ said. IsFirstValue (codes "Content-ID") (raws_in header.now) said.0) }
+    ensures description { IfOk result (λ said. IsFirstValue (codes "Content-Description") (raws_in header.now) said.1) }
+{
+    let id = header.first(alloc, b"Content-ID")?;
+    let description = header.first(alloc, b"Content-Description")?;
+    Ok((id, description))
+}
+
 /// Reads what a part says of itself.
 pub fn read_part(alloc: Global, header: &Header<'_>, digest: bool) -> Result<PartWords, Memory>
     requires { IsRead header.now }
     ensures { IfOk result (λ words. SaysPart digest (raws_in header.now) (part_value words)) }
 {
-    let said = header.first(alloc, b"Content-Type")?;
-    let (main, params) = type_of(alloc, &said, digest)?;
-    let encoding = header.first(alloc, b"Content-Transfer-Encoding")?;
-    let disposition = header.first(alloc, b"Content-Disposition")?;
+    let (main, params) = type_said(alloc, header, digest)?;
+    let (id, description) = texts_said(alloc, header)?;
+    let encoding = encoding_said(alloc, header)?;
+    let disposition = disposition_said(alloc, header)?;
     Ok(PartWords {
         main,
         params,
-        id: header.first(alloc, b"Content-ID")?,
-        description: header.first(alloc, b"Content-Description")?,
-        encoding: encoding_of(alloc, &encoding)?,
-        disposition: disposition_of(alloc, &disposition)?,
+        id,
+        description,
+        encoding,
+        disposition,
     })
 }
 

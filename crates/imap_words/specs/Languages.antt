@@ -1,4 +1,4 @@
--- Languages with values, and how they are made of smaller ones. Each production of the grammar is one of these.
+-- Languages with values, and how they are made of smaller ones (RFC 5234, 3). Each production of the grammar is one of these.
 use Rattle.std.specs.Prelude.{◌≡◌, ℕ, ◌≤◌, List, [], ◌∷◌, ◌++◌, length, ◌⊎◌, Option, None, Some}
 
 -- which octets are written for which value

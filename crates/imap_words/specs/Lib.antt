@@ -1,3 +1,4 @@
+-- The words of IMAP. A word is a relation of octets and what they say.
 pub mod Languages
 pub mod Reading
 pub mod Going

@@ -1,4 +1,4 @@
--- Strings (RFC 3501, 4.3 and 9; RFC 6855, 3; RFC 3629, 4).
+-- Strings (RFC 3501, 4.3 and 9; RFC 6855, 3; RFC 3629, 4), and names of fields (RFC 5322, 2.2).
 use Rattle.std.specs.Prelude.{◌≡◌, ℕ, ◌<◌, ◌==◌, Bool, true, false, List, [], ◌∷◌, ◌++◌, if◌then◌else◌}
 use Rattle.std.specs.List.{All, flat_map}
 use Rattle.imap_words.specs.Languages.{Then, After, Or, Is, IsOctet, IsBetween, IsCounted}

@@ -1,4 +1,5 @@
--- The addresses and domains that a record may have, and what makes two of them the same (RFC 6532, 3.2; UTS #46; Unicode, 3.13).
+-- The addresses and domains that a record may have, and what makes two of them the same (RFC 5321, 4.1.2; RFC 6531; RFC 6532, 3.2; UTS #46; Unicode, 3.13,
+-- D145).
 use Rattle.std.specs.Prelude.{◌≡◌, ◌≤◌, ℕ, List, [], ◌∷◌, ◌++◌, length, Bool, ◌&&◌, Option, Some, None, option_and_then, encode_utf8_all}
 use Rattle.std.specs.Str.{bytes_eq, chars}
 use Rattle.caseless.specs.Caseless.{canonical_key}

@@ -1,3 +1,4 @@
+-- The records of a journal, and how they are written.
 pub mod Addresses
 pub mod Grammar
 pub mod Stored

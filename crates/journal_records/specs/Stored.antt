@@ -1,4 +1,4 @@
--- The octets that the store may keep.
+-- The octets that the store may keep (RFC 5322; RFC 2045; RFC 2046).
 use Rattle.std.specs.Prelude.{ℕ, List}
 use Rattle.mime_tree.specs.declared.entity.Entity.{Entity}
 use Rattle.mime_tree.specs.Tree.{HasTree}

@@ -1,4 +1,4 @@
--- The records of a delivery, and when they pass a limit.
+-- The records of a delivery (RFC 5321, 4.4), and when they pass a limit.
 use Rattle.std.specs.Prelude.{ℕ, List, [], ◌∷◌, ◌++◌, length, map, Bool, ◌||◌, ◌&&◌, ◌==◌, not, nat_lt, unwrap_or, if◌then◌else◌}
 use Rattle.address_grammar.specs.Addresses.{address_text}
 use Rattle.journal_records.specs.declared.records.Record.{Record}

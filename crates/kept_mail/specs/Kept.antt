@@ -1,4 +1,5 @@
--- What a store keeps, as the fold of a journal's records. Things are named by their numbers in order of their records.
+-- What a store keeps, as the fold of a journal's records. An account's first folder is its INBOX (RFC 3501, 5.1). Things are named by their numbers in order
+-- of their records.
 use Rattle.std.specs.Prelude.{◌≡◌, ◌⊎◌, ◌≤◌, ℕ, zero, suc, ◌+◌, List, [], ◌∷◌, ◌++◌, length, map, filter, count_by, codes, Bool, true, false, Option, Some, None, option_and_then, ◌==◌, ◌&&◌, if◌then◌else◌, slice_get, slice_index_or}
 use Rattle.std.specs.List.{Any, list_any}
 use Rattle.std.specs.Option.{option_map_or}

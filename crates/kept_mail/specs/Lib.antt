@@ -1,3 +1,4 @@
+-- What the records of a journal add up to.
 pub mod Kept
 pub mod Records
 pub mod Deliveries

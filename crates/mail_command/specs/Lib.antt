@@ -1,3 +1,4 @@
+-- The commands of the program, and the sessions that it serves.
 pub mod Taking
 pub mod Words
 pub mod Protocols

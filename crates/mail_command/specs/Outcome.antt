@@ -1,4 +1,4 @@
--- What a command of one message comes to: its status, and the octets that it gives.
+-- What a command of one message comes to: its status, and the octets that it gives (RFC 5322; RFC 6532; RFC 6857).
 use Rattle.std.specs.Prelude.{◌≡◌, ◌≢◌, ℕ, ◌<◌, ◌≤◌, List, [], ◌++◌, length, codes, decimal}
 use Rattle.mail_wire.specs.Lines.{crlf}
 use Rattle.kept_mail.specs.declared.limits.TheConstants.{MESSAGE_MAX}

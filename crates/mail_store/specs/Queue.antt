@@ -1,4 +1,4 @@
--- The queue: which entries and recipients wait, and what is told of them.
+-- The queue: which entries and recipients wait, and what is told of them. Paths are those of RFC 5321, 4.1.2.
 use Rattle.std.specs.Prelude.{◌≡◌, ◌⊎◌, ℕ, ◌+◌, List, [], ◌∷◌, length, count_by, Bool, Option, Some, None, IfSome, slice_get, if◌then◌else◌}
 use Rattle.std.specs.List.{All, AllZip, list_any, sum_by}
 use Rattle.address_grammar.specs.declared.Address.{Address}

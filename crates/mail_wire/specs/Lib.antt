@@ -1,5 +1,6 @@
+-- Octets, lines and moments, and the objects outside the program: a wire, a keeper, a dial and a clock. What each tells of itself may be absent: a file or a
+-- connection tells nothing.
 pub mod Numbers
-pub mod Characters
 pub mod Octets
 pub mod Tables
 pub mod Spans

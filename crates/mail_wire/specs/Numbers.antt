@@ -1,4 +1,4 @@
--- Decimal numbers (RFC 5234, DIGIT).
+-- Decimal numbers (RFC 5234, B.1, DIGIT).
 use Rattle.std.specs.Prelude.{ℕ, ◌+◌, ◌-◌, ◌*◌, Bool, ◌&&◌, nat_le, List, [], ◌∷◌, Option, Some, None, if◌then◌else◌, fold}
 use Rattle.std.specs.List.{list_all}
 

@@ -1,4 +1,4 @@
--- Kinds of octets, and names that are the same whatever the ASCII case.
+-- Kinds of octets (RFC 5234, B.1), and names that are the same whatever the ASCII case (RFC 5322, 1.2.2).
 use Rattle.std.specs.Prelude.{ℕ, Bool, ◌||◌, ◌&&◌, ◌==◌, not, nat_lt, nat_le, nat_eq, List}
 use Rattle.std.specs.Str.{bytes_eq, str_to_ascii_lowercase}
 use Rattle.std.specs.List.{list_all}

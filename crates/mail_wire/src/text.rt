@@ -46,7 +46,8 @@ pub fn is_ascii(octets: &[u8]) -> bool
 pub fn is_same_name(name: &[u8], other: &[u8]) -> bool
     ensures { result ≡ same_name name.now other.now }
 {
-    name.eq_ignore_ascii_case(other)
+    // What is of another length is found without a look at the octets.
+    name.len() == other.len() && name.eq_ignore_ascii_case(other)
 }
 
 fn find_black(octets: &[u8]) -> Option<usize>

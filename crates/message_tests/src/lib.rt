@@ -2,12 +2,12 @@
 #![tactic(auto)]
 
 #[cfg(test)]
-mod mime_tree;
+mod test_mime_tree;
 #[cfg(test)]
-mod relay_choice;
+mod test_relay_choice;
 #[cfg(test)]
-mod surrogate_cache;
+mod test_surrogate_cache;
 #[cfg(test)]
-mod surrogate_rope;
+mod test_surrogate_rope;
 #[cfg(test)]
-mod utf8_reports;
+mod test_utf8_reports;

@@ -1,4 +1,4 @@
--- The CRLF that a message's last line may lack.
+-- The CRLF that a message's last line may lack (RFC 5322, 2.1).
 use Rattle.std.specs.Prelude.{◌≡◌, ℕ, ◌⊎◌, List, [], ◌∷◌, ◌++◌}
 use Rattle.mail_wire.specs.Lines.{crlf}
 use Rattle.mail_wire.specs.Message.{IsEnded}

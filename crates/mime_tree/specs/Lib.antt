@@ -1,3 +1,4 @@
+-- The entities of a message: the message itself, its parts, and the messages in it.
 pub mod Completing
 pub mod Marks
 pub mod Parts

@@ -1,4 +1,4 @@
--- How an entity is opened, by the fields of its block (RFC 2045, 5 and 6; RFC 2046, 5).
+-- How an entity is opened, by the fields of its block (RFC 2045, 5 and 6; RFC 2046, 5.1.1, 5.1.5 and 5.2; RFC 6532, 3.7).
 use Rattle.std.specs.Prelude.{◌≡◌, ℕ, ◌+◌, ◌-◌, ◌≤◌, ◌⊎◌, List, [], ◌∷◌, Bool, true, false, ◌&&◌, ◌||◌, ◌==◌, not, if◌then◌else◌, length, slice_index, nat_eq, nat_le, codes, Option, Some, None, ⊤}
 use Rattle.std.specs.List.{All, starts_with, list_all}
 use Rattle.std.specs.Str.{bytes_eq}

@@ -1,4 +1,4 @@
--- The tree of a message's entities, from the outer entity inward (RFC 2046, 5).
+-- The tree of a message's entities, from the outer entity inward (RFC 2046, 5), and whether a header block is in UTF-8 (RFC 6532, 3).
 use Rattle.std.specs.Prelude.{◌≡◌, ℕ, suc, zero, ◌+◌, ◌-◌, List, [], ◌∷◌, ◌++◌, Bool, false, length, take, drop, map, Option, Some, None}
 use Rattle.std.specs.List.{list_any}
 use Rattle.mail_wire.specs.Lines.{lines_of}

@@ -1,3 +1,4 @@
+-- A main part with parameters, as it is read.
 pub mod Escapes
 pub mod Names
 pub mod Extended

@@ -1,4 +1,4 @@
--- The names of parameters (RFC 2231, 7): `a`, `a*`, `a*0` and `a*0*`.
+-- The names of parameters (RFC 2231, 3, 4 and 7): `a`, `a*`, `a*0` and `a*0*`.
 use Rattle.std.specs.Prelude.{◌≡◌, ℕ, ◌<◌, ◌≤◌, ◌==◌, Bool, true, false, List, [], ◌∷◌, ◌++◌, length, Option, Some, None, IfSome}
 use Rattle.std.specs.Option.{option_copied}
 use Rattle.std.specs.List.{list_all}

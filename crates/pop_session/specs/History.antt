@@ -1,4 +1,5 @@
--- What the commands of a session come to, one after another: which mode it is in, which messages are marked, and which are asked for.
+-- What the commands of a session come to, one after another: which mode it is in, which messages are marked, and which are asked for (RFC 1939, 5 and 7; RFC
+-- 6856, 2).
 use Rattle.std.specs.Prelude.{◌≡◌, ℕ, zero, suc, ◌==◌, ◌||◌, ◌⊎◌, List, [], ◌∷◌, ◌++◌, Bool, true, false, Option, None, Some, length, codes}
 use Rattle.std.specs.List.{AllByRecursion}
 use Rattle.std.specs.Option.{option_map}

@@ -1,4 +1,4 @@
--- The POP3 machine (RFC 1939, 4 to 6; RFC 6856, 2).
+-- The POP3 machine (RFC 1939, 4 to 7; RFC 6856, 2).
 use Rattle.std.specs.Prelude.{ℕ, Bool, true, false, zero, suc, ◌+◌, ◌++◌, List, [], ◌∷◌, Option, None, Some, length, codes, map, take, slice_get, sum_by, option_and_then, if◌then◌else◌}
 use Rattle.std.specs.List.{flat_map}
 use Rattle.std.specs.Str.{bytes_eq}

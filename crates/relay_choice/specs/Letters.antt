@@ -1,4 +1,4 @@
--- Queued messages as letters.
+-- Queued messages as letters (RFC 5321, 4.1.2; RFC 6531, 3.4).
 use Rattle.std.specs.Prelude.{◌≡◌, ℕ, List, true, Option, None, Some, map}
 use Rattle.std.specs.Str.{is_utf8}
 use Rattle.std.specs.List.{All}

@@ -1,3 +1,4 @@
+-- The client of a next server: how a message may go to it, and what the client says to its replies.
 pub mod Plans
 pub mod Replies
 pub mod Pieces

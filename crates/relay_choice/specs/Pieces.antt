@@ -1,4 +1,4 @@
--- Replies that come in pieces.
+-- Replies that come in pieces (RFC 5321, 4.2).
 use Rattle.std.specs.Prelude.{◌≡◌, ℕ, ◌≤◌, ◌<◌, List, ◌++◌, length, take}
 use Rattle.relay_choice.specs.declared.reading.Taken.{Taken}
 use Rattle.relay_choice.specs.declared.reading.Taken.TheVariants as taken

@@ -1,4 +1,5 @@
--- Which form a queued message is sent in (RFC 6531, 3.2 and 3.6; RFC 6152, 3; RFC 5891, 4). Which of several reasons is told is this project's choice.
+-- Which form a queued message is sent in (RFC 6531, 3.2 and 3.6; RFC 6152, 3; RFC 5890, 2.3.2.1; RFC 5891, 4). Which of several reasons is told is this
+-- project's choice.
 use Rattle.std.specs.Prelude.{Bool, true, false, ◌&&◌, ◌||◌, not, is_some, if◌then◌else◌}
 use Rattle.mail_wire.specs.Octets.{is_high}
 use Rattle.ace_domains.specs.Domains.{normal_form}

@@ -1,4 +1,4 @@
--- What the acts of a run say of its letters.
+-- What the acts of a run say of its letters (RFC 5321, 4.1.1.1 and 4.2).
 use Rattle.std.specs.Prelude.{◌≡◌, ℕ, ◌<◌, ◌≤◌, List, [], ◌∷◌, false, None, Some, length, slice_get}
 use Rattle.std.specs.Option.{option_map_or}
 use Rattle.relay_choice.specs.declared.plans.Offer.{Offer}

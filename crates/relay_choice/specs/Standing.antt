@@ -1,4 +1,4 @@
--- What a client still does, by what it awaits.
+-- What a client still does, by what it awaits. It ends with QUIT (RFC 5321, 4.1.1.10).
 use Rattle.std.specs.Prelude.{◌≡◌, ℕ, ◌+◌, ◌<◌, List, [], ◌∷◌, ◌++◌, length, drop, map, None}
 use Rattle.std.specs.List.{All, sum_by}
 use Rattle.relay_choice.specs.declared.plans.Offer.{Offer}

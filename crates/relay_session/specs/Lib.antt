@@ -1,3 +1,4 @@
+-- The queue on its way to a next server.
 pub mod Letters
 pub mod Reporting
 pub mod Carrying

@@ -1,4 +1,4 @@
--- What the relay does over a wire to a next server, by all that the server sends.
+-- What the relay does over a wire to a next server, by all that the server sends (RFC 5321, 4.3.2).
 use Rattle.std.specs.Prelude.{◌≡◌, ◌≢◌, ◌⊎◌, ℕ, ◌<◌, List, [], ◌∷◌, ◌++◌, Option, None, Some, Result, Ok, Err}
 use Rattle.std.specs.Io.KnownBytes.{IsAtEnd}
 use Rattle.std.specs.List.{All}

@@ -1,4 +1,4 @@
--- What a next server sends, as replies.
+-- What a next server sends, as replies (RFC 5321, 4.2).
 use Rattle.std.specs.Prelude.{◌≡◌, ◌⊎◌, ℕ, List, [], ◌++◌}
 use Rattle.std.specs.List.{AllZip, concat}
 use Rattle.relay_choice.specs.Replies.{IsBegun, IsReply}

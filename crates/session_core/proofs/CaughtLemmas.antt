@@ -107,16 +107,3 @@ WorksWithin-open limits desk opens same = record {
   cached = opens.cached;
   places = subst (λ (all : Limits). IsCacheWithin all desk.cache) same opens.places;
 }
-
--- ---- the store of the desk for the next session
-
-pub caught_on : (old new : Option (List ℕ)) (desk : Desk) (kept : Kept) → IfSome old (λ octets. CatchesUp desk.store octets new kept)
-    → IfSome old (λ octets. OpensOrCatchesUp (Some desk) octets new kept)
-caught_on old new desk kept catches = IfSome_then old {P = λ octets. CatchesUp desk.store octets new kept} catches (λ octets caught. inr caught)
-
-opened_so : (had : Option Desk) (octets : List ℕ) (new : Option (List ℕ)) (kept : Kept) → OpensTo octets new kept → OpensOrCatchesUp had octets new kept
-opened_so None octets new kept opens = opens
-opened_so (Some desk) octets new kept opens = inl opens
-
-pub opened_anew : (old new : Option (List ℕ)) (had : Option Desk) (kept : Kept) → IfSome old (λ octets. OpensTo octets new kept) → IfSome old (λ octets. OpensOrCatchesUp had octets new kept)
-opened_anew old new had kept opens = IfSome_then old {P = λ octets. OpensTo octets new kept} opens (λ octets to. opened_so had octets new kept to)

@@ -1,3 +1,4 @@
+-- What all sessions have in common. A protocol is a machine: from a state and octets it makes acts and a next state.
 pub mod Turns
 pub mod Acts
 pub mod Meanings

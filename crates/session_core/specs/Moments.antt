@@ -1,4 +1,4 @@
--- The moments that a clock told, by their texts.
+-- The moments that a clock told, by their texts (RFC 5322, 3.3; RFC 3501, date-time).
 use Rattle.std.specs.Prelude.{◌≡◌, ℕ, ◌<◌, List, Option, IfSome}
 use Rattle.mail_wire.specs.Dates.{IsDateText, IsInternalDate}
 use Rattle.mail_wire.specs.declared.clock.TheConstants.{CLOCK_END}

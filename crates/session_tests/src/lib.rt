@@ -4,14 +4,14 @@
 
 mod echo;
 #[cfg(test)]
-mod pop_session;
+mod test_pop_session;
 #[cfg(test)]
-mod relay_session;
+mod test_relay_session;
 #[cfg(test)]
-mod session_core;
+mod test_session_core;
 #[cfg(test)]
-mod smtp_grammar;
+mod test_smtp_grammar;
 #[cfg(test)]
-mod smtp_session;
+mod test_smtp_session;
 
 pub use echo::Echo;

@@ -1,3 +1,4 @@
+-- The commands that add accounts and domains.
 pub mod PlainWords
 pub mod WordForms
 pub mod Running

@@ -1,4 +1,4 @@
--- The words of the commands that add to a store, and of `help`.
+-- The words of the commands that add to a store, and of `help`. A mailbox is that of RFC 5321, 4.1.2, and a domain has a form in A-labels (RFC 5891).
 use Rattle.std.specs.Prelude.{◌≡◌, ◌≢◌, ℕ, ◌≤◌, List, [], ◌∷◌, length, codes, true, None}
 use Rattle.ace_domains.specs.Domains.{normal_form}
 use Rattle.address_grammar.specs.declared.Address.{Address}

@@ -1,3 +1,4 @@
+-- SMTP: which replies and changes each command brings, and what is kept of accepted mail.
 pub mod Intake
 pub mod Machine
 pub mod Room

@@ -1,4 +1,4 @@
--- The SMTP machine (RFC 5321, 4; RFC 6531, 3).
+-- The SMTP machine (RFC 5321, 4.1 to 4.3; RFC 6531, 3).
 use Rattle.std.specs.Prelude.{ℕ, ◌+◌, ◌++◌, ◌==◌, ◌&&◌, not, List, [], ◌∷◌, Bool, true, false, Option, None, Some, length, codes, nat_lt, nat_le, is_some, sum_by, option_and_then, decimal, if◌then◌else◌}
 use Rattle.std.specs.List.{list_any, list_all}
 use Rattle.std.specs.Str.{bytes_eq}

@@ -2,8 +2,8 @@
 #![tactic(auto)]
 
 #[cfg(test)]
-mod journal_records;
+mod test_journal_records;
 #[cfg(test)]
-mod mail_store;
+mod test_mail_store;
 #[cfg(test)]
-mod setup_command;
+mod test_setup_command;

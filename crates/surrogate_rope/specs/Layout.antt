@@ -1,4 +1,4 @@
--- The surrogate of a message (RFC 6857): its octets, and what they keep.
+-- The surrogate of a message (RFC 6857, 3): its octets, and what they keep.
 use Rattle.std.specs.Prelude.{◌≡◌, ℕ, ◌↔◌, List, Bool, true, length, codes, Some, IsTrue}
 use Rattle.std.specs.List.{list_all, AllByRecursion}
 use Rattle.mail_wire.specs.Octets.{is_ascii}

@@ -1,4 +1,4 @@
--- The header block of octets.
+-- The header block of octets (RFC 5322, 2.1): lines of fields, and then an empty line or nothing.
 use Rattle.std.specs.Prelude.{◌≡◌, ℕ, ◌+◌, List, [], ◌∷◌, ◌++◌, length, take, IsUtf8, slice_range}
 use Rattle.std.specs.List.{All, concat}
 use Rattle.mail_wire.specs.Lines.{crlf, lines_of}

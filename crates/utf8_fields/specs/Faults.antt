@@ -1,4 +1,4 @@
--- The first faulty line of a header block.
+-- The first faulty line of a header block: it is no line of a field, or no UTF-8 (RFC 3629, 4).
 use Rattle.std.specs.Prelude.{◌≡◌, ◌≢◌, ℕ, ◌+◌, ◌<◌, ◌⊎◌, List, ◌∷◌, ◌++◌, length, IsUtf8}
 use Rattle.std.specs.Str.Lossy.{utf8_valid_len}
 use Rattle.mail_wire.specs.Lines.{crlf, lines_of}

@@ -1,3 +1,4 @@
+-- The header block of a message, in UTF-8.
 pub mod Lines
 pub mod Parts
 pub mod Block

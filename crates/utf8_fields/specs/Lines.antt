@@ -1,4 +1,4 @@
--- The lines of a header block (RFC 5322, 2.2, with the UTF-8 of RFC 6532).
+-- The lines of a header block (RFC 5322, 2.2 and 4.5.8, with the UTF-8 of RFC 6532).
 use Rattle.std.specs.Prelude.{◌≡◌, ℕ, ◌<◌, true, List, [], ◌∷◌, ◌++◌, length}
 use Rattle.std.specs.List.{list_all}
 use Rattle.mail_wire.specs.Octets.{is_white, is_field_name_octet}

@@ -1,4 +1,4 @@
--- The parts of a header field, and its value (RFC 5322, 2.2).
+-- The parts of a header field, and its value (RFC 5322, 2.2 and 2.2.3; RFC 6532, 3.1).
 use Rattle.std.specs.Prelude.{◌≡◌, ◌≢◌, ℕ, ◌<◌, ◌⊎◌, true, List, [], ◌∷◌, ◌++◌, length, IsUtf8}
 use Rattle.std.specs.List.{list_all}
 use Rattle.mail_wire.specs.Octets.{is_white, is_field_name_octet}

@@ -1,3 +1,4 @@
+-- Reports of failed delivery.
 pub mod Fields
 pub mod Recipients
 pub mod Destinations

@@ -1,5 +1,5 @@
 -- What the readers of headers and parts answer.
-use Rattle.std.specs.Prelude.{◌≡◌, ℕ, zero, suc, ◌+◌, ◌≤◌, ⊤, Bool, false, ◌&&◌, ◌==◌, if◌then◌else◌, List, [], ◌∷◌, ◌<◌, length, map, slice_get, Some, codes}
+use Rattle.std.specs.Prelude.{◌≡◌, ℕ, zero, suc, ◌+◌, ◌≤◌, ⊤, Bool, false, ◌&&◌, ◌==◌, if◌then◌else◌, List, [], ◌∷◌, ◌++◌, ◌<◌, length, map, slice_get, Some, codes}
 use Rattle.std.specs.List.{All, list_any}
 use Rattle.std.specs.Str.{bytes_eq, str_to_ascii_lowercase}
 use Rattle.utf8_fields.specs.Block.{HasBlock, raw_of}
@@ -73,6 +73,20 @@ goes_on_counting is_after_cr (x ∷ rest) = if is_after_cr && x == 10 then suc (
 -- a set that has these names, and no others, in lower case
 abbrev pub HoldsNames : List (List ℕ) → (List ℕ → Bool) → Type 0
 HoldsNames asked has = (name : List ℕ) → has name ≡ list_any (λ one. bytes_eq name (str_to_ascii_lowercase one)) asked
+
+-- new is old with a space behind it, and then a text of which this holds
+abbrev pub AddsBehindSpace : (List ℕ → Type 0) → List ℕ → List ℕ → Type 0
+AddsBehindSpace Holds old new = (text : List ℕ) × Holds text × (new ≡ old ++ 32 ∷ text)
+
+-- who wrote a message, who sent it and who is answered, in their order, each behind a space
+pub record HasSenders (raws : List (List ℕ)) (text : List ℕ) : Type 0 where
+  pub from : List ℕ
+  pub is_from : AreAddressesOf (codes "From") raws from
+  pub sender : List ℕ
+  pub is_sender : AreAddressesOr from (codes "Sender") raws sender
+  pub reply_to : List ℕ
+  pub is_reply_to : AreAddressesOr from (codes "Reply-To") raws reply_to
+  pub text_is : text ≡ behind_spaces (from ∷ sender ∷ reply_to ∷ [])
 
 -- the addresses of an envelope, in their order, each behind a space
 pub record HasAllAddresses (raws : List (List ℕ)) (text : List ℕ) : Type 0 where

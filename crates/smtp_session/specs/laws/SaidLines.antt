@@ -1,4 +1,4 @@
--- What holds of each line that a command may be answered holds of each line of its reply.
+-- What holds of each line that a command may be answered holds of each line of its reply (RFC 5321, 4.2).
 use Rattle.std.proofs.Common.{ℕ, List, [], ◌∷◌, ◌++◌, ◌==◌, Bool, true, false, Option, Some, None, codes, cond}
 use Rattle.std.specs.Prelude.{nat_lt, sum_by}
 use Rattle.std.specs.List.{AllByRecursion, list_any}

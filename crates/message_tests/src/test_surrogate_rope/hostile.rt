@@ -1,0 +1,252 @@
+//! Messages that were made to lead a server astray: what is served of them, and that it is served as it is.
+use crate::test_surrogate_rope::ropes::{GLOBAL, GLOBAL_MADE, SHUT};
+use mail_wire::{Memory, Octets};
+use mime_tree::Shape::{Leaf, Message, Multipart};
+use mime_tree::{Outline, Shape, Tree, read_tree};
+use std::alloc::Global;
+use std::test::Fail;
+use surrogate_rope::Rope;
+
+// More than any surrogate here has.
+const ROOM: usize = 3000;
+
+// A message, its surrogate, how many fields of it were made anew, and what its entities hold.
+#[derive(Drop)]
+struct Row<'a> {
+    msg: &'a str,
+    made: &'a str,
+    rewritten: usize,
+    shapes: &'a [Shape],
+}
+
+// What is served of a message.
+#[derive(Drop)]
+struct Served {
+    octets: Octets,
+    rewritten: usize,
+    outlines: Vec<Outline>,
+}
+
+// What is served of a message, or nothing where it has no tree or memory was wanting.
+fn serve(alloc: Global, msg: &[u8]) -> Option<Served> {
+    let Ok(tree) = read_tree(alloc, msg) else {
+        return None;
+    };
+    let Ok(rope) = Rope::build(alloc, msg, &tree) else {
+        return None;
+    };
+    let mut buffer = [0; ROOM];
+    let count = rope.read_at(msg, 0, &mut buffer);
+    let mut octets = Octets::new(alloc);
+    if rope.size() != count || octets.push_slice(&buffer[..count]).is_err() {
+        return None;
+    }
+    match rope.outlines(alloc) {
+        Ok(outlines) => Some(Served {
+            octets,
+            rewritten: rope.rewritten(),
+            outlines,
+        }),
+        Err(_) => None,
+    }
+}
+
+fn have_shapes(outlines: &[Outline], shapes: &[Shape]) -> bool {
+    outlines.len() == shapes.len()
+        && outlines
+            .iter()
+            .zip(shapes)
+            .all(|(outline, shape)| outline.shape == *shape)
+}
+
+// Whether a message is served so, and what is served is then served as it is.
+fn is_served(alloc: Global, msg: &[u8], made: &[u8], rewritten: usize, shapes: &[Shape]) -> bool {
+    let Some(first) = serve(alloc, msg) else {
+        return false;
+    };
+    let Some(again) = serve(alloc, first.octets.as_slice()) else {
+        return false;
+    };
+    first.octets.as_slice() == made
+        && first.rewritten == rewritten
+        && have_shapes(&first.outlines, shapes)
+        && again.octets.as_slice() == made
+        && again.rewritten == 0
+        && have_shapes(&again.outlines, shapes)
+}
+
+// The number of the first row that isn't served so.
+fn first_wrong(alloc: Global, rows: &[Row]) -> Option<usize> {
+    rows.iter().position(|row| {
+        !is_served(
+            alloc,
+            row.msg.as_bytes(),
+            row.made.as_bytes(),
+            row.rewritten,
+            row.shapes,
+        )
+    })
+}
+
+#[test]
+fn boundaries_that_a_field_could_make(rt: HostRuntime) -> Result<(), Fail> {
+    let rows = [
+        Row {
+            msg: "Content-Type: multipart/mixed; boundary=\"b:\"\r\n\r\n--b:\r\n--b: é\r\n\r\nt\r\n--b:--\r\n",
+            made: "Content-Type: multipart/mixed; boundary=\"b:\"\r\n\r\n--b:\r\nDowngraded---b:\r\n =?UTF-8?B?w6k=?=\r\n\r\nt\r\n--b:--\r\n",
+            rewritten: 1,
+            shapes: &[Multipart, Leaf],
+        },
+        Row {
+            msg: "Content-Type: multipart/mixed; boundary=\"b: =?UTF-8?B?w6k=?=\"\r\n\r\n--b: =?UTF-8?B?w6k=?=\r\n--b: é\r\n\r\nt\r\n--b: =?UTF-8?B?w6k=?=--\r\n",
+            made: "Content-Type: multipart/mixed; boundary=\"b: =?UTF-8?B?w6k=?=\"\r\n\r\n--b: =?UTF-8?B?w6k=?=\r\nDowngraded---b:\r\n =?UTF-8?B?w6k=?=\r\n\r\nt\r\n--b: =?UTF-8?B?w6k=?=--\r\n",
+            rewritten: 1,
+            shapes: &[Multipart, Leaf],
+        },
+        Row {
+            msg: "Content-Type: multipart/mixed; boundary=b\r\n\r\n--b\r\nContent-Type: multipart/mixed; boundary=b\r\n\r\n--b\r\nSubject: é\r\n\r\nt\r\n--b--\r\n",
+            made: "Content-Type: multipart/mixed; boundary=b\r\n\r\n--b\r\nContent-Type: multipart/mixed; boundary=b\r\n\r\n--b\r\nSubject:\r\n =?UTF-8?B?w6k=?=\r\n\r\nt\r\n--b--\r\n",
+            rewritten: 1,
+            shapes: &[Multipart, Leaf, Leaf],
+        },
+        Row {
+            msg: "Content-Type: multipart/mixed; boundary=\"b \"\r\n\r\n--b \r\nSubject: é\r\n\r\nt\r\n--b --\r\n",
+            made: "Content-Type: multipart/mixed; boundary=\"b \"\r\n\r\n--b \r\nSubject: é\r\n\r\nt\r\n--b --\r\n",
+            rewritten: 0,
+            shapes: &[Leaf],
+        },
+        Row {
+            msg: "Content-Type: multipart/mixed; boundary=12345678901234567890123456789012345678901234567890123456789012345678901\r\n\r\n--12345678901234567890123456789012345678901234567890123456789012345678901\r\nSubject: é\r\n\r\nt\r\n",
+            made: "Content-Type: multipart/mixed; boundary=12345678901234567890123456789012345678901234567890123456789012345678901\r\n\r\n--12345678901234567890123456789012345678901234567890123456789012345678901\r\nSubject: é\r\n\r\nt\r\n",
+            rewritten: 0,
+            shapes: &[Leaf],
+        },
+    ];
+    let wrong = first_wrong(rt.alloc(), &rows);
+    assert!(rt; wrong.is_none(), "at {wrong:?}");
+    Ok(())
+}
+
+#[test]
+fn types_that_open_what_is_shut(rt: HostRuntime) -> Result<(), Fail> {
+    let rows = [
+        Row {
+            msg: GLOBAL,
+            made: GLOBAL_MADE,
+            rewritten: 2,
+            shapes: &[Multipart, Message, Leaf],
+        },
+        Row {
+            msg: SHUT,
+            made: SHUT,
+            rewritten: 0,
+            shapes: &[Multipart, Leaf],
+        },
+        Row {
+            msg: "Content-Type: é\r\nContent-Type: multipart/mixed; boundary=b\r\n\r\n--b\r\n\r\nt\r\n--b--\r\n",
+            made: "Content-Type:\r\n =?UTF-8?B?w6k=?=\r\nContent-Type: multipart/mixed; boundary=b\r\n\r\n--b\r\n\r\nt\r\n--b--\r\n",
+            rewritten: 1,
+            shapes: &[Leaf],
+        },
+    ];
+    let wrong = first_wrong(rt.alloc(), &rows);
+    assert!(rt; wrong.is_none(), "at {wrong:?}");
+    Ok(())
+}
+
+#[test]
+fn values_that_look_like_what_is_made(rt: HostRuntime) -> Result<(), Fail> {
+    let rows = [
+        Row {
+            msg: "Subject: =?UTF-8?B?w6k é\r\n\r\n",
+            made: "Subject:\r\n =?UTF-8?B?w6k\r\n =?UTF-8?B?w6k=?=\r\n\r\n",
+            rewritten: 1,
+            shapes: &[Leaf],
+        },
+        Row {
+            msg: "Subject: =?UTF-8?B?ww==?= é\r\n\r\n",
+            made: "Subject:\r\n =?UTF-8?B?ww==?=\r\n =?UTF-8?B?IMOp?=\r\n\r\n",
+            rewritten: 1,
+            shapes: &[Leaf],
+        },
+        Row {
+            msg: "Content-Disposition: a; b*1=é\r\n\r\n",
+            made: "Downgraded-Content-Disposition:\r\n =?UTF-8?B?YTsgYioxPcOp?=\r\n\r\n",
+            rewritten: 1,
+            shapes: &[Leaf],
+        },
+    ];
+    let wrong = first_wrong(rt.alloc(), &rows);
+    assert!(rt; wrong.is_none(), "at {wrong:?}");
+    Ok(())
+}
+
+// Puts a text so often last.
+fn push_times(made: &mut Octets, text: &str, count: usize) -> Result<(), Memory> {
+    for _ in 0..count {
+        made.push_slice(text.as_bytes())?;
+    }
+    Ok(())
+}
+
+// A Date with a comment that is so deep.
+fn deep_date(alloc: Global, depth: usize) -> Result<Octets, Memory> {
+    let mut msg = Octets::new(alloc);
+    msg.push_slice(b"Date: ")?;
+    push_times(&mut msg, "(", depth)?;
+    msg.push_slice("é".as_bytes())?;
+    push_times(&mut msg, ")", depth)?;
+    msg.push_slice(b"\r\n\r\n")?;
+    Ok(msg)
+}
+
+#[test]
+fn comments_of_any_depth(rt: HostRuntime) -> Result<(), Fail> {
+    let deeper = deep_date(rt.alloc(), 65)?;
+    let aside =
+        "Downgraded-Date:\r\n =?UTF-8?B?KCgoKCgoKCgoKCgoKCgoKCgoKCgoKCgoKCgoKCgoKCgoKCgoKCgoKCgoKCgo?=\r\n =?UTF-8?B?KCgoKCgoKCgoKCgoKCgoKCgoKCjDqSkpKSkpKSkpKSkpKSkpKSkpKSkpKSkp?=\r\n =?UTF-8?B?KSkpKSkpKSkpKSkpKSkpKSkpKSkpKSkpKSkpKSkpKSkpKSkpKSkpKSkp?=\r\n\r\n";
+    assert!(rt; is_served(rt.alloc(), deeper.as_slice(), aside.as_bytes(), 1, &[Leaf]));
+    let deep = deep_date(rt.alloc(), 64)?;
+    let mut made = Octets::new(rt.alloc());
+    made.push_slice(b"Date:\r\n")?;
+    push_times(&mut made, " (\r\n", 64)?;
+    made.push_slice(b" =?UTF-8?B?w6k=?=\r\n")?;
+    push_times(&mut made, " )\r\n", 64)?;
+    made.push_slice(b"\r\n")?;
+    assert!(rt; is_served(rt.alloc(), deep.as_slice(), made.as_slice(), 1, &[Leaf]));
+    Ok(())
+}
+
+// A message within messages, so many of them, and an UTF-8 field in the last one.
+fn nested(alloc: Global, count: usize, field: &str) -> Result<Octets, Memory> {
+    let mut msg = Octets::new(alloc);
+    push_times(&mut msg, "Content-Type: message/rfc822\r\n\r\n", count)?;
+    msg.push_slice(field.as_bytes())?;
+    Ok(msg)
+}
+
+// Whether every header block of a tree is ASCII.
+fn has_ascii_blocks(msg: &[u8], tree: &Tree) -> bool {
+    tree.entities.as_slice().iter().all(|entity| match msg.get(entity.at..entity.body) {
+        Some(block) => block.is_ascii(),
+        None => false,
+    })
+}
+
+#[test]
+fn messages_within_messages(rt: HostRuntime) -> Result<(), Fail> {
+    let mut shapes = [Message; 33];
+    shapes[32] = Leaf;
+    let deeper = nested(rt.alloc(), 40, "Subject: é\r\n")?;
+    let Ok(tree) = read_tree(rt.alloc(), deeper.as_slice()) else {
+        assert!(rt; false);
+        return Ok(());
+    };
+    assert!(rt; deeper.len() == 1293 && has_ascii_blocks(deeper.as_slice(), &tree));
+    assert!(rt; is_served(rt.alloc(), deeper.as_slice(), deeper.as_slice(), 0, &shapes));
+    let deep = nested(rt.alloc(), 32, "Subject: é\r\n")?;
+    let made = nested(rt.alloc(), 32, "Subject:\r\n =?UTF-8?B?w6k=?=\r\n")?;
+    assert!(rt; deep.len() == 1037 && made.len() == 1053);
+    assert!(rt; is_served(rt.alloc(), deep.as_slice(), made.as_slice(), 1, &shapes));
+    Ok(())
+}
