@@ -5,3 +5,5 @@ mod messages;
 mod reading;
 mod texts;
 mod writing;
+
+pub use writing::address_of;

@@ -6,7 +6,7 @@ ghost use Rattle.journal_records.specs.Grammar.{IsDate};
 ghost use Rattle.journal_records.specs.Stored.{IsStored};
 ghost use Rattle.kept_mail.specs.declared.limits.TheConstants.{RECIPIENTS_MAX};
 
-use crate::test_journal_records::writing::address_of;
+use crate::test_journal_records::address_of;
 use ace_domains::normal;
 use journal_records::{is_date, is_stored};
 use kept_mail::{Addresses, Delivery, Numbers};
