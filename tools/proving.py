@@ -189,7 +189,8 @@ class Answer:
         goal = goal[1] if goal else re.sub(r"[|`]", " ", said[:60])
         if file.startswith("proofs/"):
             answers, lost = ANSWERS.match(file), RENAMED.search(said)
-            function = answers[1].replace("/fn/", "/").replace("/", "::") if answers else LAW
+            path = answers[1].replace("/fn/", "/").replace("/", "::") if answers else LAW
+            function = re.sub(r"^(?:[a-z_0-9]+::)+(?=[A-Z])", "", path)
             self.refusals.append(Refusal(function, goal, is_name=bool(NAMES.search(said)), lost=lost and lost[1]))
         elif IS_OPEN in said:
             text = self.texts[file] if file in self.texts else bodies.read("crates", self.crate, file)
