@@ -146,7 +146,8 @@ INTRODUCTION = """# What refused each wrong body
 `make edits` writes this page. A row has an edit, which is `crates/CRATE/must-fail/NAME.edit` or `tools/edits/CRATE/NAME.edit`; what
 the prover said of the crate with this edit; and a stamp of the edit and of the crate's contracts at which it was tried: its public
 functions with their clauses, and the definitions of `specs/` that aren't private. `tools/check_edits` fails where a stamp is another
-one by now, so an edit is tried again when what it is to be refused by has changed.
+one by now, so an edit is tried again when what it is to be refused by has changed. An edit without a row wasn't
+tried yet: `tools/check_edits` counts these.
 
 A cell `function: goal, ..` names the goals that were no longer proved: `returns-clause-NAME` is the clause NAME of that
 function, and `CALL-requires` what a call of it needs. A cell that begins with `answer` says less: only a proof file that names what the
