@@ -67,7 +67,7 @@ pub fn outcome_by(
 }
 
 /// What comes of a command that dials nobody.
-pub fn outcome(alloc: Global, command: &Command, failing: Failing) -> Result<Outcome, Memory> {
+pub fn run_command(alloc: Global, command: &Command, failing: Failing) -> Result<Outcome, Memory> {
     let mut dial = dial_of(alloc, b"", &[0])?;
     outcome_by(alloc, command, failing, &mut dial)
 }
@@ -85,5 +85,5 @@ pub fn outcome_of_words(
         sizes: &[],
         journal,
     };
-    outcome(alloc, &command, failing)
+    run_command(alloc, &command, failing)
 }

@@ -1,5 +1,5 @@
 //! Commands whose input comes in any cut, and whose wire or keeper fails at any call.
-use crate::commands::{Command, Failing, Outcome, outcome};
+use crate::commands::{Command, Failing, Outcome, run_command};
 use mail_wire::{Failure, Memory};
 use std::alloc::Global;
 use std::test::Fail;
@@ -146,7 +146,7 @@ fn outcome_of(
         sizes,
         journal,
     };
-    outcome(alloc, &command, failing)
+    run_command(alloc, &command, failing)
 }
 
 // Whether all was given and written.

@@ -1,5 +1,5 @@
 //! Commands that a fault breaks off: what was given, and what the journal has when it is opened again.
-use crate::commands::{Command, Failing, Outcome, outcome, outcome_of_words};
+use crate::commands::{Command, Failing, Outcome, outcome_of_words, run_command};
 use mail_wire::{Failure, Memory};
 use std::alloc::Global;
 use std::test::Fail;
@@ -45,7 +45,7 @@ fn what_goes_before_a_failing_call_is_given(rt: HostRuntime) -> Result<(), Fail>
             sizes: &[size],
             journal: JOURNAL,
         };
-        let cut = outcome(rt.alloc(), &command, Failing::Wire(Failure { call, kept }))?;
+        let cut = run_command(rt.alloc(), &command, Failing::Wire(Failure { call, kept }))?;
         assert_eq!(rt; cut.status, 1, "{words:?}");
         assert!(rt; cut.given.as_slice() == gives, "{words:?}");
     }
@@ -78,7 +78,7 @@ fn a_surrogate_is_given_as_far_as_the_wire_goes(rt: HostRuntime) -> Result<(), F
         journal: b"",
     };
     for kept in 0..CAFE_SURROGATE.len() {
-        let cut = outcome(rt.alloc(), &command, Failing::Wire(failure_behind(kept)))?;
+        let cut = run_command(rt.alloc(), &command, Failing::Wire(failure_behind(kept)))?;
         assert_eq!(rt; cut.status, 1, "at {kept}");
         assert!(rt;
             cut.given.as_slice() == first(CAFE_SURROGATE, kept),
@@ -116,7 +116,7 @@ fn deliver(alloc: Global, failing: Failing) -> Result<Outcome, Memory> {
         sizes: &[],
         journal: BEGUN,
     };
-    outcome(alloc, &command, failing)
+    run_command(alloc, &command, failing)
 }
 
 // How many octets the record has that begins there.
@@ -197,7 +197,7 @@ fn imap(alloc: Global, journal: &[u8], said: &[u8], failing: Failing) -> Result<
         sizes: &[],
         journal,
     };
-    outcome(alloc, &command, failing)
+    run_command(alloc, &command, failing)
 }
 
 #[test]
