@@ -10,39 +10,39 @@ fn first(octets: &[u8], count: usize) -> &[u8] {
     octets.get(..count).unwrap_or(octets)
 }
 
-// Words and input, in pieces of this size, the call of the wire that fails, with so many octets given, and what was given then.
+// Words and input, in pieces of these sizes, the call of the wire that fails, with so many octets given, and what was given then.
 type WireFault = (
     &'static [&'static str],
     &'static [u8],
-    usize,
+    &'static [usize],
     u64,
     usize,
     &'static [u8],
 );
 
 const WIRE_FAULTS: [WireFault; 5] = [
-    (&["pop"], b"", 1, 0, 0, b""),
-    (&["pop"], b"", 1, 0, 8, b"+OK read"),
+    (&["pop"], b"", &[], 0, 0, b""),
+    (&["pop"], b"", &[], 0, 8, b"+OK read"),
     // The greeting, a take, and two replies go before.
     (
         &["pop"],
         b"USER ann@example.org\r\nPASS pw\r\nSTAT\r\nQUIT\r\n",
-        31,
+        &[31],
         4,
         0,
         b"+OK ready\r\n+OK\r\n+OK\r\n",
     ),
-    (&["gen", "1"], b"", 1, 0, 9, b"messages "),
-    (&["relay", "x"], b"", 1, 0, 4, b"sent"),
+    (&["gen", "1"], b"", &[], 0, 9, b"messages "),
+    (&["relay", "x"], b"", &[], 0, 4, b"sent"),
 ];
 
 #[test]
 fn what_goes_before_a_failing_call_is_given(rt: HostRuntime) -> Result<(), Fail> {
-    for (words, input, size, call, kept, gives) in WIRE_FAULTS {
+    for (words, input, sizes, call, kept, gives) in WIRE_FAULTS {
         let command = Command {
             words,
             input,
-            sizes: &[size],
+            sizes,
             journal: JOURNAL,
         };
         let cut = run_command(rt.alloc(), &command, Failing::Wire(Failure { call, kept }))?;
