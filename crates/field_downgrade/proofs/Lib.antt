@@ -37,3 +37,4 @@ pub mod Rewriting
 pub mod OneLayout
 pub mod NamingLemmas
 pub mod AllLayouts
+pub mod KindLemmas

@@ -4,3 +4,4 @@ pub mod ReceivedSteps
 pub mod Views
 pub mod Steps
 pub mod Stretches
+pub mod ByLength
